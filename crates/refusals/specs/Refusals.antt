@@ -1,0 +1,36 @@
+-- The numbers of the refusals: document 01, "When a sheet or step is turned down".
+-- Assumes nothing.
+use Prim.Native.Nat.{ℕ}
+use Rattle.refusals.specs.declared.Refusal.{Refusal}
+use Rattle.refusals.specs.declared.Refusal.the-variants.{Book, Table, Form, Range, Role, Disabled, ThirdEntry, LastRound, Size}
+use Rattle.refusals.specs.declared.Verdict.{Verdict}
+use Rattle.refusals.specs.declared.Verdict.the-variants.{Taken, Refused}
+
+-- The number of each cause, as in the table.
+abbrev pub numberOf : Refusal → ℕ
+numberOf Book = 1
+numberOf Table = 2
+numberOf Form = 3
+numberOf Range = 4
+numberOf Role = 5
+numberOf Disabled = 6
+numberOf ThirdEntry = 7
+numberOf LastRound = 8
+numberOf Size = 9
+
+-- A call that answers one number answers 0 where the input was taken.
+abbrev pub codeOf : Verdict → ℕ
+codeOf Taken = 0
+codeOf (Refused r) = numberOf r
+
+-- The place of each cause in the order 9, 2, 1, 3, 4, 5, 6, 7, 8: of several causes the one with the lowest place refuses.
+abbrev pub place : Refusal → ℕ
+place Size = 0
+place Table = 1
+place Book = 2
+place Form = 3
+place Range = 4
+place Role = 5
+place Disabled = 6
+place ThirdEntry = 7
+place LastRound = 8

@@ -1,0 +1,2 @@
+-- The dash register as document 01's table of kinds gives it.
+-- Assumes nothing.

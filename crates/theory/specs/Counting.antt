@@ -1,0 +1,2 @@
+-- Laws of all, any and count, and the quorum lemma.
+-- Assumes nothing.
