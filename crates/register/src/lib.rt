@@ -13,7 +13,7 @@ pub enum Command {
 }
 
 // What the register holds of one bike.
-pub struct Entry {
+pub struct Bike {
     pub reading: u32,
     pub dash: u32,
 }
