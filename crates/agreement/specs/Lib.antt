@@ -4,3 +4,5 @@ pub mod Pending
 pub mod Promises
 pub mod Heard
 pub mod Acked
+pub mod Answers
+pub mod Sequence
