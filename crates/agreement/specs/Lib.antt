@@ -6,3 +6,6 @@ pub mod Heard
 pub mod Acked
 pub mod Answers
 pub mod Sequence
+pub mod Invariant
+pub mod HistoryLaws
+pub mod Common
