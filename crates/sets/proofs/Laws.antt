@@ -1,25 +1,30 @@
 -- Membership in words and in sets of commands: what each operation of `Sets` means.
 -- Assumes nothing.
-use mathlib.Core.Path.{_≡_, refl, sym, ap, _∙_, subst}
+use mathlib.Core.Path.{_≡_, refl, sym, ap, _∙_}
 use mathlib.Core.Bool.{Bool, true, false, _&&_, _||_, not}
 use mathlib.Core.Logic.{_⊎_, inl, inr, ⊎-elim}
+use mathlib.Core.List.{List}
+use lib.ListN.{length, getD}
 use Prim.Native.Nat.{ℕ, zero, suc, _+_, _-_, _*_, _/_, _%_, _^_, _≤_, _<_, min, max}
-use native.Mathlib.Nat.{div-one, div-eq-of-lt, div-lt-iff-lt-mul, pow-suc, lt-of-lt-of-le, mod-eq-of-lt, mul-div-cancel, mul-mod-left, div-add-mod', one-mul}
+use native.Mathlib.Nat.{div-one, div-eq-of-lt, pow-suc, lt-of-lt-of-le, mul-div-cancel, mul-mod-left, one-mul}
 use native.Mathlib.Numerals.{add-one, one-add}
 use native.Mathlib.Omega.{arith}
 use lib.Dec.{eqb, ltb, eqb·suc-suc, eqb·zero-suc, eqb·suc-zero, lit<}
-use lib.Arith.{digits-mod, digits-div, lt-one}
-use lib.Pow.{pow-pos, pow-mono, pow-lt, pow-add, shr-shr, shr-lt, shr-le, shl-exact}
+use lib.Arith.{digits-mod, lt-one}
+use lib.Pow.{pow-pos, pow-mono, pow-lt, shr-shr, shr-lt, shr-le, shl-exact}
 use lib.Bits.{bitAnd, bitOr, bitXor, differ, and-step, or-step, xor-step, and-shr, or-shr, xor-shr, or-shifted-r}
 use lib.Bits.{or-lt, and-lt, xor-lt}
-use lib.Count.{ones, ones-step, trailingZeros, under, trailing-le}
-use borrow.Author.Tests.{lt-ltb, le-ltb, ltb-true, eq-eqb, ne-eqb, eqb-true, eqb-false}
-use Rattle.theory.specs.Sets.{pick, one, all, any, count}
-use Rattle.theory.specs.Counting.{left, right, true-or, or-true, either, not-true, never, same-test, lt-or-le}
+use lib.Count.{ones, ones-step, trailingZeros, under}
+use borrow.Author.Tests.{lt-ltb, ltb-true, eq-eqb, ne-eqb, eqb-true}
+use Rattle.theory.specs.Sets.{pick, one, any, count}
+use Rattle.theory.specs.Counting.{either, not-true, never, same-test, lt-or-le}
 use Rattle.theory.specs.Counting.{all-at, all-of, any-some, any-none, count-none, count-first, count-ext}
 use Rattle.sets.specs.Sets.{has, word, least, inSet, setOf, emptyOf, withOf, unionOf, withoutOf, commonOf}
 use Rattle.sets.specs.Sets.{isEmptyOf, withinOf, equalOf, sizeOf, firstOf}
+use Rattle.sets.specs.Sets.{readSet, writeSet}
 use Rattle.sets.specs.declared.Set.{Set}
+use Rattle.wire.specs.Wire.{bytes}
+use Rattle.wire.proofs.Laws.{length-bytes, length-splice, read-same, read-before, read-after, read-lt, splice-same}
 
 -- ---- the digits of a word
 
@@ -415,3 +420,32 @@ first-word s = trailing-least 64 (s .bits)
 -- `1 << m` is the word of m alone.
 pub shl-one : (m : ℕ) → m < 64 → (1 * 2 ^ m) % 2 ^ 64 ≡ 2 ^ m
 shl-one m h = shl-exact 1 m 64 (lit< tt) (omega arith) ∙ one-mul (2 ^ m)
+
+-- ---- sets in bytes
+
+-- A set that was written reads back.
+pub read-written : (bs : List ℕ) (at : ℕ) (s : Set) → at + 8 ≤ length bs → s .bits < 2 ^ 64 → readSet (writeSet bs at s) at ≡ s
+unfolding readSet writeSet
+read-written bs at s h b = same-word (read-same 8 bs at (s .bits) h b)
+
+-- What was read writes back the same bytes.
+pub written-read : (bs : List ℕ) (at : ℕ) → ((i : ℕ) → getD bs i 0 < 256) → at + 8 ≤ length bs → writeSet bs at (readSet bs at) ≡ bs
+unfolding readSet writeSet
+written-read bs at small h = splice-same bs small 8 at h
+
+-- What is read from bytes is a word of 64 bits.
+pub read-fits : (bs : List ℕ) (at : ℕ) → ((i : ℕ) → getD bs i 0 < 256) → at + 8 ≤ length bs → readSet bs at .bits < 2 ^ 64
+unfolding readSet
+read-fits bs at small h = read-lt bs small 8 at h
+
+-- A write changes no set before it and none after it.
+pub read-other : (bs : List ℕ) (at : ℕ) (s : Set) (k : ℕ) → at + 8 ≤ length bs → (k + 8 ≤ at) ⊎ (at + 8 ≤ k)
+    → readSet (writeSet bs at s) k ≡ readSet bs k
+unfolding readSet writeSet
+read-other bs at s k h (inl l) = same-word (read-before 8 bs at (bytes 8 (s .bits)) k (omega arith) l)
+read-other bs at s k h (inr l) =
+    let e = length-bytes 8 (s .bits) in same-word (read-after 8 bs at (bytes 8 (s .bits)) k (omega arith) (omega arith))
+
+pub length-write : (bs : List ℕ) (at : ℕ) (s : Set) → at + 8 ≤ length bs → length (writeSet bs at s) ≡ length bs
+unfolding writeSet
+length-write bs at s h = let e = length-bytes 8 (s .bits) in length-splice bs at (bytes 8 (s .bits)) (omega arith)

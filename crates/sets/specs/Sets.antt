@@ -7,6 +7,7 @@ use lib.Dec.{eqb, ltb}
 use lib.Bits.{bitAnd, bitOr, bitXor}
 use lib.ListN.{getD, set}
 use Rattle.theory.specs.Sets.{pick, one, all, any, count}
+use Rattle.wire.specs.Wire.{readLe, bytes, splice}
 use Rattle.sets.specs.declared.Set.{Set}
 
 -- A word as a set: m is in it where bit m is set.
@@ -74,6 +75,18 @@ sizeOf s = count capacity (inSet s)
 -- The least command of the set, and its capacity where it is empty.
 abbrev pub firstOf : Set → ℕ
 firstOf s = least capacity (inSet s)
+
+-- The bytes of a set.
+abbrev pub setBytes : ℕ
+setBytes = 8
+
+-- The set that stands in bytes at a position, least significant byte first.
+unfoldable pub readSet : List ℕ → ℕ → Set
+readSet bs at = record { bits = readLe setBytes bs at }
+
+-- Bytes with a set written at a position.
+unfoldable pub writeSet : List ℕ → ℕ → Set → List ℕ
+writeSet bs at s = splice bs at (bytes setBytes (s .bits))
 
 -- The k-th set of a list of words.
 abbrev pub loadSet : List ℕ → ℕ → Set

@@ -3,7 +3,7 @@ ghost use mathlib.Core.Path.{_≡_};
 ghost use Prim.Native.Nat.{_+_, _≤_, _<_};
 ghost use lib.ListN.{length};
 ghost use Rattle.sets.specs.Sets.{capacity, inSet, emptyOf, withOf, unionOf, withoutOf, commonOf};
-ghost use Rattle.sets.specs.Sets.{isEmptyOf, withinOf, equalOf, sizeOf, firstOf, loadSet, storeSet};
+ghost use Rattle.sets.specs.Sets.{isEmptyOf, withinOf, equalOf, sizeOf, firstOf, setBytes, readSet, writeSet, loadSet, storeSet};
 
 // A set of command numbers below 64.
 pub struct Set {
@@ -111,6 +111,23 @@ impl Set {
     {
         let zeros = u64::trailing_zeros(self.bits);
         zeros as usize
+    }
+
+    // The set that stands in 8 bytes at a position, least significant byte first.
+    pub fn read(bytes: &[u8], at: usize) -> Set
+        requires { ⌜ at + setBytes ≤ length (now bytes) ⌝ }
+        ensures { λ r. ⌜ r ≡ readSet (now (bytes .entry)) at ⌝ }
+    {
+        let bits = wire::get8(bytes, at);
+        Set { bits: bits }
+    }
+
+    // The set is written to 8 bytes at a position.
+    pub fn write(self, bytes: &mut [u8], at: usize)
+        requires { ⌜ at + setBytes ≤ length (now bytes) ⌝ }
+        ensures { λ _. ⌜ now (bytes .exit) ≡ writeSet (now (bytes .entry)) at self ⌝ }
+    {
+        wire::put8(bytes, at, self.bits);
     }
 
     // The k-th set of a slice of words.
