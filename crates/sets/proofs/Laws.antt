@@ -5,6 +5,7 @@ use mathlib.Core.Bool.{Bool, true, false, _&&_, _||_, not}
 use mathlib.Core.Logic.{_⊎_, inl, inr, ⊎-elim}
 use mathlib.Core.List.{List}
 use lib.ListN.{length, getD}
+use lib.Seq.{getD-set-same, getD-set-other}
 use Prim.Native.Nat.{ℕ, zero, suc, _+_, _-_, _*_, _/_, _%_, _^_, _≤_, _<_, min, max}
 use native.Mathlib.Nat.{div-one, div-eq-of-lt, pow-suc, lt-of-lt-of-le, mul-div-cancel, mul-mod-left, one-mul}
 use native.Mathlib.Numerals.{add-one, one-add}
@@ -17,11 +18,11 @@ use lib.Bits.{or-lt, and-lt, xor-lt}
 use lib.Count.{ones, ones-step, trailingZeros, under}
 use borrow.Author.Tests.{lt-ltb, ltb-true, eq-eqb, ne-eqb, eqb-true}
 use Rattle.theory.specs.Sets.{pick, one, any, count}
-use Rattle.theory.specs.Counting.{either, not-true, never, same-test, lt-or-le}
+use Rattle.theory.specs.Counting.{either, not-true, not-false, never, same-test, lt-or-le}
 use Rattle.theory.specs.Counting.{all-at, all-of, any-some, any-none, count-none, count-first, count-ext}
 use Rattle.sets.specs.Sets.{has, word, least, inSet, setOf, emptyOf, withOf, unionOf, withoutOf, commonOf}
 use Rattle.sets.specs.Sets.{isEmptyOf, withinOf, equalOf, sizeOf, firstOf}
-use Rattle.sets.specs.Sets.{readSet, writeSet}
+use Rattle.sets.specs.Sets.{readSet, writeSet, loadSet, storeSet}
 use Rattle.sets.specs.declared.Set.{Set}
 use Rattle.wire.specs.Wire.{bytes}
 use Rattle.wire.proofs.Laws.{length-bytes, length-splice, read-same, read-before, read-after, read-lt, splice-same}
@@ -375,6 +376,15 @@ equal-same a b h = same-word (eqb-true (a .bits) (b .bits) h)
 pub equal-of : (a b : Set) → a ≡ b → equalOf a b ≡ true
 equal-of a b e = eq-eqb (a .bits) (b .bits) (λ i. e i .bits)
 
+-- The first command of a set that is not empty is in it, and none before it is.
+pub first-in : (s : Set) → isEmptyOf s ≡ false → (firstOf s < 64) × (inSet s (firstOf s) ≡ true)
+first-in s h =
+    let l = least-any 64 (inSet s) (not-false (any 64 (inSet s)) h) in
+    (l, least-in 64 (inSet s) l)
+
+pub first-before : (s : Set) (m : ℕ) → m < firstOf s → inSet s m ≡ false
+first-before s m h = least-before 64 (inSet s) m h
+
 -- ---- how the word of a set shows them
 
 pub empty-word : (s : Set) → s .bits < 2 ^ 64 → eqb (s .bits) 0 ≡ isEmptyOf s
@@ -420,6 +430,14 @@ first-word s = trailing-least 64 (s .bits)
 -- `1 << m` is the word of m alone.
 pub shl-one : (m : ℕ) → m < 64 → (1 * 2 ^ m) % 2 ^ 64 ≡ 2 ^ m
 shl-one m h = shl-exact 1 m 64 (lit< tt) (omega arith) ∙ one-mul (2 ^ m)
+
+-- ---- sets in words
+
+pub load-stored : (ws : List ℕ) (k : ℕ) (s : Set) → k < length ws → loadSet (storeSet ws k s) k ≡ s
+load-stored ws k s h = same-word (getD-set-same ws k (s .bits) 0 h)
+
+pub load-other : (ws : List ℕ) (k : ℕ) (s : Set) (j : ℕ) → (j ≡ k → ⊥) → loadSet (storeSet ws k s) j ≡ loadSet ws j
+load-other ws k s j h = same-word (getD-set-other ws k j (s .bits) 0 h)
 
 -- ---- sets in bytes
 
