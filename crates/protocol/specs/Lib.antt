@@ -1,0 +1,6 @@
+pub mod System
+pub mod Recovery
+pub mod Site
+pub mod World
+pub mod CommonSequence
+pub mod Order
