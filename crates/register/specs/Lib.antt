@@ -1,2 +1,3 @@
 pub mod Register
 pub mod Exchange
+pub mod Lent
