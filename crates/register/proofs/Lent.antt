@@ -16,12 +16,12 @@ use lib.Seq.{drop-drop, take-at, take-add}
 use Rattle.theory.specs.Sets.{pick, all}
 use Rattle.theory.specs.Counting.{last-or-below, all-more, all-not}
 use Rattle.wire.specs.Wire.{bytes, readLe, splice}
-use Rattle.wire.proofs.Laws.{length-bytes, length-splice, read-same, read-before, read-after, read-lt, peel, splice-two}
+use Rattle.wire.proofs.Laws.{length-bytes, length-splice, read-same, read-before, read-after, read-lt, peel, splice-two, part-before, drop-after}
 use Rattle.register.specs.declared.Bike.{Bike}
 use Rattle.register.specs.declared.Command.{Command}
 use Rattle.register.specs.declared.Command.the-variants.{Add, Fit, Read, Trim}
 use Rattle.register.specs.Register.{bikes, maxReading, bike, Register, bikeOf, change, reply, execute, initial, Within, isWithin, Valid}
-use Rattle.register.proofs.Laws.{initial-within}
+use Rattle.register.proofs.Laws.{initial-within, test-within}
 use Rattle.register.specs.Lent.{bikeSize, registerSize, bikeIn, bikeBytes, registerOf, bikesBytes, registerBytes, dashOf, Sized, Executed, Cleared}
 
 pub length-bike : (e : Bike) → length (bikeBytes e) ≡ bikeSize
@@ -49,9 +49,9 @@ bike-here b place e h p q =
     let g = length-splice b place (bytes 4 (e .reading)) (omega arith) in
     ap (λ (s : List ℕ). bikeIn s place) (sym (bike-put b place e (omega arith)))
     ∙ (λ i.
-      bike
-      ((read-before 4 (splice b place (bytes 4 (e .reading))) (place + 4) (bytes 4 (e .dash)) place (omega arith) (omega arith) ∙ read-same 4 b place (e .reading) (omega arith) p) i)
-      (read-same 4 (splice b place (bytes 4 (e .reading))) (place + 4) (e .dash) (omega arith) q i))
+    bike
+    ((read-before 4 (splice b place (bytes 4 (e .reading))) (place + 4) (bytes 4 (e .dash)) place (omega arith) (omega arith) ∙ read-same 4 b place (e .reading) (omega arith) p) i)
+    (read-same 4 (splice b place (bytes 4 (e .reading))) (place + 4) (e .dash) (omega arith) q i))
 
 pub bike-before : (b : List ℕ) (place : ℕ) (bs : List ℕ) (k : ℕ) → place ≤ length b → k + bikeSize ≤ place → bikeIn (splice b place bs) k ≡ bikeIn b k
 bike-before b place bs k h l =
@@ -71,8 +71,8 @@ module _ (b : List ℕ) (at k : ℕ) (e : Bike) (room : at + registerSize ≤ le
   other j n =
       let l = length-bike e in
       elim (decLt j k) [
-        yes h ↦ bike-before b (at + bikeSize * k) (bikeBytes e) (at + bikeSize * j) (omega arith) (omega arith)
-      | no h ↦ bike-after b (at + bikeSize * k) (bikeBytes e) (at + bikeSize * j) (omega arith) (omega arith)
+        | yes h ↦ bike-before b (at + bikeSize * k) (bikeBytes e) (at + bikeSize * j) (omega arith) (omega arith)
+        | no h ↦ bike-after b (at + bikeSize * k) (bikeBytes e) (at + bikeSize * j) (omega arith) (omega arith)
       ]
 
   at-one : (j : ℕ) (x y : Bool) → ltb j bikes ≡ x → eqb j k ≡ y → pick x (bikeIn (splice b (at + bikeSize * k) (bikeBytes e)) (at + bikeSize * j)) (bike 0 0) ≡ pick y e (pick x (bikeIn b (at + bikeSize * j)) (bike 0 0))
@@ -103,9 +103,9 @@ executed c at b {b′} {k} {e} {e′} {r} room is ek ee er ec p q eb =
       answer = er ∙ ap (reply c) (ee ∙ ap (registerOf b at) ek);
       register = written ∙ (λ i j. with-changed c (registerOf b at) k e′ ek (ec ∙ ap (change c) ee) j i);
       elsewhere =
-        eb
-        ∙ ap (λ (x : Bike). splice b (at + bikeSize * k) (bikeBytes x)) (sym here)
-        ∙ ap (λ (m : ℕ). splice b (at + bikeSize * m) (bikeBytes (registerOf b′ at m))) ek
+          eb
+          ∙ ap (λ (x : Bike). splice b (at + bikeSize * k) (bikeBytes x)) (sym here)
+          ∙ ap (λ (m : ℕ). splice b (at + bikeSize * m) (bikeBytes (registerOf b′ at m))) ek;
     }
 
 -- A register as bytes has 8 bytes for each bike.
@@ -149,6 +149,7 @@ bikes-view (suc n) r b at h s k l =
   where
     long : length (splice b at (bikesBytes n r)) ≡ length b
     long = let m = length-bikes n r in length-splice b at (bikesBytes n r) (omega arith)
+
     go : (k < n → bikeIn (splice b at (bikesBytes n r)) (at + bikeSize * k) ≡ r k) → (k ≡ n) ⊎ (k < n) → bikeIn (splice (splice b at (bikesBytes n r)) (at + bikeSize * n) (bikeBytes (r n))) (at + bikeSize * k) ≡ r k
     go f (inl e) =
         ap (λ (m : ℕ). bikeIn (splice (splice b at (bikesBytes n r)) (at + bikeSize * n) (bikeBytes (r n))) (at + bikeSize * m)) e
@@ -188,7 +189,7 @@ bikes-bytes b g at (suc n) l h =
     let e : bikeSize * suc n ≡ bikeSize * n + bikeSize = omega arith in
     (λ i. bikes-bytes b g at n (omega arith) (omega arith) i ++ bikeBytes (here i))
     ∙ ap (λ (x : List ℕ). take (bikeSize * n) (drop at b) ++ x)
-      (bike-bytes b g (at + bikeSize * n) (omega arith) ∙ ap (take bikeSize) (sym (drop-drop (bikeSize * n) at b)))
+    (bike-bytes b g (at + bikeSize * n) (omega arith) ∙ ap (take bikeSize) (sym (drop-drop (bikeSize * n) at b)))
     ∙ sym (take-add (bikeSize * n) bikeSize (drop at b))
     ∙ ap (λ (m : ℕ). take m (drop at b)) (sym e)
   where
@@ -198,6 +199,29 @@ bikes-bytes b g at (suc n) l h =
 -- Encode of view: the bytes of a lent register are those of the register that they are seen as.
 pub register-bytes : (b : List ℕ) → ((i : ℕ) → getD b i 0 < 256) → (at : ℕ) → at + registerSize ≤ length b → registerBytes (registerOf b at) ≡ take registerSize (drop at b)
 register-bytes b g at h = bikes-bytes b g at bikes (lit≤ tt) h
+
+-- Writing what is seen changes nothing.
+pub register-same : (b : List ℕ) → ((i : ℕ) → getD b i 0 < 256) → (at : ℕ) → at + registerSize ≤ length b → splice b at (registerBytes (registerOf b at)) ≡ b
+unfolding splice
+register-same b g at h =
+    rw (length-register (registerOf b at), register-bytes b g at h, ← take-add at registerSize b) (take-append-drop (at + registerSize) b)
+
+-- What was written inside a part does not matter once the whole part is written.
+splice-over : (b : List ℕ) (at place : ℕ) (bs cs : List ℕ) → at ≤ place → place + length bs ≤ at + length cs → at + length cs ≤ length b → splice (splice b place bs) at cs ≡ splice b at cs
+unfolding splice
+splice-over b at place bs cs h l m =
+    λ i. part-before b place bs at 0 (omega arith) (omega arith) i ++ cs ++ drop-after b place bs (at + length cs) (omega arith) (omega arith) i
+
+-- The bytes after a command: those of the register that the definition gives, and else as they were.
+pub executed-bytes : (c : Command) (at : ℕ) (b b′ : List ℕ) {r : ℤ} → ((i : ℕ) → getD b′ i 0 < 256) → at + registerSize ≤ length b → length b′ ≡ length b → Valid c → Executed c at b b′ r → b′ ≡ splice b at (registerBytes (execute c (registerOf b at)))
+executed-bytes c at b b′ g h l v x =
+    let n = v .bike in
+    let p = length-bike (registerOf b′ at (bikeOf c)) in
+    let q = length-register (registerOf b′ at) in
+    sym (register-same b′ g at (omega arith))
+    ∙ ap (λ (s : List ℕ). splice s at (registerBytes (registerOf b′ at))) (x .elsewhere)
+    ∙ splice-over b at (at + bikeSize * bikeOf c) (bikeBytes (registerOf b′ at (bikeOf c))) (registerBytes (registerOf b′ at)) (omega arith) (omega arith) (omega arith)
+    ∙ ap (λ (s : Register). splice b at (registerBytes s)) (x .register)
 
 change-dash : (c : Command) (e : Bike) → dashOf c < 2 ^ 32 → e .dash < 2 ^ 32 → change c e .dash < 2 ^ 32
 change-dash (Add b km) e d h = h
@@ -210,7 +234,7 @@ pub view-sized : (b : List ℕ) → ((i : ℕ) → getD b i 0 < 256) → (at : �
 view-sized b g at h =
     record {
       dash = λ k. in-test k (ltb k bikes) refl;
-      beyond = λ k l. ap (λ (t : Bool). pick t (bikeIn b (at + bikeSize * k)) (bike 0 0)) (le-ltb k bikes l)
+      beyond = λ k l. ap (λ (t : Bool). pick t (bikeIn b (at + bikeSize * k)) (bike 0 0)) (le-ltb k bikes l);
     }
   where
     in-test : (k : ℕ) (t : Bool) → ltb k bikes ≡ t → pick t (bikeIn b (at + bikeSize * k)) (bike 0 0) .dash < 2 ^ 32
@@ -226,6 +250,7 @@ execute-sized c r v d s = record { dash = λ k. by-test k (eqb k (bikeOf c)); be
     by-test : (k : ℕ) (t : Bool) → pick t (change c (r k)) (r k) .dash < 2 ^ 32
     by-test k true = change-dash c (r k) d (s .dash k)
     by-test k false = s .dash k
+
     outside : (k : ℕ) → bikes ≤ k → execute c r k ≡ bike 0 0
     outside k l =
         let n = v .bike in
@@ -237,8 +262,16 @@ cleared at b n h p e =
     let w = e ∙ ap (λ (m : ℕ). splice b at (bikesBytes m initial)) p in
     record {
       register = ap (λ (s : List ℕ). registerOf s at) w ∙ register-view initial b at h initial-within initial-sized;
-      elsewhere = w
+      elsewhere = w;
     }
+
+-- The test of a lent register's readings.
+pub view-within : (b : List ℕ) (at : ℕ) → isWithin (registerOf b at) ≡ true → Within (registerOf b at)
+view-within b at h = record { reading = λ k. in-test k (ltb k bikes) refl }
+  where
+    in-test : (k : ℕ) (t : Bool) → ltb k bikes ≡ t → registerOf b at k .reading ≤ maxReading
+    in-test k true e = test-within (registerOf b at) h k (ltb-true k bikes e)
+    in-test k false e = subst (λ (t : Bool). pick t (bikeIn b (at + bikeSize * k)) (bike 0 0) .reading ≤ maxReading) (sym e) (lit≤ tt)
 
 -- The readings of the first n bikes are in range.
 abbrev pub within : List ℕ → ℕ → ℕ → Bool

@@ -39,7 +39,11 @@ fn is_add(command: Command) -> bool
 {
     match command {
         Command::Add { bike: _, km: _ } => true,
-        Command::Fit { bike: _, dash: _, start: _ } => false,
+        Command::Fit {
+            bike: _,
+            dash: _,
+            start: _,
+        } => false,
         Command::Read { bike: _ } => false,
         Command::Trim { bike: _, km: _ } => false,
     }
@@ -50,7 +54,11 @@ fn is_read(command: Command) -> bool
 {
     match command {
         Command::Add { bike: _, km: _ } => false,
-        Command::Fit { bike: _, dash: _, start: _ } => false,
+        Command::Fit {
+            bike: _,
+            dash: _,
+            start: _,
+        } => false,
         Command::Read { bike: _ } => true,
         Command::Trim { bike: _, km: _ } => false,
     }
@@ -62,7 +70,11 @@ pub fn bike_of(command: Command) -> u8
 {
     match command {
         Command::Add { bike, km: _ } => bike,
-        Command::Fit { bike, dash: _, start: _ } => bike,
+        Command::Fit {
+            bike,
+            dash: _,
+            start: _,
+        } => bike,
         Command::Read { bike } => bike,
         Command::Trim { bike, km: _ } => bike,
     }
@@ -123,7 +135,11 @@ pub fn changed(command: Command, before: Bike) -> Bike
             reading: added(before.reading, km),
             dash: before.dash,
         },
-        Command::Fit { bike: _, dash, start } => Bike {
+        Command::Fit {
+            bike: _,
+            dash,
+            start,
+        } => Bike {
             reading: start,
             dash,
         },
@@ -142,7 +158,11 @@ pub fn reply_to(command: Command, before: Bike) -> i32
 {
     match command {
         Command::Add { bike: _, km: _ } => 0,
-        Command::Fit { bike: _, dash: _, start: _ } => before.reading as i32,
+        Command::Fit {
+            bike: _,
+            dash: _,
+            start: _,
+        } => before.reading as i32,
         Command::Read { bike: _ } => before.reading as i32,
         Command::Trim { bike: _, km } => difference(trimmed(before.reading, km), before.reading),
     }
@@ -187,7 +207,14 @@ pub fn clear(register: &mut [u8], at: usize)
 {
     let mut bike = 0;
     while bike < Bike::COUNT {
-        put_bike(register, at + Bike::SIZE * bike, Bike { reading: 0, dash: 0 });
+        put_bike(
+            register,
+            at + Bike::SIZE * bike,
+            Bike {
+                reading: 0,
+                dash: 0,
+            },
+        );
         bike += 1;
     }
 }

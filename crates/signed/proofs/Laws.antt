@@ -53,8 +53,8 @@ diff a (suc b) = refl
 pub mag-sub : (a b m : ℕ) → a ≤ m → b ≤ suc m → mag (subℕ a b) ≤ m
 mag-sub a b m p q =
     elim (decLt a b) [
-      yes h ↦ subst (λ (z : ℤ). mag z ≤ m) (sym (sub-below a b h)) (omega arith)
-    | no h ↦ subst (λ (z : ℤ). mag z ≤ m) (sym (sub-above a b (omega arith))) (omega arith)
+      | yes h ↦ subst (λ (z : ℤ). mag z ≤ m) (sym (sub-below a b h)) (omega arith)
+      | no h ↦ subst (λ (z : ℤ). mag z ≤ m) (sym (sub-above a b (omega arith))) (omega arith)
     ]
 
 pub mag-add : (x y : ℤ) {a b : ℕ} → mag x < a → mag y < b → mag (x +ℤ y) < a + b

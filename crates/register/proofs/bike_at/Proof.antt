@@ -6,9 +6,6 @@ use denote.Ref.{now}
 use borrow.Author.Needs.{needs}
 use Rattle.register.proofs.bike_at.Statement.{statement}
 use Rattle.register.proofs.bike_at.Tie as tie
-use Rattle.register.proofs.bike_at.Reads as reads
-use Rattle.register.proofs.bike_at.Lts as lts
-use Rattle.wire.proofs.get4.Reads as get4-reads
 
 mul-place : tie.Need-mul-place
 mul-place c = search needs
@@ -26,7 +23,7 @@ get4-requires-2 : tie.Need-get4-requires-2
 get4-requires-2 c κs = search needs
 
 returns : tie.Need-returns
-returns c = 
+returns c =
     let a = c .before .before .before .args in
     bike-read (now (a .register)) (a .at) (a .bike) (omega arith) (c .before .get4 .ensures) (c .get42 .ensures)
 

@@ -10,10 +10,6 @@ use Rattle.register.proofs.Laws.{change-of}
 use borrow.Author.Needs.{needs}
 use Rattle.register.proofs.changed.Statement.{statement}
 use Rattle.register.proofs.changed.Tie as tie
-use Rattle.register.proofs.changed.Reads as reads
-use Rattle.register.proofs.changed.Lts as lts
-use Rattle.register.proofs.added.Reads as added-reads
-use Rattle.register.proofs.trimmed.Reads as trimmed-reads
 
 enum-known-command : tie.Need-enum-known-command
 enum-known-command c = search needs
@@ -34,7 +30,7 @@ trimmed-requires : tie.Need-trimmed-requires
 trimmed-requires c κs = search needs
 
 returns : tie.Need-returns
-returns c = 
+returns c =
     let e = c .before .before .before .before .args .before in
     change-of e (c .before .before .command .given .1) (ap (λ (n : ℕ). bike n (e .dash)) (c .added .ensures))
 
@@ -45,9 +41,9 @@ returns-3 : tie.Need-returns-3
 returns-3 c = change-of (c .before .before .args .before) (c .enum-told .given .1) refl
 
 returns-4 : tie.Need-returns-4
-returns-4 c = 
+returns-4 c =
     let e = c .before .before .before .before .args .before in
-    change-of e (c .before .before .command3 .given .1) 
+    change-of e (c .before .before .command3 .given .1)
     (ap (λ (n : ℕ). bike n (e .dash)) (c .trimmed .ensures .0)
     ∙ ap (λ (z : ℤ). bike (held (pos (e .reading) +ℤ z)) (e .dash)) (toZ-ofZ {w = w16} {z = c .before .before .command3 .given .0 .1 .0} (search needs)))
 

@@ -12,9 +12,6 @@ use Rattle.register.specs.Lent.{bikesBytes}
 use Rattle.register.proofs.Lent.{bikes-none, cleared-more, cleared}
 use Rattle.register.proofs.clear.Statement.{statement}
 use Rattle.register.proofs.clear.Tie as tie
-use Rattle.register.proofs.clear.Reads as reads
-use Rattle.register.proofs.clear.Lts as lts
-use Rattle.register.proofs.put_bike.Reads as put-bike-reads
 
 abbrev Inv-loop : tie.InvT-loop
 Inv-loop register₀ at bike₀ register bike =
@@ -42,7 +39,7 @@ loop-less : tie.Need-loop-less Inv-loop μ-loop
 loop-less c = omega arith
 
 loop-again : tie.Need-loop-again Inv-loop μ-loop
-loop-again c = 
+loop-again c =
     let l = c .before .before .before .before .before .loop in
     let a = c .before .before .before .before .before .before .before .args in
     let p = c .before .before .put-bike in
@@ -52,7 +49,7 @@ same-length : tie.Need-same-length Inv-loop μ-loop
 same-length c = c .before .loop .inv .1
 
 returns : tie.Need-returns Inv-loop μ-loop
-returns c = 
+returns c =
     let a = c .before .before .before .args in
     cleared (a .at) (now (a .register)) (c .before .loop .bike) (omega arith) (omega arith) (c .before .loop .inv .2)
 

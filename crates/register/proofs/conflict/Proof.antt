@@ -5,11 +5,6 @@ use lib.Dec.{eqb}
 use borrow.Author.Needs.{needs}
 use Rattle.register.proofs.conflict.Statement.{statement}
 use Rattle.register.proofs.conflict.Tie as tie
-use Rattle.register.proofs.conflict.Reads as reads
-use Rattle.register.proofs.conflict.Lts as lts
-use Rattle.register.proofs.bike_of.Reads as bike-of-reads
-use Rattle.register.proofs.is_add.Reads as is-add-reads
-use Rattle.register.proofs.is_read.Reads as is-read-reads
 
 bike-of-requires : tie.Need-bike-of-requires
 bike-of-requires c κs = search needs

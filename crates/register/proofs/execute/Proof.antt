@@ -10,13 +10,6 @@ use Rattle.register.proofs.Lent.{executed}
 use borrow.Author.Needs.{needs}
 use Rattle.register.proofs.execute.Statement.{statement}
 use Rattle.register.proofs.execute.Tie as tie
-use Rattle.register.proofs.execute.Reads as reads
-use Rattle.register.proofs.execute.Lts as lts
-use Rattle.register.proofs.bike_at.Reads as bike-at-reads
-use Rattle.register.proofs.bike_of.Reads as bike-of-reads
-use Rattle.register.proofs.changed.Reads as changed-reads
-use Rattle.register.proofs.put_bike.Reads as put-bike-reads
-use Rattle.register.proofs.reply_to.Reads as reply-to-reads
 
 bike-of-requires : tie.Need-bike-of-requires
 bike-of-requires c κs = search needs
@@ -28,7 +21,7 @@ bike-at-requires : tie.Need-bike-at-requires
 bike-at-requires c κs = search needs
 
 reply-to-requires : tie.Need-reply-to-requires
-reply-to-requires c κs = 
+reply-to-requires c κs =
     let s = c .before .before .before .before in
     reading-within (registerOf (now (s .args .register)) (s .args .at)) (c .before .before .bike-of .result) (s .pre .1) (c .bike-at .ensures)
 
@@ -48,7 +41,7 @@ same-length : tie.Need-same-length
 same-length c = search needs
 
 returns : tie.Need-returns
-returns c = 
+returns c =
     let s = c .before .before .before .before .before .before .before .before .before .before in
     let k = c .before .before .before .before .before .before .before .before .bike-of in
     let valid = s .pre .2 in

@@ -11,9 +11,6 @@ use Rattle.register.specs.Register.{bikes}
 use Rattle.register.proofs.Lent.{within, judged-more, judged-not}
 use Rattle.register.proofs.judge.Statement.{statement}
 use Rattle.register.proofs.judge.Tie as tie
-use Rattle.register.proofs.judge.Reads as reads
-use Rattle.register.proofs.judge.Lts as lts
-use Rattle.wire.proofs.get4.Reads as get4-reads
 
 abbrev Inv-loop : tie.InvT-loop
 Inv-loop register at bike₀ bike = (bike ≤ bikes) × (within register at bike ≡ true)
@@ -34,7 +31,7 @@ get4-requires : tie.Need-get4-requires Inv-loop μ-loop
 get4-requires c κs = omega arith
 
 returns : tie.Need-returns Inv-loop μ-loop
-returns c = 
+returns c =
     let a = c .before .before .before .before .before .args in
     let l = c .before .before .before .loop in
     judged-not (now (a .register)) (a .at) (l .bike) (omega arith) (c .before .get4 .ensures) (omega arith)
@@ -46,13 +43,13 @@ loop-less : tie.Need-loop-less Inv-loop μ-loop
 loop-less c = omega arith
 
 loop-again : tie.Need-loop-again Inv-loop μ-loop
-loop-again c = 
+loop-again c =
     let a = c .before .before .before .before .before .args in
     let l = c .before .before .before .loop in
     (omega arith, judged-more (now (a .register)) (a .at) (l .bike) (omega arith) (l .inv .1) (c .before .get4 .ensures) (omega arith))
 
 returns-2 : tie.Need-returns-2 Inv-loop μ-loop
-returns-2 c = 
+returns-2 c =
     let a = c .before .before .before .args in
     let e : c .before .loop .bike ≡ bikes = omega arith in
     sym (ap (λ (n : ℕ). within (now (a .register)) (a .at) n) (sym e) ∙ c .before .loop .inv .1)

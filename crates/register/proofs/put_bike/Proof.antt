@@ -6,9 +6,6 @@ use Rattle.register.proofs.Lent.{bike-written}
 use borrow.Author.Needs.{needs}
 use Rattle.register.proofs.put_bike.Statement.{statement}
 use Rattle.register.proofs.put_bike.Tie as tie
-use Rattle.register.proofs.put_bike.Reads as reads
-use Rattle.register.proofs.put_bike.Lts as lts
-use Rattle.wire.proofs.put4.Reads as put4-reads
 
 put4-requires : tie.Need-put4-requires
 put4-requires c κs = search needs
@@ -23,7 +20,7 @@ same-length : tie.Need-same-length
 same-length c = search needs
 
 returns : tie.Need-returns
-returns c = 
+returns c =
     let a = c .before .before .before .before .before .before .before .before .before .args in
     bike-written (now (a .register)) (a .place) (a .bike) (omega arith) (c .before .before .before .before .before .before .put4 .ensures) (c .before .before .put42 .ensures)
 

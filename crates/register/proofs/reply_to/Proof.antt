@@ -12,10 +12,6 @@ use Rattle.register.proofs.Laws.{reply-of}
 use borrow.Author.Needs.{needs}
 use Rattle.register.proofs.reply_to.Statement.{statement}
 use Rattle.register.proofs.reply_to.Tie as tie
-use Rattle.register.proofs.reply_to.Reads as reads
-use Rattle.register.proofs.reply_to.Lts as lts
-use Rattle.register.proofs.difference.Reads as difference-reads
-use Rattle.register.proofs.trimmed.Reads as trimmed-reads
 
 enum-told : tie.Need-enum-told
 enum-told c = search needs
@@ -51,7 +47,7 @@ returns-3 : tie.Need-returns-3
 returns-3 c = reply-of (c .before .before .before .args .before) (c .before .enum-told3 .given .1) (toZ-pos w32 {n = c .before .before .before .args .before .reading} (omega arith))
 
 returns-4 : tie.Need-returns-4
-returns-4 c = 
+returns-4 c =
     let e = c .before .before .before .before .before .args .before in
     reply-of e (c .before .before .before .command .given .1)
     (returned w32 (c .difference .ok) (c .difference .ensures ∙ ap (λ (n : ℕ). pos n -ℤ pos (e .reading)) (c .before .trimmed .ensures .0)

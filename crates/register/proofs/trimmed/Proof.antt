@@ -50,7 +50,7 @@ add-sum c = fit (value c) (small c)
 
 returns : tie.Need-returns
 unfolding exact
-returns c = 
+returns c =
     (sym (held-below (exact (c .before)) (ap (λ (z : ℤ). ltZ z (pos 0)) (sym (sum (c .before))) ∙ c .if1 .taken)), lit≤ tt)
 
 cast-if2 : tie.Need-cast-if2
@@ -58,17 +58,17 @@ cast-if2 c = search needs
 
 returns-2 : tie.Need-returns-2
 unfolding exact
-returns-2 c = 
+returns-2 c =
     (sym (held-above (exact (c .before .before)) (ap (λ (z : ℤ). ltZ (pos 999999) z) (sym (sum (c .before .before))) ∙ c .if2 .taken)), lit≤ tt)
 
 cast-result : tie.Need-cast-result
-cast-result c = 
+cast-result c =
     let h = held-most (exact (c .before .before)) in
     unsigned (held (exact (c .before .before))) (sum (c .before .before) ∙ between c) (omega arith)
 
 returns-3 : tie.Need-returns-3
 unfolding exact
-returns-3 c = 
+returns-3 c =
     let e = ap natAbs (sum (c .before .before) ∙ between c) in
     let h = held-most (exact (c .before .before)) in
     (e, omega (arith, e))
