@@ -2,3 +2,4 @@ pub mod Laws
 pub mod Walk
 pub mod Places
 pub mod Writing
+pub mod RoundTrip

@@ -1,16 +1,18 @@
 -- Laws of finding a command by its number: by the noted places, and by a walk from the front.
 -- Assumes nothing.
-use mathlib.Core.Path.{_≡_, refl, sym, ap, _∙_}
+use mathlib.Core.Path.{_≡_, refl, sym, ap, subst, _∙_}
 use mathlib.Core.List.{List, [], _∷_}
 use Prim.Native.Nat.{ℕ, zero, suc, _+_, _-_, _≤_, _<_, min}
 use native.Mathlib.Numerals.{add-one}
 use native.Mathlib.Omega.{arith}
 use lib.ListN.{length, getD, take, drop, set, length-take}
 use lib.Seq.{sets, getD-take}
+use Rattle.register.specs.Register.{Valid}
 use Rattle.register.specs.declared.Command.{Command}
 use Rattle.register.specs.declared.Command.the-variants.{Read}
 use Rattle.commands.specs.declared.Reading.the-variants.{Whole}
 use Rattle.commands.specs.Book.{sizeOf, readCommand, commandsOf, commandOf, placesFrom, placesOf}
+use Rattle.commands.proofs.Laws.{front}
 use Rattle.commands.proofs.Walk.{rest, rest-all, next, Took}
 
 pub index-all : (s p : List ℕ) → sets p 0 (placesFrom 0 (rest s 0 0)) ≡ sets p 0 (placesOf s)
@@ -37,6 +39,20 @@ placed (suc k) s j at g h =
     let n = next s j at g (omega arith) in
     let i = placed k s (j + 1) (at + sizeOf (n .command)) (n .inside) (omega (arith, ap length (n .left))) in
     rw (n .left) i
+
+valid-at : (k : ℕ) (s : List ℕ) (j at : ℕ) → at ≤ length s → k < length (rest s j at) → Valid (getD (rest s j at) k (Read 0))
+valid-at zero s j at g h = let n = next s j at g h in rw (n .left) (front (drop at s) (n .read) .valid)
+valid-at (suc k) s j at g h =
+    let n = next s j at g (omega arith) in
+    let i = valid-at k s (j + 1) (at + sizeOf (n .command)) (n .inside) (omega (arith, ap length (n .left))) in
+    rw (n .left) i
+
+-- Every command of a book has its bike and start in range.
+pub commands-valid : (s : List ℕ) (k : ℕ) → k < length (commandsOf s) → Valid (commandOf s k)
+unfolding commandOf
+commands-valid s k h =
+    let q = rest-all s in
+    subst (λ (cs : List Command). Valid (getD cs k (Read 0))) q (valid-at k s 0 0 (omega arith) (omega (arith, ap length q)))
 
 length-places : (at : ℕ) (cs : List Command) → length (placesFrom at cs) ≡ length cs
 length-places at [] = refl

@@ -37,7 +37,7 @@ step-at : (n : ℕ) (l : List ℕ) → 0 < length l → readUpTo (suc n) l ≡ a
 step-at n [] h = absurd (omega arith)
 step-at n (b ∷ l) h = refl
 
-whole-at : (n : ℕ) (l : List ℕ) {c : Command} → 0 < length l → readCommand l ≡ Whole c → readUpTo (suc n) l ≡ also c (readUpTo n (drop (sizeOf c) l))
+pub whole-at : (n : ℕ) (l : List ℕ) {c : Command} → 0 < length l → readCommand l ≡ Whole c → readUpTo (suc n) l ≡ also c (readUpTo n (drop (sizeOf c) l))
 whole-at n l h e = rw (step-at n l h, e) refl
 
 bad-at : (n : ℕ) (l : List ℕ) → 0 < length l → readCommand l ≡ Bad → readUpTo (suc n) l ≡ none
