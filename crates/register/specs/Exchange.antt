@@ -118,12 +118,12 @@ pub exchange : (c d : Command) → conflict c d ≡ false → (r : Register) →
 exchange c d h r =
     record {
       register =
-        λ i k.
-        at-bike (eqb k (bikeOf c)) (eqb k (bikeOf d)) c d (r k)
-        (λ p q. same-bike c d h (sym (eqb-true k (bikeOf c) p) ∙ eqb-true k (bikeOf d) q))
-        i;
+          λ i k.
+          at-bike (eqb k (bikeOf c)) (eqb k (bikeOf d)) c d (r k)
+          (λ p q. same-bike c d h (sym (eqb-true k (bikeOf c) p) ∙ eqb-true k (bikeOf d) q))
+          i;
       first = unmoved c d h r;
-      second = unmoved d c (sym (conflict-sym c d) ∙ h) r
+      second = unmoved d c (sym (conflict-sym c d) ∙ h) r;
     }
 
 -- The same of the commands at two different places of a book.

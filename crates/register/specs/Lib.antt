@@ -1,2 +1,4 @@
 pub mod Register
 pub mod Exchange
+pub mod Lent
+pub mod Machine

@@ -3,9 +3,9 @@
 use mathlib.Core.Bool.{Bool, true, false, not, _&&_, _||_}
 use mathlib.Core.Path.{_≡_}
 use Prim.Native.Nat.{ℕ, _+_, _≤_, _<_, min}
-use lib.Dec.{eqb}
+use lib.Dec.{eqb, leb}
 use lib.IntN.{ℤ, pos, negsuc, _+ℤ_, _-ℤ_}
-use Rattle.theory.specs.Sets.{pick}
+use Rattle.theory.specs.Sets.{pick, all}
 use Rattle.register.specs.declared.Bike.{Bike}
 use Rattle.register.specs.declared.Command.{Command}
 use Rattle.register.specs.declared.Command.the-variants.{Add, Fit, Read, Trim}
@@ -96,6 +96,10 @@ conflictAt book a b = not (eqb a b) && conflict (book a) (book b)
 -- Every reading of a register is at most 999,999.
 pub record Within (r : Register) : Type 0 where
   pub reading : (k : ℕ) → r k .reading ≤ maxReading
+
+-- The same as a test.
+abbrev pub isWithin : Register → Bool
+isWithin r = all bikes (λ k. leb (r k .reading) maxReading)
 
 -- The reading that a command sets, 0 where it sets none.
 abbrev pub startOf : Command → ℕ

@@ -9,12 +9,16 @@ use lib.Pow.{pow-mono}
 use native.Mathlib.Decide.{decLt}
 use borrow.Author.Tests.{ltb-true, lt-ltb, le-ltb}
 use lib.Dec.{T, leb, leb→le, ltb}
+use mathlib.Core.List.{List}
+use lib.ListN.{length, getD}
+use Rattle.wire.specs.Wire.{bytes, readLe, splice}
+use Rattle.wire.proofs.Laws.{read-same, read-lt}
 use lib.IntN.{ℤ, pos, negsuc, negℤ, natAbs, subℕ, _+ℤ_, _-ℤ_}
 use lib.Signed.{mag, ltZ, nonNeg}
 use mir.Syntax.{Width}
 use mir.Val.{Fits, SFits, bits, hbits, sel, toZ, ofZ}
 use mir.ValLaws.{half-full}
-use mir.Facts.{toZ-ofZ, ofZ-toZ, toZ-pos, sfits-widen}
+use mir.Facts.{toZ-ofZ, ofZ-toZ, toZ-pos, fits-ofZ, sfits-widen}
 
 -- A value in the code is the bits of a number. One equation to the exact number is carried along, and these four use it.
 
@@ -49,8 +53,8 @@ diff a (suc b) = refl
 pub mag-sub : (a b m : ℕ) → a ≤ m → b ≤ suc m → mag (subℕ a b) ≤ m
 mag-sub a b m p q =
     elim (decLt a b) [
-      yes h ↦ subst (λ (z : ℤ). mag z ≤ m) (sym (sub-below a b h)) (omega arith)
-    | no h ↦ subst (λ (z : ℤ). mag z ≤ m) (sym (sub-above a b (omega arith))) (omega arith)
+      | yes h ↦ subst (λ (z : ℤ). mag z ≤ m) (sym (sub-below a b h)) (omega arith)
+      | no h ↦ subst (λ (z : ℤ). mag z ≤ m) (sym (sub-above a b (omega arith))) (omega arith)
     ]
 
 pub mag-add : (x y : ℤ) {a b : ℕ} → mag x < a → mag y < b → mag (x +ℤ y) < a + b
@@ -111,3 +115,12 @@ signed-word = toZ-ofZ
 
 pub word-signed : (w : Width) {n : ℕ} → n < 2 ^ bits w → ofZ w (toZ w n) ≡ n
 word-signed w h = ofZ-toZ {w = w} (record { fits = h })
+
+-- A signed number that was written is read back.
+pub read-signed : (w : Width) (n : ℕ) (s : List ℕ) (at : ℕ) {z : ℤ} → 2 ^ bits w ≤ 256 ^ n → at + n ≤ length s → SFits w z → toZ w (readLe n (splice s at (bytes n (ofZ w z))) at) ≡ z
+read-signed w n s at {z} b h f =
+    ap (toZ w) (read-same n s at (ofZ w z) h (lt-of-lt-of-le (fits-ofZ f .fits) b)) ∙ toZ-ofZ f
+
+-- What is read as a signed number and written again changes no byte.
+pub bytes-signed : (w : Width) (n : ℕ) (s : List ℕ) (at : ℕ) → 256 ^ n ≤ 2 ^ bits w → ((i : ℕ) → getD s i 0 < 256) → at + n ≤ length s → bytes n (ofZ w (toZ w (readLe n s at))) ≡ bytes n (readLe n s at)
+bytes-signed w n s at b small h = ap (bytes n) (word-signed w (lt-of-lt-of-le (read-lt s small n at h) b))
