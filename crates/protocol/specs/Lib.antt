@@ -4,3 +4,4 @@ pub mod Site
 pub mod World
 pub mod CommonSequence
 pub mod Order
+pub mod RecoveryLaws

@@ -189,6 +189,12 @@ count-yes n p h = count-more n p ∙ ap (λ (b : Bool). count n p + one b) h
 pub count-no : (n : ℕ) (p : ℕ → Bool) → p n ≡ false → count (n + 1) p ≡ count n p
 count-no n p h = count-more n p ∙ ap (λ (b : Bool). count n p + one b) h ∙ omega arith
 
+-- The lowest number first.
+pub count-first : (n : ℕ) (p : ℕ → Bool) → count (suc n) p ≡ one (p 0) + count n (λ m. p (suc m))
+unfolding count
+count-first zero p = omega arith
+count-first (suc n) p = omega (arith, count-first n p)
+
 one-le : (a : Bool) → one a ≤ 1
 one-le true = omega arith
 one-le false = omega arith

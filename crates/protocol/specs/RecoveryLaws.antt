@@ -1,0 +1,175 @@
+-- Laws of the decision of a round: it stays, it rests on exactly nChk valid sources, NC is free of conflicts,
+-- NC and C are disjoint and hold every command of the valid sets. Rests on Recovery and the quorum lemma.
+use mathlib.Core.Path.{_≡_, refl, sym, _∙_, ap, subst}
+use mathlib.Core.Bool.{Bool, true, false, _&&_, _||_, not}
+use mathlib.Core.List.{List, [], _∷_, _++_}
+use mathlib.Core.Logic.{_⊎_, inl, inr, ⊎-elim}
+use mathlib.Core.Option.{Option, none, some}
+use Prim.Native.Nat.{ℕ, zero, suc, _+_, _*_, _≤_, _<_}
+use native.Mathlib.Omega.{arith}
+use lib.Dec.{eqb, leb}
+use borrow.Author.Tests.{eqb-true, leb-true}
+use Rattle.theory.specs.Sets.{Set, _∪_, _∖_, pick, one, all, any, count}
+use Rattle.theory.specs.Counting.{both, left, right, true-or, or-true, either, not-true, never, all-at, all-of, any-at, count-mono, count-some, count-sum}
+use Rattle.protocol.specs.System.{System, free}
+use Rattle.protocol.specs.Recovery.{Entry, Log, Standing, absent, valid, excluded, isValid, ncOf, cOf, Tally, nobody, afterEntry, add, validCount, decideFrom, decide, ncSet, proposed, cSet}
+
+-- Two values of an option that is some are the same.
+pub same-some : {A : Type 0} {a b : A} → some a ≡ some b → a ≡ b
+same-some e = cc
+
+pub none-some : {A B : Type 0} {a : A} → _≡_ {A = Option A} none (some a) → B
+none-some e = absurd (let z : _≡_ {A = ℕ} 0 1 = cc in omega arith)
+
+module _ (S : System) where
+  open System S using (machine, commands, sites, nChk, majority)
+
+  -- Two members of a set that is free of conflicts do not conflict.
+  pub free-pair : (x : Set) → free S x ≡ true → (a b : ℕ) → a < commands → b < commands → x a ≡ true → x b ≡ true
+      → machine .conflict a b ≡ false
+  free-pair x h a b la lb ha hb =
+      let row = all-at commands (λ a. all commands (λ b. not (x a && (x b && machine .conflict a b)))) h a la in
+      let cell = all-at commands (λ b. not (x a && (x b && machine .conflict a b))) row b lb in
+      go (x a) (x b) (machine .conflict a b) ha hb cell
+    where
+      go : (p q c : Bool) → p ≡ true → q ≡ true → not (p && (q && c)) ≡ true → c ≡ false
+      go true true c hp hq h = not-true c h
+      go true false c hp hq h = absurd (never false hq refl)
+      go false q c hp hq h = absurd (never false hp refl)
+
+  -- And a set whose members do not conflict is free.
+  pub free-of : (x : Set)
+      → ((a b : ℕ) → a < commands → b < commands → x a ≡ true → x b ≡ true → machine .conflict a b ≡ false)
+      → free S x ≡ true
+  free-of x h =
+      all-of commands (λ a. all commands (λ b. not (x a && (x b && machine .conflict a b))))
+        (λ a la. all-of commands (λ b. not (x a && (x b && machine .conflict a b)))
+          (λ b lb. go (x a) (x b) (machine .conflict a b) (h a b la lb)))
+    where
+      go : (p q c : Bool) → (p ≡ true → q ≡ true → c ≡ false) → not (p && (q && c)) ≡ true
+      go true true c i = ap not (i refl refl)
+      go true false c i = refl
+      go false q c i = refl
+
+  -- What a log decides, every longer log decides the same.
+  pub decide-from-grows : (r : ℕ) (t : Tally) (l more : Log) (d : Tally) → decideFrom S r t l ≡ some d → decideFrom S r t (l ++ more) ≡ some d
+  unfolding decideFrom
+  decide-from-grows r t [] more d h = none-some h
+  decide-from-grows r t (e ∷ l) more d h =
+      go (eqb (validCount S (add S r t e)) nChk) h (decide-from-grows r (add S r t e) l more d)
+    where
+      go : (b : Bool) → pick b (some (add S r t e)) (decideFrom S r (add S r t e) l) ≡ some d
+          → (decideFrom S r (add S r t e) l ≡ some d → decideFrom S r (add S r t e) (l ++ more) ≡ some d)
+          → pick b (some (add S r t e)) (decideFrom S r (add S r t e) (l ++ more)) ≡ some d
+      go true h ih = h
+      go false h ih = ih h
+
+  pub decide-grows : (r : ℕ) (l more : Log) (d : Tally) → decide S r l ≡ some d → decide S r (l ++ more) ≡ some d
+  decide-grows r l more d h = decide-from-grows r nobody l more d h
+
+  -- At a decision exactly nChk sources are valid.
+  decided-count-from : (r : ℕ) (t : Tally) (l : Log) (d : Tally) → decideFrom S r t l ≡ some d → validCount S d ≡ nChk
+  unfolding decideFrom
+  decided-count-from r t [] d h = none-some h
+  decided-count-from r t (e ∷ l) d h = go (eqb (validCount S (add S r t e)) nChk) refl h (decided-count-from r (add S r t e) l d)
+    where
+      go : (b : Bool) → eqb (validCount S (add S r t e)) nChk ≡ b
+          → pick b (some (add S r t e)) (decideFrom S r (add S r t e) l) ≡ some d
+          → (decideFrom S r (add S r t e) l ≡ some d → validCount S d ≡ nChk) → validCount S d ≡ nChk
+      go true eb h ih = ap (validCount S) (sym (same-some h)) ∙ eqb-true (validCount S (add S r t e)) nChk eb
+      go false eb h ih = ih h
+
+  pub decided-count : (r : ℕ) (l : Log) (d : Tally) → decide S r l ≡ some d → validCount S d ≡ nChk
+  decided-count r l d h = decided-count-from r nobody l d h
+
+  -- Every valid source's NC is free of conflicts.
+  abbrev pub Sound : Standing → Type 0
+  Sound absent = Unit {0}
+  Sound (valid nc c) = free S nc ≡ true
+  Sound excluded = Unit {0}
+
+  sound-after : (e : Entry) (s : Standing) → Sound (afterEntry S e s)
+  sound-after e absent = go (free S (e .nc)) refl
+    where
+      go : (b : Bool) → free S (e .nc) ≡ b → Sound (pick b (valid (e .nc) (e .c)) excluded)
+      go true h = h
+      go false h = tt
+  sound-after e (valid nc c) = tt
+  sound-after e excluded = tt
+
+  sound-add : (r : ℕ) (t : Tally) (e : Entry) → ((j : ℕ) → Sound (t j)) → (j : ℕ) → Sound (add S r t e j)
+  sound-add r t e h j = go (eqb (e .site) j && eqb (e .round) r)
+    where
+      go : (b : Bool) → Sound (pick b (afterEntry S e (t j)) (t j))
+      go true = sound-after e (t j)
+      go false = h j
+
+  sound-from : (r : ℕ) (t : Tally) (l : Log) (d : Tally) → ((j : ℕ) → Sound (t j)) → decideFrom S r t l ≡ some d → (j : ℕ) → Sound (d j)
+  unfolding decideFrom
+  sound-from r t [] d v h = none-some h
+  sound-from r t (e ∷ l) d v h =
+      go (eqb (validCount S (add S r t e)) nChk) h (sound-from r (add S r t e) l d (sound-add r t e v))
+    where
+      go : (b : Bool) → pick b (some (add S r t e)) (decideFrom S r (add S r t e) l) ≡ some d
+          → (decideFrom S r (add S r t e) l ≡ some d → (j : ℕ) → Sound (d j)) → (j : ℕ) → Sound (d j)
+      go true h ih = subst (λ (t : Tally). (j : ℕ) → Sound (t j)) (same-some h) (sound-add r t e v)
+      go false h ih = ih h
+
+  pub decided-sound : (r : ℕ) (l : Log) (d : Tally) → decide S r l ≡ some d → (j : ℕ) → Sound (d j)
+  decided-sound r l d h = sound-from r nobody l d (λ j. tt) h
+
+  -- A source that has a command in its NC is valid.
+  nc-valid : (s : Standing) (m : ℕ) → ncOf s m ≡ true → isValid s ≡ true
+  nc-valid absent m h = h
+  nc-valid (valid nc c) m h = refl
+  nc-valid excluded m h = h
+
+  -- Two commands in one valid NC do not conflict.
+  nc-pair : (s : Standing) → Sound s → (a b : ℕ) → a < commands → b < commands → ncOf s a ≡ true → ncOf s b ≡ true
+      → machine .conflict a b ≡ false
+  nc-pair absent v a b la lb ha hb = absurd (never false ha refl)
+  nc-pair (valid nc c) v a b la lb ha hb = free-pair nc v a b la lb ha hb
+  nc-pair excluded v a b la lb ha hb = absurd (never false ha refl)
+
+  -- Two majorities of the valid sources have one in common, so no two commands of NC conflict.
+  pub nc-free : nChk < 2 * majority → (r : ℕ) (l : Log) (d : Tally) → decide S r l ≡ some d → free S (ncSet S d) ≡ true
+  nc-free q r l d h = free-of (ncSet S d) pair
+    where
+      pair : (a b : ℕ) → a < commands → b < commands → ncSet S d a ≡ true → ncSet S d b ≡ true → machine .conflict a b ≡ false
+      pair a b la lb ha hb =
+          let pa : ℕ → Bool = λ j. ncOf (d j) a in
+          let pb : ℕ → Bool = λ j. ncOf (d j) b in
+          let ka = leb-true majority (count sites pa) ha in
+          let kb = leb-true majority (count sites pb) hb in
+          let few = count-mono sites (λ j. pa j || pb j) (λ j. isValid (d j))
+                (λ j lj hj. ⊎-elim (nc-valid (d j) a) (nc-valid (d j) b) (either (pa j) (pb j) hj)) in
+          let w = count-some sites (λ j. pa j && pb j) (omega (arith, count-sum sites pa pb, decided-count r l d h)) in
+          nc-pair (d (w .0)) (decided-sound r l d h (w .0)) a b la lb (left (pa (w .0)) (pb (w .0)) (w .2)) (right (pa (w .0)) (pb (w .0)) (w .2))
+
+  -- NC and C are disjoint.
+  pub nc-c-disjoint : (d : Tally) (m : ℕ) → (ncSet S d m && cSet S d m) ≡ false
+  nc-c-disjoint d m = go (ncSet S d m) (proposed S d m)
+    where
+      go : (a b : Bool) → (a && (b && not a)) ≡ false
+      go true true = refl
+      go true false = refl
+      go false b = refl
+
+  -- They hold every command of the valid sets,
+  pub proposed-decided : (d : Tally) (m : ℕ) → proposed S d m ≡ true → (ncSet S d ∪ cSet S d) m ≡ true
+  proposed-decided d m h = go (ncSet S d m) (proposed S d m) h
+    where
+      go : (a b : Bool) → b ≡ true → (a || (b && not a)) ≡ true
+      go true b e = refl
+      go false true e = refl
+      go false false e = e
+
+  -- and no other.
+  pub decided-proposed : 0 < majority → (d : Tally) (m : ℕ) → (ncSet S d ∪ cSet S d) m ≡ true → proposed S d m ≡ true
+  decided-proposed q d m h = ⊎-elim from-nc (left (proposed S d m) (not (ncSet S d m))) (either (ncSet S d m) (cSet S d m) h)
+    where
+      from-nc : ncSet S d m ≡ true → proposed S d m ≡ true
+      from-nc k =
+          let few = leb-true majority (count sites (λ j. ncOf (d j) m)) k in
+          let w = count-some sites (λ j. ncOf (d j) m) (omega arith) in
+          any-at sites (λ j. ncOf (d j) m || cOf (d j) m) (w .0) (w .1) (true-or (ncOf (d (w .0)) m) (cOf (d (w .0)) m) (w .2))
