@@ -1,0 +1,5 @@
+pub mod Laws
+pub mod Walk
+pub mod Places
+pub mod Writing
+pub mod RoundTrip

@@ -1,0 +1,97 @@
+-- Laws of finding a command by its number: by the noted places, and by a walk from the front.
+-- Assumes nothing.
+use mathlib.Core.Path.{_≡_, refl, sym, ap, subst, _∙_}
+use mathlib.Core.List.{List, [], _∷_}
+use Prim.Native.Nat.{ℕ, zero, suc, _+_, _-_, _≤_, _<_, min}
+use native.Mathlib.Numerals.{add-one}
+use native.Mathlib.Omega.{arith}
+use lib.ListN.{length, getD, take, drop, set, length-take}
+use lib.Seq.{sets, getD-take}
+use Rattle.register.specs.Register.{Valid}
+use Rattle.register.specs.declared.Command.{Command}
+use Rattle.register.specs.declared.Command.the-variants.{Read}
+use Rattle.commands.specs.declared.Reading.the-variants.{Whole}
+use Rattle.commands.specs.Book.{sizeOf, readCommand, commandsOf, commandOf, placesFrom, placesOf}
+use Rattle.commands.proofs.Laws.{front}
+use Rattle.commands.proofs.Walk.{rest, rest-all, next, Took}
+
+pub index-all : (s p : List ℕ) → sets p 0 (placesFrom 0 (rest s 0 0)) ≡ sets p 0 (placesOf s)
+unfolding placesOf
+index-all s p = ap (λ (cs : List Command). sets p 0 (placesFrom 0 cs)) (rest-all s)
+
+pub index-more : (s p : List ℕ) (k at : ℕ) {c : Command} {z : ℕ} → Took s k at c z → sets (set p k at) (k + 1) (placesFrom (at + z) (rest s (k + 1) (at + z))) ≡ sets p k (placesFrom at (rest s k at))
+index-more s p k at {c} {z} t =
+    ap (λ (n : ℕ). sets (set p k at) n (placesFrom (at + z) (rest s (k + 1) (at + z)))) (add-one k)
+    ∙ ap (λ (n : ℕ). sets (set p k at) (suc k) (placesFrom (at + n) (rest s (k + 1) (at + z)))) (t .size)
+    ∙ ap (λ (cs : List Command). sets p k (placesFrom at cs)) (sym (t .left))
+
+none-of : (cs : List Command) → length cs ≡ 0 → cs ≡ []
+none-of [] h = refl
+none-of (c ∷ cs) h = absurd (omega arith)
+
+pub index-end : (s p : List ℕ) (k at : ℕ) → length (rest s k at) ≡ 0 → sets p k (placesFrom at (rest s k at)) ≡ p
+index-end s p k at h = ap (λ (cs : List Command). sets p k (placesFrom at cs)) (none-of (rest s k at) h)
+
+placed : (k : ℕ) (s : List ℕ) (j at : ℕ) → at ≤ length s → k < length (rest s j at)
+    → (readCommand (drop (getD (placesFrom at (rest s j at)) k 0) s) ≡ Whole (getD (rest s j at) k (Read 0))) × (getD (placesFrom at (rest s j at)) k 0 ≤ length s)
+placed zero s j at g h = let n = next s j at g h in rw (n .left) (n .read, g)
+placed (suc k) s j at g h =
+    let n = next s j at g (omega arith) in
+    let i = placed k s (j + 1) (at + sizeOf (n .command)) (n .inside) (omega (arith, ap length (n .left))) in
+    rw (n .left) i
+
+valid-at : (k : ℕ) (s : List ℕ) (j at : ℕ) → at ≤ length s → k < length (rest s j at) → Valid (getD (rest s j at) k (Read 0))
+valid-at zero s j at g h = let n = next s j at g h in rw (n .left) (front (drop at s) (n .read) .valid)
+valid-at (suc k) s j at g h =
+    let n = next s j at g (omega arith) in
+    let i = valid-at k s (j + 1) (at + sizeOf (n .command)) (n .inside) (omega (arith, ap length (n .left))) in
+    rw (n .left) i
+
+-- Every command of a book has its bike and start in range.
+pub commands-valid : (s : List ℕ) (k : ℕ) → k < length (commandsOf s) → Valid (commandOf s k)
+unfolding commandOf
+commands-valid s k h =
+    let q = rest-all s in
+    subst (λ (cs : List Command). Valid (getD cs k (Read 0))) q (valid-at k s 0 0 (omega arith) (omega (arith, ap length q)))
+
+length-places : (at : ℕ) (cs : List Command) → length (placesFrom at cs) ≡ length cs
+length-places at [] = refl
+length-places at (c ∷ cs) = ap suc (length-places (at + sizeOf c) cs)
+
+-- What the noted places tell of the k-th command.
+module _ (s p : List ℕ) (k : ℕ) (h : k < length (commandsOf s)) (e : take (length (commandsOf s)) p ≡ placesOf s) where
+  pub place-noted : k < length p
+  unfolding placesOf
+  place-noted =
+      let q : length (take (length (commandsOf s)) p) ≡ length (commandsOf s) = ap length e ∙ length-places 0 (commandsOf s) in
+      omega (arith, length-take (length (commandsOf s)) p)
+
+  place-is : getD p k 0 ≡ getD (placesFrom 0 (rest s 0 0)) k 0
+  unfolding placesOf
+  place-is =
+      sym (getD-take (length (commandsOf s)) p k 0 h) ∙ ap (λ (l : List ℕ). getD l k 0) e ∙ ap (λ (cs : List Command). getD (placesFrom 0 cs) k 0) (sym (rest-all s))
+
+  there : (readCommand (drop (getD (placesFrom 0 (rest s 0 0)) k 0) s) ≡ Whole (getD (rest s 0 0) k (Read 0))) × (getD (placesFrom 0 (rest s 0 0)) k 0 ≤ length s)
+  there = placed k s 0 0 (omega arith) (omega (arith, ap length (rest-all s)))
+
+  pub place-inside : getD p k 0 ≤ length s
+  place-inside = omega (arith, place-is, there .1)
+
+  pub place-read : {at : ℕ} → at ≡ getD p k 0 → readCommand (drop at s) ≡ Whole (commandOf s k)
+  unfolding commandOf
+  place-read q =
+      ap (λ (n : ℕ). readCommand (drop n s)) (q ∙ place-is) ∙ there .0 ∙ ap (λ (cs : List Command). Whole (getD cs k (Read 0))) (rest-all s)
+
+-- A walk to the k-th command, j of them passed.
+module _ (s : List ℕ) (k : ℕ) where
+  pub walk-all : getD (rest s 0 0) (k - 0) (Read 0) ≡ commandOf s k
+  unfolding commandOf
+  walk-all = let q : k - 0 ≡ k = omega arith in λ i. getD (rest-all s i) (q i) (Read 0)
+
+  pub walk-here : (j at : ℕ) {c : Command} {z : ℕ} → j ≡ k → Took s j at c z → getD (rest s j at) (k - j) (Read 0) ≡ commandOf s k → c ≡ commandOf s k
+  walk-here j at {c} e t w =
+      let q : k - j ≡ 0 = omega arith in (λ i. getD (sym (t .left) i) (sym q i) (Read 0)) ∙ w
+
+  pub walk-more : (j at : ℕ) {c : Command} {z : ℕ} → j < k → Took s j at c z → getD (rest s j at) (k - j) (Read 0) ≡ commandOf s k → getD (rest s (j + 1) (at + z)) (k - (j + 1)) (Read 0) ≡ commandOf s k
+  walk-more j at h t w =
+      let q : suc (k - (j + 1)) ≡ k - j = omega arith in (λ i. getD (sym (t .left) i) (q i) (Read 0)) ∙ w
