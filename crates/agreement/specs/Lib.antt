@@ -9,3 +9,5 @@ pub mod Sequence
 pub mod Invariant
 pub mod HistoryLaws
 pub mod Common
+pub mod Explained
+pub mod ReadOff
