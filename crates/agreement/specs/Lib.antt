@@ -11,3 +11,7 @@ pub mod HistoryLaws
 pub mod Common
 pub mod Explained
 pub mod ReadOff
+pub mod Theorem
+pub mod Brought
+pub mod Bound
+pub mod NeverRefused

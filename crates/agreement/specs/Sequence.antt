@@ -93,7 +93,7 @@ module _ (S : System) where
         { past = record { settled = ∅; sequence = [] }; at = refl
         ; alike = alike-equal machine (sym (members-none commands ∅ (λ m l. refl))) }
 
-  fast-traced : (log : Log) (s : Site S) (m : ℕ) → m < commands → s .pending m ≡ true → s .fast m ≡ false → PendingAt S s → TracedAt log s
+  pub fast-traced : (log : Log) (s : Site S) (m : ℕ) → m < commands → s .pending m ≡ true → s .fast m ≡ false → PendingAt S s → TracedAt log s
       → Traced log (s .round) (s .fast ∪ only m) (commandsOf (s .ledger .deliveries ++ (record { command = m; answer = machine .answer (s .ledger .state) m } ∷ [])))
   fast-traced log s m lm pm fm p v =
       record
@@ -115,7 +115,7 @@ module _ (S : System) where
       single = sym (members-one commands ((s .fast ∪ only m) ∖ s .fast) m lm (λ k l. one-more (s .fast k) (eqb k m) (λ e. ap (s .fast) (eqb-true k m e) ∙ fm)))
 
   module _ (f : ℕ) (sizes : Sizes S f) where
-    finish-traced : (w : World S) (i : ℕ) (o : Option Tally) → decision S (w .site i) (w .log) ≡ o → isSome o ≡ true
+    pub finish-traced : (w : World S) (i : ℕ) (o : Option Tally) → decision S (w .site i) (w .log) ≡ o → isSome o ≡ true
         → AllSettled S w → AllPending S w → Promises S w → AllHeard S w → TracedAt (w .log) (w .site i) → TracedAt (w .log) (finish S (tallyOr o) (w .site i))
     finish-traced w i none e h settled pending promises heard v = absurd (never false h refl)
     finish-traced w i (some t) e h settled pending promises heard v =
