@@ -71,6 +71,12 @@ isThird ThirdEntry = true
 isThird LastRound = false
 isThird Size = false
 
+-- What no run meets.
+pub record NeverRefused (S : System) (steps : List Step) : Type 0 where
+  pub nine : (t : Step) (r : Refusal) → judge S (play S (start S) steps) t ≡ Refused r → isSize r ≡ false
+  pub third : (i : ℕ) (r : Refusal) → judge S (play S (start S) steps) (turn i) ≡ Refused r → isThird r ≡ false
+  pub eight : (t : Step) (r : Refusal) → judge S (play S (start S) steps) t ≡ Refused r → isLastRound r ≡ false
+
 -- A refusal of some kind is never the answer: each demand of that kind holds wherever those before it hold.
 abbrev Spared : (Refusal → Bool) → Demands → Type 0
 Spared p granted = Unit {0}
@@ -247,12 +253,7 @@ module _ (S : System) (f : ℕ) (sizes : Sizes S f) where
         rounds-spared (roundEnd i) = unmentioned isLastRound (demands S w (roundEnd i)) refl
 
   -- The same of every run.
-  pub record NeverRefused (steps : List Step) : Type 0 where
-    pub nine : (t : Step) (r : Refusal) → judge S (play S (start S) steps) t ≡ Refused r → isSize r ≡ false
-    pub third : (i : ℕ) (r : Refusal) → judge S (play S (start S) steps) (turn i) ≡ Refused r → isThird r ≡ false
-    pub eight : (t : Step) (r : Refusal) → judge S (play S (start S) steps) t ≡ Refused r → isLastRound r ≡ false
-
-  pub never-refused : Exchange machine → Limits S → (steps : List Step) → NeverRefused steps
+  pub never-refused : Exchange machine → Limits S → (steps : List Step) → NeverRefused S steps
   never-refused law limits steps =
       let w = play S (start S) steps in
       let good = good-play S f sizes steps in

@@ -1,1 +1,2 @@
 pub mod Dash
+pub mod Demand3
