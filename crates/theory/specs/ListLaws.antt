@@ -62,6 +62,19 @@ distinct-apart (x ∷ a) b h m k = go (either (eqb m x) (contents a m) k) (disti
     go (inl e) r = ap (contents b) (eqb-true m x e) ∙ here
     go (inr e) r = r e
 
+-- What stands before another stands in the list, and so does the other.
+pub before-first : (a b : ℕ) (l : List ℕ) → before a b l ≡ true → contents l a ≡ true
+before-first a b [] h = h
+before-first a b (y ∷ l) h =
+    ⊎-elim (λ z. true-or (eqb a y) (contents l a) (left (eqb a y) (contents l b) z)) (λ z. or-true (eqb a y) (contents l a) (before-first a b l z))
+      (either (eqb a y && contents l b) (before a b l) h)
+
+pub before-second : (a b : ℕ) (l : List ℕ) → before a b l ≡ true → contents l b ≡ true
+before-second a b [] h = h
+before-second a b (y ∷ l) h =
+    or-true (eqb b y) (contents l b)
+      (⊎-elim (right (eqb a y) (contents l b)) (before-second a b l) (either (eqb a y && contents l b) (before a b l) h))
+
 -- What stands before a number of the first part stands in the first part too.
 pub before-left : (a b : ℕ) (d rest : List ℕ) → distinct (d ++ rest) ≡ true → contents d b ≡ true → before a b (d ++ rest) ≡ true → before a b d ≡ true
 before-left a b [] rest h k l = absurd (never false k refl)
@@ -77,12 +90,6 @@ before-left a b (x ∷ d) rest h k l =
     inside e = ⊎-elim (λ z. z) (λ z. absurd (never (contents rest b) z apart)) (either (contents d b) (contents rest b) (sym (contents-append d rest b) ∙ e))
     later : before a b (d ++ rest) ≡ true → contents (d ++ rest) b ≡ true
     later e = before-second a b (d ++ rest) e
-      where
-        before-second : (a b : ℕ) (l : List ℕ) → before a b l ≡ true → contents l b ≡ true
-        before-second a b [] h = h
-        before-second a b (y ∷ l) h =
-            or-true (eqb b y) (contents l b)
-              (⊎-elim (right (eqb a y) (contents l b)) (before-second a b l) (either (eqb a y && contents l b) (before a b l) h))
     go : ((eqb a x && contents (d ++ rest) b) ≡ true) ⊎ (before a b (d ++ rest) ≡ true)
         → (contents d b ≡ true → before a b (d ++ rest) ≡ true → before a b d ≡ true) → before a b (x ∷ d) ≡ true
     go (inl e) r =
