@@ -12,7 +12,7 @@ use Rattle.theory.specs.Machine.{Machine, Delivery, run, answered}
 use Rattle.protocol.specs.System.{System}
 use Rattle.protocol.specs.Site.{Site, Ledger, deliver, due, decision, tallyOr, acknowledges}
 use Rattle.protocol.specs.World.{World, Step, command, acknowledgment, check, falseAcknowledgment, falseCheck, falseEntry, turn, fastDelivery, logRead, roundEnd, start, demands, change, acknowledgingTurn, proposingTurn}
-use Rattle.agreement.specs.Steps.{Met, put-keeps, turn-keeps}
+use Rattle.protocol.specs.Steps.{Met, put-keeps, turn-keeps}
 
 -- The commands of some deliveries.
 abbrev pub commandsOf : {A : Type 0} → List (Delivery A) → List ℕ

@@ -17,7 +17,7 @@ use Rattle.protocol.specs.Recovery.{Standing, absent, valid, excluded, isValid,
 use Rattle.protocol.specs.StandingLaws.{Backed, Backing, decided-backed, same-some}
 use Rattle.protocol.specs.RecoveryLaws.{decided-count, proposed-decided}
 use Rattle.protocol.specs.World.{World, Step, start, play}
-use Rattle.agreement.specs.Steps.{play-keeps}
+use Rattle.protocol.specs.Steps.{play-keeps}
 use Rattle.agreement.specs.History.{History, extend, history, history-last, AllSettled, settled-start, settled-keeps}
 use Rattle.agreement.specs.Acked.{Sizes}
 use Rattle.agreement.specs.Brought.{Brings, Brought, brought-start, brought-keeps}

@@ -14,7 +14,7 @@ use Rattle.protocol.specs.Recovery.{Entry, Log}
 use Rattle.protocol.specs.StandingLaws.{Logged, logged-split}
 use Rattle.protocol.specs.Site.{Site, undelivered, unacknowledged, acknowledges}
 use Rattle.protocol.specs.World.{World, Step, command, acknowledgment, check, falseAcknowledgment, falseCheck, falseEntry, turn, fastDelivery, logRead, roundEnd, start, demands, change, entryOf, acknowledgingTurn, proposingTurn}
-use Rattle.agreement.specs.Steps.{Met, not-both, turn-keeps}
+use Rattle.protocol.specs.Steps.{Met, not-both, turn-keeps}
 use Rattle.agreement.specs.History.{History, history, history-grows, SettledAt, AllSettled}
 
 -- Where not all satisfy a test, one fails it.

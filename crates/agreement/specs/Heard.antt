@@ -15,7 +15,7 @@ use Rattle.theory.specs.Lists.{nth}
 use Rattle.protocol.specs.System.{System, correct}
 use Rattle.protocol.specs.Site.{Site, isSome, senders, acknowledges, undelivered}
 use Rattle.protocol.specs.World.{World, Step, command, acknowledgment, check, falseAcknowledgment, falseCheck, falseEntry, turn, fastDelivery, logRead, roundEnd, start, demands, change, orEmpty, acknowledgingTurn, proposingTurn}
-use Rattle.agreement.specs.Steps.{Met, not-both, put-keeps, turn-keeps}
+use Rattle.protocol.specs.Steps.{Met, not-both, put-keeps, turn-keeps}
 use Rattle.agreement.specs.Promises.{said, said-more}
 
 -- An acknowledgment that was sent is part of what was said.

@@ -15,7 +15,7 @@ use Rattle.protocol.specs.StandingLaws.{same-some, none-some}
 use Rattle.protocol.specs.RecoveryLaws.{decide-grows}
 use Rattle.protocol.specs.Site.{Site, fresh, finish, decision, tallyOr, isSome, acknowledges}
 use Rattle.protocol.specs.World.{World, Step, command, acknowledgment, check, falseAcknowledgment, falseCheck, falseEntry, turn, fastDelivery, logRead, roundEnd, start, demands, change, entryOf, acknowledgingTurn, proposingTurn}
-use Rattle.agreement.specs.Steps.{Met, put-keeps, turn-keeps}
+use Rattle.protocol.specs.Steps.{Met, put-keeps, turn-keeps}
 
 -- The commands of the rounds before some round, as a set and in their order.
 pub record History : Type 0 where

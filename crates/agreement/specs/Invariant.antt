@@ -4,7 +4,7 @@ use Prim.Native.Nat.{ℕ}
 use mathlib.Core.List.{List}
 use Rattle.protocol.specs.System.{System}
 use Rattle.protocol.specs.World.{World, Step, start, demands, change, step, play}
-use Rattle.agreement.specs.Steps.{Met, step-keeps, play-keeps}
+use Rattle.protocol.specs.Steps.{Met, step-keeps, play-keeps}
 use Rattle.agreement.specs.History.{AllSettled, settled-start, settled-keeps}
 use Rattle.agreement.specs.Pending.{AllPending, pending-start, pending-keeps}
 use Rattle.agreement.specs.Promises.{Promises, promises-start, promises-keep}

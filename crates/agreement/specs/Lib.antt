@@ -1,4 +1,3 @@
-pub mod Steps
 pub mod History
 pub mod Pending
 pub mod Promises

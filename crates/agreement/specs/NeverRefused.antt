@@ -24,9 +24,10 @@ use Rattle.theory.specs.TraceLaws.{alike-length}
 use Rattle.protocol.specs.System.{System, Demands, granted, _else_⨾_, verdict, correct}
 use Rattle.protocol.specs.Recovery.{Entry, Log, Tally, entries}
 use Rattle.protocol.specs.StandingLaws.{Logged, same-some}
-use Rattle.protocol.specs.Site.{Site, Phase, acknowledging, waiting, isAcknowledging, isWaiting, isSome, unacknowledged, acknowledges, senders, room, due, finish, decision, tallyOr}
+use Rattle.protocol.specs.WaitingLaws.{not-waiting}
+use Rattle.protocol.specs.Site.{Site, isAcknowledging, isSome, unacknowledged, acknowledges, senders, room, due, finish, decision, tallyOr}
 use Rattle.protocol.specs.World.{World, Step, command, acknowledgment, check, falseAcknowledgment, falseCheck, falseEntry, turn, fastDelivery, logRead, roundEnd, start, play, demands, judge}
-use Rattle.agreement.specs.Steps.{refused-taken}
+use Rattle.protocol.specs.Steps.{refused-taken}
 use Rattle.agreement.specs.History.{History, history}
 use Rattle.agreement.specs.HistoryLaws.{Sound, history-sound}
 use Rattle.agreement.specs.Acked.{Sizes}
@@ -136,10 +137,6 @@ no-entries j r (x ∷ l) h = omega (arith, ap one (none (eqb (x .site) j && eqb 
     none true e =
         absurd (h x (inl refl) (eqb-true (x .site) j (left (eqb (x .site) j) (eqb (x .round) r) e)) (eqb-true (x .round) r (right (eqb (x .site) j) (eqb (x .round) r) e)))
     none false e = refl
-
-not-waiting : (p : Phase) → isAcknowledging p ≡ true → isWaiting p ≡ true → ⊥
-not-waiting acknowledging h k = never false k refl
-not-waiting (waiting p) h k = never false h refl
 
 module _ (S : System) (f : ℕ) (sizes : Sizes S f) where
   open System S using (machine, commands, rounds)

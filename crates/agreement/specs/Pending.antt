@@ -12,7 +12,7 @@ use Rattle.protocol.specs.System.{System, free}
 use Rattle.protocol.specs.RecoveryLaws.{free-of}
 use Rattle.protocol.specs.Site.{Site, undelivered, acknowledges}
 use Rattle.protocol.specs.World.{World, Step, command, acknowledgment, check, falseAcknowledgment, falseCheck, falseEntry, turn, fastDelivery, logRead, roundEnd, start, demands, change, acknowledgingTurn, proposingTurn}
-use Rattle.agreement.specs.Steps.{Met, put-keeps, turn-keeps}
+use Rattle.protocol.specs.Steps.{Met, put-keeps, turn-keeps}
 
 -- More received leaves what was undelivered so.
 pub more-received : (r x d : Bool) → (r && not d) ≡ true → ((r || x) && not d) ≡ true

@@ -15,9 +15,10 @@ use Rattle.protocol.specs.System.{System, correct}
 use Rattle.protocol.specs.Recovery.{Entry, Log}
 use Rattle.protocol.specs.StandingLaws.{Logged, logged-split}
 use Rattle.protocol.specs.RecoveryLaws.{free-pair}
-use Rattle.protocol.specs.Site.{Site, Phase, acknowledging, waiting, isAcknowledging, isWaiting, undelivered, acknowledges, acknowledge, propose}
+use Rattle.protocol.specs.WaitingLaws.{not-waiting}
+use Rattle.protocol.specs.Site.{Site, isAcknowledging, isWaiting, undelivered, acknowledges, acknowledge, propose}
 use Rattle.protocol.specs.World.{World, Step, command, acknowledgment, check, falseAcknowledgment, falseCheck, falseEntry, turn, fastDelivery, logRead, roundEnd, start, demands, change, entryOf, acknowledgingTurn, proposingTurn}
-use Rattle.agreement.specs.Steps.{Met, not-both, put-keeps, turn-keeps}
+use Rattle.protocol.specs.Steps.{Met, not-both, put-keeps, turn-keeps}
 use Rattle.agreement.specs.Pending.{Pending, PendingAt, AllPending}
 
 -- The commands of some acknowledgments.
@@ -37,10 +38,6 @@ said-more (y ∷ l) x m = go (y m) (said-more l x m)
     go : (b : Bool) → said (l ++ (x ∷ [])) m ≡ (said l m || x m) → (b || said (l ++ (x ∷ [])) m) ≡ (b || said l m || x m)
     go true h = refl
     go false h = h
-
-not-waiting : (p : Phase) → isAcknowledging p ≡ true → isWaiting p ≡ true → ⊥
-not-waiting acknowledging h k = never false k refl
-not-waiting (waiting p) h k = never false h refl
 
 module _ (S : System) where
   open System S using (machine, commands)

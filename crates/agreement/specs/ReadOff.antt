@@ -23,7 +23,7 @@ use Rattle.protocol.specs.RecoveryLaws.{decide-grows}
 use Rattle.protocol.specs.Site.{Site, acknowledge, propose, deliverFast, finish, due, decision, tallyOr, isSome, acknowledges}
 use Rattle.protocol.specs.World.{World, Step, command, acknowledgment, check, falseAcknowledgment, falseCheck, falseEntry, turn, fastDelivery, logRead, roundEnd, start, put, demands, change, judge, settle, step, play, entryOf, acknowledgingTurn, proposingTurn}
 use Rattle.protocol.specs.CommonSequence.{Reading, isTaken, taken, deliverNew, endRound, readStep, delivers}
-use Rattle.agreement.specs.Steps.{Met, met, turn-keeps}
+use Rattle.protocol.specs.Steps.{Met, met, turn-keeps}
 use Rattle.agreement.specs.History.{History, decision-log}
 use Rattle.agreement.specs.HistoryLaws.{Sound, history-sound}
 use Rattle.agreement.specs.Acked.{Sizes}

@@ -20,7 +20,7 @@ use Rattle.protocol.specs.StandingLaws.{same-some}
 use Rattle.protocol.specs.RecoveryLaws.{free-pair, nc-free}
 use Rattle.protocol.specs.Site.{Site, due, finish, decision, tallyOr, isSome, acknowledges}
 use Rattle.protocol.specs.World.{World, Step, command, acknowledgment, check, falseAcknowledgment, falseCheck, falseEntry, turn, fastDelivery, logRead, roundEnd, start, demands, change, entryOf, acknowledgingTurn, proposingTurn}
-use Rattle.agreement.specs.Steps.{Met, put-keeps, turn-keeps}
+use Rattle.protocol.specs.Steps.{Met, put-keeps, turn-keeps}
 use Rattle.agreement.specs.History.{History, segment, extend, history, history-next, history-grows, Settled, SettledAt, AllSettled, decision-log}
 use Rattle.agreement.specs.Pending.{Pending, PendingAt, AllPending}
 use Rattle.agreement.specs.Promises.{Promises}

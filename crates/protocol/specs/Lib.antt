@@ -4,5 +4,7 @@ pub mod Site
 pub mod World
 pub mod CommonSequence
 pub mod Order
+pub mod Steps
 pub mod StandingLaws
 pub mod RecoveryLaws
+pub mod WaitingLaws
