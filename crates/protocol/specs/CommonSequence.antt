@@ -50,9 +50,9 @@ module _ (S : System) where
   readStep i log d (falseCheck i′ j r x) = d
   readStep i log d (falseEntry j r nc c) = d
   readStep i log d (turn i′) = d
-  readStep i log d (fastDelivery i′ m) = pick (eqb i′ i) (record { round = d .round; list = d .list ++ (m ∷ []) }) d
+  readStep i log d (fastDelivery i′ m) = pick (eqb i i′) (record { round = d .round; list = d .list ++ (m ∷ []) }) d
   readStep i log d (logRead i′) = d
-  readStep i log d (roundEnd i′) = pick (eqb i′ i) (endRound (tallyOr (decide S (d .round) log)) d) d
+  readStep i log d (roundEnd i′) = pick (eqb i i′) (endRound (tallyOr (decide S (d .round) log)) d) d
 
   -- What site i delivers, read off the steps that are not refused and the log.
   abbrev pub delivers : ℕ → Log → List Step → List ℕ

@@ -4,4 +4,5 @@ pub mod Site
 pub mod World
 pub mod CommonSequence
 pub mod Order
+pub mod StandingLaws
 pub mod RecoveryLaws

@@ -1,5 +1,5 @@
 -- Laws of the decision of a round: it stays, it rests on exactly nChk valid sources, NC is free of conflicts,
--- NC and C are disjoint and hold every command of the valid sets. Rests on Recovery and the quorum lemma.
+-- NC and C are disjoint and hold every command of the valid sets. Rests on StandingLaws and the quorum lemma.
 use mathlib.Core.Path.{_≡_, refl, sym, _∙_, ap, subst}
 use mathlib.Core.Bool.{Bool, true, false, _&&_, _||_, not}
 use mathlib.Core.List.{List, [], _∷_, _++_}
@@ -12,14 +12,8 @@ use borrow.Author.Tests.{eqb-true, leb-true}
 use Rattle.theory.specs.Sets.{Set, _∪_, _∖_, pick, one, all, any, count}
 use Rattle.theory.specs.Counting.{both, left, right, true-or, or-true, either, not-true, never, all-at, all-of, any-at, count-mono, count-some, count-sum}
 use Rattle.protocol.specs.System.{System, free}
-use Rattle.protocol.specs.Recovery.{Entry, Log, Standing, absent, valid, excluded, isValid, ncOf, cOf, Tally, nobody, afterEntry, add, validCount, decideFrom, decide, ncSet, proposed, cSet}
-
--- Two values of an option that is some are the same.
-pub same-some : {A : Type 0} {a b : A} → some a ≡ some b → a ≡ b
-same-some e = cc
-
-pub none-some : {A B : Type 0} {a : A} → _≡_ {A = Option A} none (some a) → B
-none-some e = absurd (let z : _≡_ {A = ℕ} 0 1 = cc in omega arith)
+use Rattle.protocol.specs.Recovery.{Log, Standing, absent, valid, excluded, isValid, ncOf, cOf, Tally, nobody, add, validCount, decideFrom, decide, ncSet, proposed, cSet}
+use Rattle.protocol.specs.StandingLaws.{same-some, none-some, Backed, decided-backed}
 
 module _ (S : System) where
   open System S using (machine, commands, sites, nChk, majority)
@@ -82,54 +76,25 @@ module _ (S : System) where
   pub decided-count : (r : ℕ) (l : Log) (d : Tally) → decide S r l ≡ some d → validCount S d ≡ nChk
   decided-count r l d h = decided-count-from r nobody l d h
 
-  -- Every valid source's NC is free of conflicts.
-  abbrev pub Sound : Standing → Type 0
-  Sound absent = Unit {0}
-  Sound (valid nc c) = free S nc ≡ true
-  Sound excluded = Unit {0}
-
-  sound-after : (e : Entry) (s : Standing) → Sound (afterEntry S e s)
-  sound-after e absent = go (free S (e .nc)) refl
-    where
-      go : (b : Bool) → free S (e .nc) ≡ b → Sound (pick b (valid (e .nc) (e .c)) excluded)
-      go true h = h
-      go false h = tt
-  sound-after e (valid nc c) = tt
-  sound-after e excluded = tt
-
-  sound-add : (r : ℕ) (t : Tally) (e : Entry) → ((j : ℕ) → Sound (t j)) → (j : ℕ) → Sound (add S r t e j)
-  sound-add r t e h j = go (eqb (e .site) j && eqb (e .round) r)
-    where
-      go : (b : Bool) → Sound (pick b (afterEntry S e (t j)) (t j))
-      go true = sound-after e (t j)
-      go false = h j
-
-  sound-from : (r : ℕ) (t : Tally) (l : Log) (d : Tally) → ((j : ℕ) → Sound (t j)) → decideFrom S r t l ≡ some d → (j : ℕ) → Sound (d j)
-  unfolding decideFrom
-  sound-from r t [] d v h = none-some h
-  sound-from r t (e ∷ l) d v h =
-      go (eqb (validCount S (add S r t e)) nChk) h (sound-from r (add S r t e) l d (sound-add r t e v))
-    where
-      go : (b : Bool) → pick b (some (add S r t e)) (decideFrom S r (add S r t e) l) ≡ some d
-          → (decideFrom S r (add S r t e) l ≡ some d → (j : ℕ) → Sound (d j)) → (j : ℕ) → Sound (d j)
-      go true h ih = subst (λ (t : Tally). (j : ℕ) → Sound (t j)) (same-some h) (sound-add r t e v)
-      go false h ih = ih h
-
-  pub decided-sound : (r : ℕ) (l : Log) (d : Tally) → decide S r l ≡ some d → (j : ℕ) → Sound (d j)
-  decided-sound r l d h = sound-from r nobody l d (λ j. tt) h
-
   -- A source that has a command in its NC is valid.
   nc-valid : (s : Standing) (m : ℕ) → ncOf s m ≡ true → isValid s ≡ true
   nc-valid absent m h = h
   nc-valid (valid nc c) m h = refl
   nc-valid excluded m h = h
 
-  -- Two commands in one valid NC do not conflict.
-  nc-pair : (s : Standing) → Sound s → (a b : ℕ) → a < commands → b < commands → ncOf s a ≡ true → ncOf s b ≡ true
-      → machine .conflict a b ≡ false
-  nc-pair absent v a b la lb ha hb = absurd (never false ha refl)
-  nc-pair (valid nc c) v a b la lb ha hb = free-pair nc v a b la lb ha hb
-  nc-pair excluded v a b la lb ha hb = absurd (never false ha refl)
+  -- Two commands in the NC of a source that is valid in a decision do not conflict.
+  nc-pair : (r : ℕ) (l : Log) (d : Tally) → decide S r l ≡ some d → (j a b : ℕ) → a < commands → b < commands
+      → ncOf (d j) a ≡ true → ncOf (d j) b ≡ true → machine .conflict a b ≡ false
+  nc-pair r l d h j a b la lb = go (d j) (decided-backed S r l d h j)
+    where
+      go : (s : Standing) → Backed S j r l s → ncOf s a ≡ true → ncOf s b ≡ true → machine .conflict a b ≡ false
+      go absent k ha hb = absurd (never false ha refl)
+      go (valid nc c) k ha hb = free-pair nc (k .0) a b la lb ha hb
+      go excluded k ha hb = absurd (never false ha refl)
+
+  -- A command of NC is in a majority of the valid NC sets.
+  pub nc-majority : (d : Tally) (m : ℕ) → ncSet S d m ≡ true → majority ≤ count sites (λ j. ncOf (d j) m)
+  nc-majority d m h = omega (arith, leb-true)
 
   -- Two majorities of the valid sources have one in common, so no two commands of NC conflict.
   pub nc-free : nChk < 2 * majority → (r : ℕ) (l : Log) (d : Tally) → decide S r l ≡ some d → free S (ncSet S d) ≡ true
@@ -139,12 +104,12 @@ module _ (S : System) where
       pair a b la lb ha hb =
           let pa : ℕ → Bool = λ j. ncOf (d j) a in
           let pb : ℕ → Bool = λ j. ncOf (d j) b in
-          let ka = leb-true majority (count sites pa) ha in
-          let kb = leb-true majority (count sites pb) hb in
+          let ka = nc-majority d a ha in
+          let kb = nc-majority d b hb in
           let few = count-mono sites (λ j. pa j || pb j) (λ j. isValid (d j))
                 (λ j lj hj. ⊎-elim (nc-valid (d j) a) (nc-valid (d j) b) (either (pa j) (pb j) hj)) in
           let w = count-some sites (λ j. pa j && pb j) (omega (arith, count-sum sites pa pb, decided-count r l d h)) in
-          nc-pair (d (w .0)) (decided-sound r l d h (w .0)) a b la lb (left (pa (w .0)) (pb (w .0)) (w .2)) (right (pa (w .0)) (pb (w .0)) (w .2))
+          nc-pair r l d h (w .0) a b la lb (left (pa (w .0)) (pb (w .0)) (w .2)) (right (pa (w .0)) (pb (w .0)) (w .2))
 
   -- NC and C are disjoint.
   pub nc-c-disjoint : (d : Tally) (m : ℕ) → (ncSet S d m && cSet S d m) ≡ false
@@ -170,6 +135,6 @@ module _ (S : System) where
     where
       from-nc : ncSet S d m ≡ true → proposed S d m ≡ true
       from-nc k =
-          let few = leb-true majority (count sites (λ j. ncOf (d j) m)) k in
+          let few = nc-majority d m k in
           let w = count-some sites (λ j. ncOf (d j) m) (omega arith) in
           any-at sites (λ j. ncOf (d j) m || cOf (d j) m) (w .0) (w .1) (true-or (ncOf (d (w .0)) m) (cOf (d (w .0)) m) (w .2))

@@ -1,12 +1,11 @@
 -- The exchange law: two commands that do not conflict give, in either order, the same register and the same two answers.
 -- It holds for every register, in range or not. Assumes nothing.
-use mathlib.Core.Bool.{Bool, true, false, not, _&&_, _||_}
+use mathlib.Core.Bool.{Bool, true, false, not, _&&_}
 use mathlib.Core.Path.{_≡_, refl, sym, ap, subst, _∙_}
 use Prim.Native.Nat.{ℕ, _+_, min}
 use native.Mathlib.Omega.{arith}
 use borrow.Author.Tests.{eqb-true, eq-eqb, ne-eqb}
 use lib.Dec.{T, eqb}
-use lib.IntN.{pos}
 use Rattle.theory.specs.Sets.{pick}
 use Rattle.register.specs.declared.Bike.{Bike}
 use Rattle.register.specs.declared.Command.{Command}

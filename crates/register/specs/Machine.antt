@@ -1,6 +1,5 @@
 -- The dash register as a machine over the commands of a book, and that it obeys the law of exchange.
 -- Assumes nothing.
-use mathlib.Core.Path.{_≡_, sym}
 use Prim.Native.Nat.{ℕ}
 use lib.IntN.{ℤ}
 use Rattle.theory.specs.Machine.{Machine, Exchange}

@@ -4,8 +4,8 @@ ghost use Prim.Native.Nat.{_+_, _*_, _≤_, _<_, min};
 ghost use lib.IntN.{pos, _+ℤ_, _-ℤ_};
 ghost use lib.ListN.{length};
 ghost use Rattle.wire.specs.Wire.{splice};
-ghost use Rattle.register.specs.Register.{bikes, maxReading, bikeOf, held, change, reply, isAdd, isRead, conflict, initial, Within, isWithin, Valid};
-ghost use Rattle.register.specs.Lent.{bikeSize, registerSize, bikeIn, bikeBytes, registerOf, registerBytes, Executed, Cleared};
+ghost use Rattle.register.specs.Register.{bikes, maxReading, bikeOf, held, change, reply, isAdd, isRead, conflict, Within, isWithin, Valid};
+ghost use Rattle.register.specs.Lent.{bikeSize, registerSize, bikeBytes, registerOf, Executed, Cleared};
 
 // One command (document 01: one line of a sheet). The operands are those of its row in the table of kinds.
 pub enum Command {

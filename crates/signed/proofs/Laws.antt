@@ -8,12 +8,12 @@ use native.Mathlib.Nat.{lt-of-lt-of-le}
 use lib.Pow.{pow-mono}
 use native.Mathlib.Decide.{decLt}
 use borrow.Author.Tests.{ltb-true, lt-ltb, le-ltb}
-use lib.Dec.{T, leb, leb→le, ltb}
+use lib.Dec.{T, leb, leb→le}
 use mathlib.Core.List.{List}
 use lib.ListN.{length, getD}
 use Rattle.wire.specs.Wire.{bytes, readLe, splice}
 use Rattle.wire.proofs.Laws.{read-same, read-lt}
-use lib.IntN.{ℤ, pos, negsuc, negℤ, natAbs, subℕ, _+ℤ_, _-ℤ_}
+use lib.IntN.{ℤ, pos, negsuc, natAbs, subℕ, _+ℤ_, _-ℤ_}
 use lib.Signed.{mag, ltZ, nonNeg}
 use mir.Syntax.{Width}
 use mir.Val.{Fits, SFits, bits, hbits, sel, toZ, ofZ}

@@ -3,7 +3,7 @@ ghost use mathlib.Core.Bool.{true};
 ghost use mathlib.Core.Path.{_≡_};
 ghost use Rattle.table.specs.Table.{goodTable, isGood, judgeTable, nAckOf, nChkOf, majorityOf, faultyOf, faultyCountOf};
 
-// A site table. Bit i of the mask marks site i as faulty (document 01: lying).
+// A site table. Bit i of the mask marks site i as faulty.
 pub struct SiteTable {
     pub sites: usize,
     pub faults: usize,

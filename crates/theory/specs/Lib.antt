@@ -2,5 +2,8 @@ pub mod Sets
 pub mod Counting
 pub mod Quorums
 pub mod Lists
+pub mod ListLaws
+pub mod Members
 pub mod Machine
 pub mod Traces
+pub mod TraceLaws

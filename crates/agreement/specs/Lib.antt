@@ -1,0 +1,13 @@
+pub mod Steps
+pub mod History
+pub mod Pending
+pub mod Promises
+pub mod Heard
+pub mod Acked
+pub mod Answers
+pub mod Sequence
+pub mod Invariant
+pub mod HistoryLaws
+pub mod Common
+pub mod Explained
+pub mod ReadOff
