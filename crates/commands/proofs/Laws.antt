@@ -5,8 +5,8 @@ use mathlib.Core.Path.{_≡_, refl, sym, ap, subst, _∙_}
 use mathlib.Core.List.{List, [], _∷_, _++_, append-assoc}
 use Prim.Native.Nat.{ℕ, zero, suc, _+_, _-_, _^_, _≤_, _<_}
 use native.Mathlib.Omega.{arith}
-use borrow.Author.Tests.{le-leb, lt-leb, leb-true}
-use lib.Dec.{leb}
+use borrow.Author.Tests.{le-leb, lt-leb, leb-true, lt-ltb, le-ltb, ltb-true}
+use lib.Dec.{leb, ltb}
 use lib.ListN.{length, getD, drop}
 use mir.Syntax.{w16}
 use mir.Val.{SFits}
@@ -16,25 +16,25 @@ use Rattle.wire.specs.Wire.{readLe, bytes}
 use Rattle.wire.proofs.Laws.{read-lt, peel}
 use Rattle.signed.specs.Signed.{signed16, word16}
 use Rattle.signed.proofs.Laws.{word-signed}
-use Rattle.register.specs.Register.{maxReading, Valid}
+use Rattle.register.specs.Register.{bikes, maxReading, Valid}
 use Rattle.register.specs.declared.Command.{Command}
 use Rattle.register.specs.declared.Command.the-variants.{Add, Fit, Read, Trim}
 use Rattle.commands.specs.declared.Reading.{Reading}
 use Rattle.commands.specs.declared.Reading.the-variants.{Whole, Bad}
-use Rattle.commands.specs.Book.{maxBike, sizeOf, given, readKind, readCommand, encodeCommand, InRange}
+use Rattle.commands.specs.Book.{sizeOf, given, readKind, readCommand, encodeCommand, InRange}
 
 module _ (s : List ℕ) where
   pub too-short : length s < 2 → Bad ≡ readCommand s
   unfolding readCommand
   too-short h = rw (lt-leb 2 (length s) h) refl
 
-  pub no-bike : 2 ≤ length s → maxBike < getD s 1 0 → Bad ≡ readCommand s
+  pub no-bike : 2 ≤ length s → bikes ≤ getD s 1 0 → Bad ≡ readCommand s
   unfolding readCommand
-  no-bike h b = rw (le-leb 2 (length s) h, lt-leb (getD s 1 0) maxBike b) refl
+  no-bike h b = rw (le-leb 2 (length s) h, le-ltb (getD s 1 0) bikes b) refl
 
-  pub of-kind : (k : ℕ) {r : Reading} → 2 ≤ length s → getD s 1 0 ≤ maxBike → getD s 0 0 ≡ k → r ≡ readKind k s → r ≡ readCommand s
+  pub of-kind : (k : ℕ) {r : Reading} → 2 ≤ length s → getD s 1 0 < bikes → getD s 0 0 ≡ k → r ≡ readKind k s → r ≡ readCommand s
   unfolding readCommand
-  of-kind k h b e q = rw (le-leb 2 (length s) h, le-leb (getD s 1 0) maxBike b, e) q
+  of-kind k h b e q = rw (le-leb 2 (length s) h, lt-ltb (getD s 1 0) bikes b, e) q
 
   pub add-whole : {km : ℕ} → 4 ≤ length s → km ≡ readLe 2 s 2 → Whole (Add (getD s 1 0) km) ≡ readKind 1 s
   unfolding readKind
@@ -93,12 +93,12 @@ two-front [] h = absurd (omega arith)
 two-front (a ∷ []) h = absurd (omega arith)
 two-front (a ∷ b ∷ s) h = refl
 
-module _ (s : List ℕ) (b : getD s 1 0 ≤ maxBike) where
+module _ (s : List ℕ) (b : getD s 1 0 < bikes) where
   add-front : getD s 0 0 ≡ 1 → 4 ≤ length s → Front s (Add (getD s 1 0) (readLe 2 s 2))
   add-front e h =
       record {
         size = h;
-        valid = record { bike = omega arith; start = omega arith };
+        valid = record { bike = b; start = omega arith };
         range = λ small. (b, read-lt s small 2 2 (omega arith));
         back = λ small. ap (λ (l : List ℕ). 1 ∷ getD s 1 0 ∷ l) (peel s small 2 2 (omega arith)) ∙ ap (λ (k : ℕ). k ∷ getD s 1 0 ∷ drop 2 s) (sym e) ∙ two-front s (omega arith);
       }
@@ -107,7 +107,7 @@ module _ (s : List ℕ) (b : getD s 1 0 ≤ maxBike) where
   fit-front e h g =
       record {
         size = h;
-        valid = record { bike = omega arith; start = g };
+        valid = record { bike = b; start = g };
         range = λ small. (b, read-lt s small 4 2 (omega arith), g);
         back =
             λ small.
@@ -123,7 +123,7 @@ module _ (s : List ℕ) (b : getD s 1 0 ≤ maxBike) where
   read-front e h =
       record {
         size = h;
-        valid = record { bike = omega arith; start = omega arith };
+        valid = record { bike = b; start = omega arith };
         range = λ small. b;
         back = λ small. ap (λ (k : ℕ). k ∷ getD s 1 0 ∷ drop 2 s) (sym e) ∙ two-front s h;
       }
@@ -132,7 +132,7 @@ module _ (s : List ℕ) (b : getD s 1 0 ≤ maxBike) where
   trim-front e h =
       record {
         size = h;
-        valid = record { bike = omega arith; start = omega arith };
+        valid = record { bike = b; start = omega arith };
         range = λ small. (b, sfits-toZ {w = w16} (record { fits = read-lt s small 2 2 (omega arith) }));
         back =
             λ small.
@@ -146,7 +146,7 @@ given-true : (t : Bool) (r : Reading) {c : Command} → given t r ≡ Whole c �
 given-true true r h = (refl, h)
 given-true false r h = absurd (let z : _≡_ {A = ℕ} 0 1 = cc in omega arith)
 
-by-kind : (k : ℕ) (s : List ℕ) {c : Command} → getD s 0 0 ≡ k → 2 ≤ length s → getD s 1 0 ≤ maxBike → readKind k s ≡ Whole c → Front s c
+by-kind : (k : ℕ) (s : List ℕ) {c : Command} → getD s 0 0 ≡ k → 2 ≤ length s → getD s 1 0 < bikes → readKind k s ≡ Whole c → Front s c
 unfolding readKind
 by-kind zero s e h b q = absurd (let z : _≡_ {A = ℕ} 0 1 = cc in omega arith)
 by-kind (suc zero) s {c} e h b q =
@@ -171,5 +171,5 @@ pub front : (s : List ℕ) {c : Command} → readCommand s ≡ Whole c → Front
 unfolding readCommand
 front s q =
     let g = given-true (leb 2 (length s)) _ q in
-    let f = given-true (leb (getD s 1 0) maxBike) _ (g .1) in
-    by-kind (getD s 0 0) s refl (leb-true 2 (length s) (g .0)) (leb-true (getD s 1 0) maxBike (f .0)) (f .1)
+    let f = given-true (ltb (getD s 1 0) bikes) _ (g .1) in
+    by-kind (getD s 0 0) s refl (leb-true 2 (length s) (g .0)) (ltb-true (getD s 1 0) bikes (f .0)) (f .1)

@@ -6,7 +6,7 @@ use Prim.Native.Nat.{ℕ, zero, suc, _+_, _-_, _≤_, _<_, min}
 use native.Mathlib.Numerals.{add-one}
 use native.Mathlib.Omega.{arith}
 use lib.ListN.{length, getD, take, drop, set, length-take}
-use lib.Seq.{sets, getD-take}
+use lib.Seq.{sets, sets-eq, take-at, getD-take}
 use Rattle.register.specs.Register.{Valid}
 use Rattle.register.specs.declared.Command.{Command}
 use Rattle.register.specs.declared.Command.the-variants.{Read}
@@ -95,3 +95,11 @@ module _ (s : List ℕ) (k : ℕ) where
   pub walk-more : (j at : ℕ) {c : Command} {z : ℕ} → j < k → Took s j at c z → getD (rest s j at) (k - j) (Read 0) ≡ commandOf s k → getD (rest s (j + 1) (at + z)) (k - (j + 1)) (Read 0) ≡ commandOf s k
   walk-more j at h t w =
       let q : suc (k - (j + 1)) ≡ k - j = omega arith in (λ i. getD (sym (t .left) i) (q i) (Read 0)) ∙ w
+
+-- Places that were noted in enough room are the places of the book.
+pub index-noted : (s p : List ℕ) {q : List ℕ} → length (commandsOf s) ≤ length p → q ≡ sets p 0 (placesOf s) → take (length (commandsOf s)) q ≡ placesOf s
+unfolding placesOf
+index-noted s p h e =
+    let l = length-places 0 (commandsOf s) in
+    ap (take (length (commandsOf s))) (e ∙ sets-eq (placesFrom 0 (commandsOf s)) p 0 (omega arith))
+    ∙ take-at (placesFrom 0 (commandsOf s)) (drop (0 + length (placesFrom 0 (commandsOf s))) p) (length (commandsOf s)) l

@@ -20,7 +20,7 @@ use Rattle.register.specs.declared.Command.{Command}
 use Rattle.register.specs.declared.Command.the-variants.{Add, Fit, Read, Trim}
 use Rattle.commands.specs.declared.Reading.{Reading}
 use Rattle.commands.specs.declared.Reading.the-variants.{Whole, Bad}
-use Rattle.commands.specs.Book.{maxCommands, maxBike, sizeOf, readCommand, also, andThen, readUpTo, orNone, commandsOf, commandOf, verdictOf, judgeBook, encodeCommand, encodeBook, InRange, AllInRange}
+use Rattle.commands.specs.Book.{maxCommands, sizeOf, readCommand, also, andThen, readUpTo, orNone, commandsOf, commandOf, verdictOf, judgeBook, encodeCommand, encodeBook, InRange, AllInRange}
 use Rattle.commands.proofs.Laws.{of-kind, add-whole, fit-whole, read-whole, trim-whole, front}
 use Rattle.commands.proofs.Walk.{whole-at}
 use Rattle.commands.proofs.Writing.{length-command}

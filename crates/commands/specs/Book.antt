@@ -4,7 +4,7 @@ use mathlib.Core.Bool.{Bool, true, false}
 use mathlib.Core.List.{List, [], _∷_, _++_}
 use mathlib.Core.Option.{Option, none, some}
 use Prim.Native.Nat.{ℕ, zero, suc, _+_, _^_, _≤_, _<_}
-use lib.Dec.{leb}
+use lib.Dec.{leb, ltb}
 use lib.ListN.{length, getD, drop}
 use mir.Syntax.{w16}
 use mir.Val.{SFits}
@@ -13,7 +13,7 @@ use Rattle.signed.specs.Signed.{signed16, word16}
 use Rattle.refusals.specs.declared.Verdict.{Verdict}
 use Rattle.refusals.specs.declared.Verdict.the-variants.{Taken, Refused}
 use Rattle.refusals.specs.declared.Refusal.the-variants.{Book}
-use Rattle.register.specs.Register.{maxReading}
+use Rattle.register.specs.Register.{bikes, maxReading}
 use Rattle.register.specs.declared.Command.{Command}
 use Rattle.register.specs.declared.Command.the-variants.{Add, Fit, Read, Trim}
 use Rattle.commands.specs.declared.Reading.{Reading}
@@ -24,10 +24,6 @@ use Rattle.commands.specs.declared.Measured.the-variants.{Commands, Unre
 -- A book has at most 64 commands.
 abbrev pub maxCommands : ℕ
 maxCommands = 64
-
--- The greatest number of a bike.
-abbrev pub maxBike : ℕ
-maxBike = 31
 
 -- The bytes of a command: kind, bike, operands.
 abbrev pub sizeOf : Command → ℕ
@@ -53,7 +49,7 @@ readKind (suc (suc (suc (suc (suc n))))) s = Bad
 
 -- The command at the front of some bytes.
 unfoldable pub readCommand : List ℕ → Reading
-readCommand s = given (leb 2 (length s)) (given (leb (getD s 1 0) maxBike) (readKind (getD s 0 0) s))
+readCommand s = given (leb 2 (length s)) (given (ltb (getD s 1 0) bikes) (readKind (getD s 0 0) s))
 
 -- No commands where no bytes are left, else what is given.
 abbrev pub unlessEmpty : List ℕ → Option (List Command) → Option (List Command)
@@ -129,10 +125,10 @@ encodeBook (c ∷ cs) = encodeCommand c ++ encodeBook cs
 
 -- A command whose bike, start and operands fit their bytes.
 abbrev pub InRange : Command → Type 0
-InRange (Add bike km) = (bike ≤ maxBike) × (km < 256 ^ 2)
-InRange (Fit bike dash start) = (bike ≤ maxBike) × (dash < 256 ^ 4) × (start ≤ maxReading)
-InRange (Read bike) = bike ≤ maxBike
-InRange (Trim bike km) = (bike ≤ maxBike) × SFits w16 km
+InRange (Add bike km) = (bike < bikes) × (km < 256 ^ 2)
+InRange (Fit bike dash start) = (bike < bikes) × (dash < 256 ^ 4) × (start ≤ maxReading)
+InRange (Read bike) = bike < bikes
+InRange (Trim bike km) = (bike < bikes) × SFits w16 km
 
 -- Every command of a list is in range.
 abbrev pub AllInRange : List Command → Type 0

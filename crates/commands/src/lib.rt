@@ -8,14 +8,11 @@ ghost use Rattle.wire.specs.Wire.{splice};
 ghost use Rattle.commands.specs.Book.{sizeOf, readCommand, measureBook, judgeBook, commandsOf, commandOf, placesOf, encodeCommand, encodeBook};
 use refusals::Refusal;
 use refusals::Verdict;
+use register::Bike;
 use register::Command;
 
 // A book has at most 64 commands.
 pub const MAX_COMMANDS: usize = 64;
-// Bikes are numbered from 0 to 31.
-const MAX_BIKE: u8 = 31;
-// A start is at most 999,999.
-const MAX_START: u32 = 999999;
 
 // What stands at the front of some bytes.
 pub enum Reading {
@@ -24,7 +21,7 @@ pub enum Reading {
 }
 
 // How many commands a book has.
-pub enum Measured {
+enum Measured {
     Commands(usize),
     Unreadable,
 }
@@ -55,7 +52,7 @@ pub fn read_command(bytes: &[u8]) -> Reading
     }
     let kind = bytes[0];
     let bike = bytes[1];
-    if bike > MAX_BIKE {
+    if bike >= Bike::COUNT as u8 {
         return Reading::Bad;
     }
     match kind {
@@ -72,7 +69,7 @@ pub fn read_command(bytes: &[u8]) -> Reading
             }
             let dash = wire::get4(bytes, 2);
             let start = wire::get4(bytes, 6);
-            if start > MAX_START {
+            if start > Bike::MAX_READING {
                 return Reading::Bad;
             }
             Reading::Whole(Command::Fit { bike, dash, start })

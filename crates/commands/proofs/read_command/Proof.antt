@@ -18,6 +18,9 @@ shared-slice-read-kind c = search needs
 shared-slice-read-bike : tie.Need-shared-slice-read-bike
 shared-slice-read-bike c = search needs
 
+cast-if2 : tie.Need-cast-if2
+cast-if2 c = search needs
+
 returns-2 : tie.Need-returns-2
 returns-2 c = no-bike _ (omega arith) (omega arith)
 
@@ -72,6 +75,7 @@ read-command-spec =
     returns
     shared-slice-read-kind
     shared-slice-read-bike
+    cast-if2
     returns-2
     returns-3
     get2-requires
