@@ -45,8 +45,11 @@ module _ (S : System) where
   -- A fast delivery rests on an acked command.
   pub fast-acked : (w : World S) → AllHeard S w → (i m : ℕ) → w .site i .fast m ≡ true → Acked (w .acks) (w .site i .round) m
   fast-acked w v i m h =
-      omega (arith, v i .enough m h,
-        count-mono sites (λ j. w .site i .heard j (w .site i .round) m) (vouches (w .acks) (w .site i .round) m) (λ j l k. go j (known (faulty j)) k))
+      omega (
+        arith,
+        v i .enough m h,
+        count-mono sites (λ j. w .site i .heard j (w .site i .round) m) (vouches (w .acks) (w .site i .round) m) (λ j l k. go j (known (faulty j)) k),
+      )
     where
       go : (j : ℕ) → (faulty j ≡ true) ⊎ (faulty j ≡ false) → w .site i .heard j (w .site i .round) m ≡ true → vouches (w .acks) (w .site i .round) m j ≡ true
       go j (inl e) k = ap (λ (b : Bool). b || said (w .acks j (w .site i .round)) m) e
@@ -70,8 +73,14 @@ module _ (S : System) where
         let p : ℕ → Bool = λ j. vouches (w .acks) r m j && isValid (d j) in
         let q = sizes .quorums .covers in
         le-leb majority (count sites (λ j. ncOf (d j) m))
-          (omega (arith, decided-count S r (w .log) d e, quorum sites (vouches (w .acks) r m) (λ j. isValid (d j)), count-minus sites p faulty,
-            sizes .few, count-mono sites (λ j. p j && not (faulty j)) (λ j. ncOf (d j) m) (λ j l k. has j (d j) (decided-backed S r (w .log) d e j) k)))
+        (omega (
+          arith,
+          decided-count S r (w .log) d e,
+          quorum sites (vouches (w .acks) r m) (λ j. isValid (d j)),
+          count-minus sites p faulty,
+          sizes .few,
+          count-mono sites (λ j. p j && not (faulty j)) (λ j. ncOf (d j) m) (λ j l k. has j (d j) (decided-backed S r (w .log) d e j) k),
+        ))
       where
         has : (j : ℕ) (s : Standing) → Backed S j r (w .log) s → (vouches (w .acks) r m j && isValid s && not (faulty j)) ≡ true → ncOf s m ≡ true
         has j absent k z = absurd (never false (right (vouches (w .acks) r m j) false (left (vouches (w .acks) r m j && false) (not (faulty j)) z)) refl)
@@ -80,5 +89,5 @@ module _ (S : System) where
             let s = voucher j (said (w .acks j r) m) e (left (vouches (w .acks) r m j) true (left (vouches (w .acks) r m j && true) (not (faulty j)) z)) in
             let b = k .1 in
             sym (ap (λ (x : Set). x m) (b .sameNc))
-              ∙ promises j (is-correct j e) .kept (b .entry) (b .logged) (b .source) m (ap (λ (x : ℕ). said (w .acks j x) m) (b .at) ∙ s)
+            ∙ promises j (is-correct j e) .kept (b .entry) (b .logged) (b .source) m (ap (λ (x : ℕ). said (w .acks j x) m) (b .at) ∙ s)
         has j excluded k z = absurd (never false (right (vouches (w .acks) r m j) false (left (vouches (w .acks) r m j && false) (not (faulty j)) z)) refl)

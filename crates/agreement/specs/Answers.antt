@@ -52,12 +52,13 @@ module _ (S : System) where
   deliver-faithful : (g : Ledger S) (m : ℕ) → Faithful g → Faithful (deliver S g m)
   deliver-faithful g m v =
       let same : commandsOf (deliver S g m .deliveries) ≡ commandsOf (g .deliveries) ++ (m ∷ []) = commands-append (g .deliveries) _ in
-      record
-        { state = ap (λ (s : machine .State). machine .execute s m) (v .state) ∙ sym (run-more machine (machine .initial) (commandsOf (g .deliveries)) m)
-            ∙ ap (run machine (machine .initial)) (sym same)
-        ; answers =
+      record {
+        state = ap (λ (s : machine .State). machine .execute s m) (v .state) ∙ sym (run-more machine (machine .initial) (commandsOf (g .deliveries)) m)
+            ∙ ap (run machine (machine .initial)) (sym same);
+        answers =
             (λ i. v .answers i ++ (record { command = m; answer = machine .answer (v .state i) m } ∷ []))
-            ∙ sym (answered-more machine (machine .initial) (commandsOf (g .deliveries)) m) ∙ ap (answered machine (machine .initial)) (sym same) }
+            ∙ sym (answered-more machine (machine .initial) (commandsOf (g .deliveries)) m) ∙ ap (answered machine (machine .initial)) (sym same);
+      }
 
   fold-faithful : (g : Ledger S) (l : List ℕ) → Faithful g → Faithful (foldl (deliver S) g l)
   fold-faithful g [] v = v
@@ -84,7 +85,7 @@ module _ (S : System) where
   faithful-keeps w (falseEntry j r nc c) v h = v
   faithful-keeps w (turn i) v h =
       turn-keeps S AllFaithful (acknowledges S (w .site i)) {w = acknowledgingTurn S i (w .site i) w} {v = proposingTurn S i (w .site i) w}
-        (λ e. touch w i _ v (v i)) (λ e. touch w i _ v (v i))
+      (λ e. touch w i _ v (v i)) (λ e. touch w i _ v (v i))
   faithful-keeps w (fastDelivery i m) v h = touch w i _ v (deliver-faithful (w .site i .ledger) m (v i))
   faithful-keeps w (logRead i) v h = touch w i _ v (v i)
   faithful-keeps w (roundEnd i) v h = touch w i _ v (fold-faithful (w .site i .ledger) (due S (tallyOr (decision S (w .site i) (w .log))) (w .site i)) (v i))

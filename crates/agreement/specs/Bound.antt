@@ -26,9 +26,12 @@ use Rattle.agreement.specs.Invariant.{Good, good-play}
 -- Two different members make a count of at least two.
 count-pair : (n : ℕ) (p : Set) (a b : ℕ) → a < n → b < n → a ≢ b → p a ≡ true → p b ≡ true → 2 ≤ count n p
 count-pair n p a b la lb d ha hb =
-    omega (arith, count-split n p (λ m. eqb m a),
+    omega (
+      arith,
+      count-split n p (λ m. eqb m a),
       count-at n (λ m. p m && eqb m a) a la (both (p a) (eqb a a) ha (eq-eqb a a refl)),
-      count-at n (λ m. p m && not (eqb m a)) b lb (both (p b) (not (eqb b a)) hb (ap not (other (eqb b a) refl))))
+      count-at n (λ m. p m && not (eqb m a)) b lb (both (p b) (not (eqb b a)) hb (ap not (other (eqb b a) refl))),
+    )
   where
     other : (c : Bool) → eqb b a ≡ c → c ≡ false
     other true e = absurd (d (sym (eqb-true b a e)))
@@ -38,9 +41,12 @@ count-pair n p a b la lb d ha hb =
 count-two : (n : ℕ) (p q : Set) (a b : ℕ) → a < n → b < n → a ≢ b → ((m : ℕ) → m < n → p m ≡ true → q m ≡ true)
     → p a ≡ false → p b ≡ false → q a ≡ true → q b ≡ true → count n p + 2 ≤ count n q
 count-two n p q a b la lb d sub pa pb qa qb =
-    omega (arith, count-split n q p,
+    omega (
+      arith,
+      count-split n q p,
       count-mono n p (λ m. q m && p m) (λ m l h. both (q m) (p m) (sub m l h) h),
-      count-pair n (λ m. q m && not (p m)) a b la lb d (both (q a) (not (p a)) qa (ap not pa)) (both (q b) (not (p b)) qb (ap not pb)))
+      count-pair n (λ m. q m && not (p m)) a b la lb d (both (q a) (not (p a)) qa (ap not pa)) (both (q b) (not (p b)) qb (ap not pb)),
+    )
 
 -- A book fits the sets, and the log has rounds enough for it.
 pub record Limits (S : System) : Type 0 where
@@ -63,6 +69,7 @@ module _ (S : System) (f : ℕ) (sizes : Sizes S f) (law : Exchange (S .machine)
     where
       grown : (b : ℕ) → g .settled b ≡ true → (g .settled b || (ncSet S t ∪ cSet S t) b) ≡ true
       grown b h = true-or (g .settled b) ((ncSet S t ∪ cSet S t) b) h
+
       source : (j : ℕ) → j < sites → correct S j ≡ true → (s : Standing) → t j ≡ s → isValid s ≡ true → Backed S j k (w .log) s
           → count commands (g .settled) + 2 ≤ count commands (extend S g t .settled)
       source j l c absent e h b = absurd (never false h refl)
@@ -71,16 +78,16 @@ module _ (S : System) (f : ℕ) (sizes : Sizes S f) (law : Exchange (S .machine)
           let p = v (b .1 .entry) (b .1 .logged) (ap (correct S) (b .1 .source) ∙ c) in
           let same : p .past ≡ g = same-some (sym (p .at) ∙ ap (λ (r : ℕ). history S r (w .log)) (b .1 .at) ∙ eg) in
           count-two commands (g .settled) (extend S g t .settled) (p .one) (p .two) (p .below .0) (p .below .1) (apart (p .one) (p .two) (p .conflict))
-            (λ m l h. grown m h)
-            (ap (λ (x : History). x .settled (p .one)) (sym same) ∙ p .new .0) (ap (λ (x : History). x .settled (p .two)) (sym same) ∙ p .new .1)
-            (decided (p .one) (b .1) (p .proposed .0)) (decided (p .two) (b .1) (p .proposed .1))
+          (λ m l h. grown m h)
+          (ap (λ (x : History). x .settled (p .one)) (sym same) ∙ p .new .0) (ap (λ (x : History). x .settled (p .two)) (sym same) ∙ p .new .1)
+          (decided (p .one) (b .1) (p .proposed .0)) (decided (p .two) (b .1) (p .proposed .1))
         where
           decided : (m : ℕ) (k : Backing j k nc cs (w .log)) → (k .entry .nc ∪ k .entry .c) m ≡ true → (g .settled m || (ncSet S t ∪ cSet S t) m) ≡ true
           decided m k h =
               or-true (g .settled m) ((ncSet S t ∪ cSet S t) m)
-                (proposed-decided S t m
-                  (any-at sites (λ j. ncOf (t j) m || cOf (t j) m) j l
-                    (ap (λ (s : Standing). ncOf s m || cOf s m) e ∙ (λ i. sym (k .sameNc) i m || sym (k .sameC) i m) ∙ h)))
+              (proposed-decided S t m
+              (any-at sites (λ j. ncOf (t j) m || cOf (t j) m) j l
+              (ap (λ (s : Standing). ncOf s m || cOf s m) e ∙ (λ i. sym (k .sameNc) i m || sym (k .sameC) i m) ∙ h)))
 
   settled-count : (w : World S) → Brought S w → (k : ℕ) (h : History) → history S (suc k) (w .log) ≡ some h → 2 * k ≤ count commands (h .settled)
   settled-count w v zero h e = omega arith
@@ -97,7 +104,7 @@ module _ (S : System) (f : ℕ) (sizes : Sizes S f) (law : Exchange (S .machine)
       pair : AllSettled S (play S (start S) l) × Brought S (play S (start S) l)
       pair =
           play-keeps S (λ (w : World S). AllSettled S w × Brought S w) (λ w t g h. (settled-keeps S w t (g .0) h, brought-keeps S w t (g .0) (g .1) h)) (start S) l
-            (settled-start S, brought-start S)
+          (settled-start S, brought-start S)
 
   -- What a site has delivered in the rounds before its own is at least two commands a round.
   pub round-delivered : (w : World S) → AllSettled S w → Brought S w → (i : ℕ) → 2 * w .site i .round ≤ count commands (w .site i .delivered) + 2
@@ -110,5 +117,10 @@ module _ (S : System) (f : ℕ) (sizes : Sizes S f) (law : Exchange (S .machine)
   -- A site's round is at most one more than the last round of the log.
   pub round-bound : Limits S → (steps : List Step) (i : ℕ) → play S (start S) steps .site i .round ≤ suc rounds
   round-bound limits steps i =
-      omega (arith, limits .fits, limits .enough, count-le commands (play S (start S) steps .site i .delivered),
-        round-delivered (play S (start S) steps) (good-play S f sizes steps .settled) (brought-play steps) i)
+      omega (
+        arith,
+        limits .fits,
+        limits .enough,
+        count-le commands (play S (start S) steps .site i .delivered),
+        round-delivered (play S (start S) steps) (good-play S f sizes steps .settled) (brought-play steps) i,
+      )

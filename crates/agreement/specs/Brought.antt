@@ -26,6 +26,7 @@ some-not (suc n) p h = go (known (p n)) (some-not n p)
     front : (a b : Bool) → (a && b) ≡ false → b ≡ true → a ≡ false
     front true b h e = absurd (never b e h)
     front false b h e = refl
+
     go : (p n ≡ true) ⊎ (p n ≡ false) → (all n p ≡ false → (m : ℕ) × (m < n) × (p m ≡ false)) → (m : ℕ) × (m < suc n) × (p m ≡ false)
     go (inl e) r = let w = r (front (all n p) (p n) h e) in (w .0, omega (arith, w .1), w .2)
     go (inr e) r = (n, omega arith, e)
@@ -49,9 +50,16 @@ module _ (S : System) where
 
   brings-more : (log more : Log) (e : Entry) → Brings log e → Brings (log ++ more) e
   brings-more log more e b =
-      record
-        { past = b .past; at = history-grows S (e .round) log more (b .past) (b .at); one = b .one; two = b .two; below = b .below
-        ; conflict = b .conflict; proposed = b .proposed; new = b .new }
+      record {
+        past = b .past;
+        at = history-grows S (e .round) log more (b .past) (b .at);
+        one = b .one;
+        two = b .two;
+        below = b .below;
+        conflict = b .conflict;
+        proposed = b .proposed;
+        new = b .new;
+      }
 
   not-free : (x : Set) → free S x ≡ false
       → (a : ℕ) × (b : ℕ) × (a < commands) × (b < commands) × (x a ≡ true) × (x b ≡ true) × (machine .conflict a b ≡ true)
@@ -59,9 +67,15 @@ module _ (S : System) where
       let r = some-not commands (λ a. all commands (λ b. not (x a && (x b && machine .conflict a b)))) h in
       let c = some-not commands (λ b. not (x (r .0) && (x b && machine .conflict (r .0) b))) (r .2) in
       let t = not-false (x (r .0) && (x (c .0) && machine .conflict (r .0) (c .0))) (c .2) in
-      let u = right (x (r .0)) (x (c .0) && machine .conflict (r .0) (c .0)) t in
-      (r .0, c .0, r .1, c .1, left (x (r .0)) (x (c .0) && machine .conflict (r .0) (c .0)) t,
-        left (x (c .0)) (machine .conflict (r .0) (c .0)) u, right (x (c .0)) (machine .conflict (r .0) (c .0)) u)
+      let u = right (x (r .0)) (x (c .0) && machine .conflict (r .0) (c .0)) t in (
+        r .0,
+        c .0,
+        r .1,
+        c .1,
+        left (x (r .0)) (x (c .0) && machine .conflict (r .0) (c .0)) t,
+        left (x (c .0)) (machine .conflict (r .0) (c .0)) u,
+        right (x (c .0)) (machine .conflict (r .0) (c .0)) u,
+      )
 
   -- What is undelivered is in the NC or the C that is proposed.
   split-proposal : (r d p : Bool) → (r && not d) ≡ true → (p || r && not (d || p)) ≡ true
@@ -74,12 +88,20 @@ module _ (S : System) where
   proposal-brings log more i s v h =
       let k = not-free (undelivered S s) h in
       let new : (m : ℕ) → undelivered S s m ≡ true → v .past .settled m ≡ false =
-            λ m e. ap (λ (x : Set). x m) (v .same) ∙ not-true (s .delivered m) (right (s .received m) (not (s .delivered m)) e) in
-      record
-        { past = v .past; at = history-grows S (s .round) log more (v .past) (v .at); one = k .0; two = k .1; below = (k .2, k .3); conflict = k .6
-        ; proposed = (split-proposal (s .received (k .0)) (s .delivered (k .0)) (s .pending (k .0)) (k .4),
-            split-proposal (s .received (k .1)) (s .delivered (k .1)) (s .pending (k .1)) (k .5))
-        ; new = (new (k .0) (k .4), new (k .1) (k .5)) }
+      λ m e. ap (λ (x : Set). x m) (v .same) ∙ not-true (s .delivered m) (right (s .received m) (not (s .delivered m)) e) in
+      record {
+        past = v .past;
+        at = history-grows S (s .round) log more (v .past) (v .at);
+        one = k .0;
+        two = k .1;
+        below = (k .2, k .3);
+        conflict = k .6;
+        proposed = (
+          split-proposal (s .received (k .0)) (s .delivered (k .0)) (s .pending (k .0)) (k .4),
+          split-proposal (s .received (k .1)) (s .delivered (k .1)) (s .pending (k .1)) (k .5),
+        );
+        new = (new (k .0) (k .4), new (k .1) (k .5));
+      }
 
   pub brought-start : Brought (start S)
   brought-start e l = absurd l
@@ -92,14 +114,14 @@ module _ (S : System) where
   brought-keeps w (falseCheck i j r x) g v h = v
   brought-keeps w (falseEntry j r nc c) g v h = λ e l k.
       ⊎-elim (λ z. brings-more (w .log) (_ ∷ []) e (v e z k))
-        (λ z. absurd (not-both (System.faulty S (e .site)) k (ap (λ (x : Entry). System.faulty S (x .site)) z ∙ h .1 .1 .1 .1 .1 .0)))
-        (logged-split e (record { site = j; round = r; nc = nc; c = c }) (w .log) l)
+      (λ z. absurd (not-both (System.faulty S (e .site)) k (ap (λ (x : Entry). System.faulty S (x .site)) z ∙ h .1 .1 .1 .1 .1 .0)))
+      (logged-split e (record { site = j; round = r; nc = nc; c = c }) (w .log) l)
   brought-keeps w (turn i) g v h =
       turn-keeps S Brought (acknowledges S (w .site i)) {w = acknowledgingTurn S i (w .site i) w} {v = proposingTurn S i (w .site i) w}
-        (λ z. v)
-        (λ z e l k. ⊎-elim (λ y. brings-more (w .log) (entryOf S i (w .site i) ∷ []) e (v e y k))
-          (λ y. subst (λ (x : Entry). Brings (w .log ++ (entryOf S i (w .site i) ∷ [])) x) (sym y) (proposal-brings (w .log) (entryOf S i (w .site i) ∷ []) i (w .site i) (g i) z))
-          (logged-split e (entryOf S i (w .site i)) (w .log) l))
+      (λ z. v)
+      (λ z e l k. ⊎-elim (λ y. brings-more (w .log) (entryOf S i (w .site i) ∷ []) e (v e y k))
+      (λ y. subst (λ (x : Entry). Brings (w .log ++ (entryOf S i (w .site i) ∷ [])) x) (sym y) (proposal-brings (w .log) (entryOf S i (w .site i) ∷ []) i (w .site i) (g i) z))
+      (logged-split e (entryOf S i (w .site i)) (w .log) l))
   brought-keeps w (fastDelivery i m) g v h = v
   brought-keeps w (logRead i) g v h = v
   brought-keeps w (roundEnd i) g v h = v

@@ -34,15 +34,17 @@ module _ (M : Machine) where
   answers-in s [] rest h = refl
   answers-in s (x ∷ l) rest h =
       λ i. here i ∷ (answers-in (execute s x) l rest (right (not (contents (l ++ rest) x)) (distinct (l ++ rest)) h)
-        ∙ map-same (λ m. answerIn M (execute s x) (l ++ rest) m) (λ m. answerIn M s (x ∷ (l ++ rest)) m) l later) i
+      ∙ map-same (λ m. answerIn M (execute s x) (l ++ rest) m) (λ m. answerIn M s (x ∷ (l ++ rest)) m) l later) i
     where
       here : some (answer s x) ≡ pick (eqb x x) (some (answer s x)) (answerIn M (execute s x) (l ++ rest) x)
       here = ap (λ (b : Bool). pick b (some (answer s x)) (answerIn M (execute s x) (l ++ rest) x)) (sym (eq-eqb x x refl))
+
       other : (m : ℕ) → contents l m ≡ true → (b : Bool) → eqb m x ≡ b → b ≡ false
       other m k true e =
           absurd (never (contents (l ++ rest) x) (ap (contents (l ++ rest)) (sym (eqb-true m x e)) ∙ contents-left l rest m k)
-            (not-true (contents (l ++ rest) x) (left (not (contents (l ++ rest) x)) (distinct (l ++ rest)) h)))
+          (not-true (contents (l ++ rest) x) (left (not (contents (l ++ rest) x)) (distinct (l ++ rest)) h)))
       other m k false e = refl
+
       later : (m : ℕ) → contents l m ≡ true → answerIn M (execute s x) (l ++ rest) m ≡ pick (eqb m x) (some (answer s x)) (answerIn M (execute s x) (l ++ rest) m)
       later m k = ap (λ (b : Bool). pick b (some (answer s x)) (answerIn M (execute s x) (l ++ rest) m)) (sym (other m k (eqb m x) refl))
 
@@ -53,28 +55,33 @@ module _ (S : System) (law : Exchange (S .machine)) where
   pub explains : (s : Site S) (rest sequence : List ℕ) → Faithful S (s .ledger) → distinct sequence ≡ true
       → Alike machine (commandsOf (s .ledger .deliveries) ++ rest) sequence → Explains S sequence (commandsOf (s .ledger .deliveries)) s
   explains s rest sequence v once alike =
-      record
-        { held = v .answers; once = distinct-left D rest whole
-        ; order = λ a b c h k. before-left a b D rest whole k (alike-order machine law alike a b c ∙ h)
-        ; answers =
+      record {
+        held = v .answers;
+        once = distinct-left D rest whole;
+        order = λ a b c h k. before-left a b D rest whole k (alike-order machine law alike a b c ∙ h);
+        answers =
             ap (map (λ d. some (d .answer))) (v .answers)
             ∙ answers-in machine (machine .initial) D rest whole
             ∙ map-same (λ m. answerIn machine (machine .initial) (D ++ rest) m) (λ m. answerIn machine (machine .initial) sequence m) D
-                (λ m k. alike-answer machine law (machine .initial) m alike)
-        ; state =
+            (λ m k. alike-answer machine law (machine .initial) m alike);
+        state =
             v .state
-            ∙ alike-state machine law (machine .initial) (chain (alike-equal machine (sym sifted)) (alike-sift machine (contents D) alike)) }
+            ∙ alike-state machine law (machine .initial) (chain (alike-equal machine (sym sifted)) (alike-sift machine (contents D) alike));
+      }
     where
       D : List ℕ
       D = commandsOf (s .ledger .deliveries)
+
       whole : distinct (D ++ rest) ≡ true
       whole = alike-distinct machine alike ∙ once
+
       apart : (m : ℕ) → contents rest m ≡ true → contents D m ≡ false
       apart m h = go (contents D m) refl
         where
           go : (b : Bool) → contents D m ≡ b → b ≡ false
           go true e = absurd (never (contents rest m) h (distinct-apart D rest whole m e))
           go false e = refl
+
       sifted : sift (contents D) (D ++ rest) ≡ D
       sifted =
           sift-append (contents D) D rest

@@ -42,11 +42,15 @@ module _ (S : System) where
   hears : (acks : ℕ → ℕ → List Set) (s : Site S) (j r : ℕ) (x : Set) → (correct S j ≡ true → (m : ℕ) → x m ≡ true → said (acks j r) m ≡ true)
       → HeardAt acks s → Heard acks (λ j′ r′ m. s .heard j′ r′ m || eqb j′ j && eqb r′ r && x m) (s .fast) (s .round)
   hears acks s j r x h v =
-      record
-        { sent = λ j′ r′ m c k. ⊎-elim (v .sent j′ r′ m c) (λ z. new j′ r′ m c z) (either (s .heard j′ r′ m) (eqb j′ j && eqb r′ r && x m) k)
-        ; enough = λ m k. omega (arith, v .enough m k,
-            count-mono sites (λ j′. s .heard j′ (s .round) m) (λ j′. s .heard j′ (s .round) m || eqb j′ j && eqb (s .round) r && x m)
-              (λ j′ l z. true-or (s .heard j′ (s .round) m) (eqb j′ j && eqb (s .round) r && x m) z)) }
+      record {
+        sent = λ j′ r′ m c k. ⊎-elim (v .sent j′ r′ m c) (λ z. new j′ r′ m c z) (either (s .heard j′ r′ m) (eqb j′ j && eqb r′ r && x m) k);
+        enough = λ m k. omega (
+          arith,
+          v .enough m k,
+          count-mono sites (λ j′. s .heard j′ (s .round) m) (λ j′. s .heard j′ (s .round) m || eqb j′ j && eqb (s .round) r && x m)
+              (λ j′ l z. true-or (s .heard j′ (s .round) m) (eqb j′ j && eqb (s .round) r && x m) z),
+        );
+      }
     where
       new : (j′ r′ m : ℕ) → correct S j′ ≡ true → (eqb j′ j && eqb r′ r && x m) ≡ true → said (acks j′ r′) m ≡ true
       new j′ r′ m c z =
@@ -72,11 +76,12 @@ module _ (S : System) where
   delivers-fast : (acks : ℕ → ℕ → List Set) (s : Site S) (m : ℕ) → leb nAck (senders S s m) ≡ true → HeardAt acks s
       → Heard acks (s .heard) (s .fast ∪ only m) (s .round)
   delivers-fast acks s m h v =
-      record
-        { sent = v .sent
-        ; enough = λ k z. ⊎-elim (v .enough k)
+      record {
+        sent = v .sent;
+        enough = λ k z. ⊎-elim (v .enough k)
             (λ (e : eqb k m ≡ true). subst (λ (x : ℕ). nAck ≤ senders S s x) (sym (eqb-true k m e)) (leb-true nAck (senders S s m) h))
-            (either (s .fast k) (eqb k m) z) }
+            (either (s .fast k) (eqb k m) z);
+      }
 
   pub heard-start : AllHeard (start S)
   heard-start i = record { sent = λ j r m c h. absurd (never false h refl); enough = λ m h. absurd (never false h refl) }
@@ -95,8 +100,8 @@ module _ (S : System) where
   heard-keeps w (falseEntry j r nc c) v h = v
   heard-keeps w (turn i) v h =
       turn-keeps S AllHeard (acknowledges S (w .site i)) {w = acknowledgingTurn S i (w .site i) w} {v = proposingTurn S i (w .site i) w}
-        (λ e j. says-more (w .acks) _ (acks-grow w i (w .site i .round) (undelivered S (w .site i))) _ _ _ (touch w i _ v (v i) j))
-        (λ e. touch w i _ v (v i))
+      (λ e j. says-more (w .acks) _ (acks-grow w i (w .site i .round) (undelivered S (w .site i))) _ _ _ (touch w i _ v (v i) j))
+      (λ e. touch w i _ v (v i))
   heard-keeps w (fastDelivery i m) v h = touch w i _ v (delivers-fast (w .acks) (w .site i) m (h .1 .1 .1 .1 .1 .0) (v i))
   heard-keeps w (logRead i) v h = touch w i _ v (v i)
   heard-keeps w (roundEnd i) v h = touch w i _ v (record { sent = v i .sent; enough = λ m k. absurd (never false k refl) })

@@ -81,10 +81,11 @@ module _ (S : System) where
   history-part (suc d) zero l g h eg eh = absurd (let z = history-positive zero l g eg in omega arith)
   history-part (suc d) (suc k) l g h eg eh =
       let w = history-last (d + k) l h (subst (λ (x : ℕ). history x l ≡ some h) (omega arith) eh) in
-      let p = history-part d (suc k) l g (w .0) eg (subst (λ (x : ℕ). history x l ≡ some (w .0)) (omega arith) (w .2)) in
-      (p .0 ++ segment (w .0 .settled) (w .1),
+      let p = history-part d (suc k) l g (w .0) eg (subst (λ (x : ℕ). history x l ≡ some (w .0)) (omega arith) (w .2)) in (
+        p .0 ++ segment (w .0 .settled) (w .1),
         ap (λ (x : History). x .sequence) (sym (w .4)) ∙ ap (λ (x : List ℕ). x ++ segment (w .0 .settled) (w .1)) (p .1)
-          ∙ append-assoc (g .sequence) (p .0) (segment (w .0 .settled) (w .1)))
+            ∙ append-assoc (g .sequence) (p .0) (segment (w .0 .settled) (w .1)),
+      )
 
   -- A round below one with a history is decided.
   pub history-decided : (d k : ℕ) (l : Log) (g h : History) → history k l ≡ some g → history (suc d + k) l ≡ some h → (t : Tally) × (decide S k l ≡ some t)
@@ -111,7 +112,7 @@ module _ (S : System) where
   pub decision-log : (s : Site S) (log : Log) (t : Tally) → decision S s log ≡ some t → decide S (s .round) log ≡ some t
   decision-log s log t e =
       subst (λ (l : Log). decide S (s .round) l ≡ some t) (take-append-drop (s .position) log)
-        (decide-grows S (s .round) (take (s .position) log) (drop (s .position) log) t e)
+      (decide-grows S (s .round) (take (s .position) log) (drop (s .position) log) t e)
 
   settled-grows : (log more : Log) (k : ℕ) (g : Set) → Settled log k g → Settled (log ++ more) k g
   settled-grows log more k g v = record { past = v .past; at = history-grows k log more (v .past) (v .at); same = v .same }
@@ -120,9 +121,11 @@ module _ (S : System) where
       → SettledAt log (finish S (tallyOr o) s)
   finish-settles s log none e h v = absurd (let z : _≡_ {A = ℕ} 0 1 = cc (sym h) in omega arith)
   finish-settles s log (some t) e h v =
-      record
-        { past = extend (v .past) t; at = history-next (s .round) log (v .past) t (v .at) (decision-log s log t e)
-        ; same = λ i. v .same i ∪ (ncSet S t ∪ cSet S t) }
+      record {
+        past = extend (v .past) t;
+        at = history-next (s .round) log (v .past) t (v .at) (decision-log s log t e);
+        same = λ i. v .same i ∪ (ncSet S t ∪ cSet S t);
+      }
 
   pub settled-start : AllSettled (start S)
   unfolding history
@@ -140,7 +143,7 @@ module _ (S : System) where
   settled-keeps w (falseEntry j r nc c) v h = λ i. settled-grows (w .log) (_ ∷ []) _ _ (v i)
   settled-keeps w (turn i) v h =
       turn-keeps S AllSettled (acknowledges S (w .site i)) {w = acknowledgingTurn S i (w .site i) w} {v = proposingTurn S i (w .site i) w}
-        (λ e. touch w i _ v (v i)) (λ e j. settled-grows (w .log) (entryOf S i (w .site i) ∷ []) _ _ (touch w i _ v (v i) j))
+      (λ e. touch w i _ v (v i)) (λ e j. settled-grows (w .log) (entryOf S i (w .site i) ∷ []) _ _ (touch w i _ v (v i) j))
   settled-keeps w (fastDelivery i m) v h = touch w i _ v (v i)
   settled-keeps w (logRead i) v h = touch w i _ v (v i)
   settled-keeps w (roundEnd i) v h = touch w i _ v (finish-settles (w .site i) (w .log) (decision S (w .site i) (w .log)) refl (h .1 .1 .1 .0) (v i))

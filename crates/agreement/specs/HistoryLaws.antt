@@ -24,8 +24,8 @@ module _ (S : System) where
   segment-in : (g : Set) (t : Tally) (m : ℕ) → contents (segment S g t) m ≡ true → (m < commands) × (g m ≡ false) × ((ncSet S t ∪ cSet S t) m ≡ true)
   segment-in g t m h =
       ⊎-elim (λ z. part (ncSet S t) m (λ e. true-or (ncSet S t m) (cSet S t m) e) z) (λ z. part (cSet S t) m (λ e. or-true (ncSet S t m) (cSet S t m) e) z)
-        (either (contents (members commands (ncSet S t ∖ g)) m) (contents (members commands (cSet S t ∖ g)) m)
-          (sym (contents-append (members commands (ncSet S t ∖ g)) (members commands (cSet S t ∖ g)) m) ∙ h))
+      (either (contents (members commands (ncSet S t ∖ g)) m) (contents (members commands (cSet S t ∖ g)) m)
+      (sym (contents-append (members commands (ncSet S t ∖ g)) (members commands (cSet S t ∖ g)) m) ∙ h))
     where
       part : (x : Set) (m : ℕ) → (x m ≡ true → (ncSet S t ∪ cSet S t) m ≡ true) → contents (members commands (x ∖ g)) m ≡ true
           → (m < commands) × (g m ≡ false) × ((ncSet S t ∪ cSet S t) m ≡ true)
@@ -36,19 +36,20 @@ module _ (S : System) where
   segment-has : (g : Set) (t : Tally) (m : ℕ) → m < commands → g m ≡ false → (ncSet S t ∪ cSet S t) m ≡ true → contents (segment S g t) m ≡ true
   segment-has g t m l e h =
       ⊎-elim
-        (λ z. contents-left N C m (members-has commands (ncSet S t ∖ g) m l (both (ncSet S t m) (not (g m)) z (ap not e))))
-        (λ z. contents-right N C m (members-has commands (cSet S t ∖ g) m l (both (cSet S t m) (not (g m)) z (ap not e))))
-        (either (ncSet S t m) (cSet S t m) h)
+      (λ z. contents-left N C m (members-has commands (ncSet S t ∖ g) m l (both (ncSet S t m) (not (g m)) z (ap not e))))
+      (λ z. contents-right N C m (members-has commands (cSet S t ∖ g) m l (both (cSet S t m) (not (g m)) z (ap not e))))
+      (either (ncSet S t m) (cSet S t m) h)
     where
       N : List ℕ
       N = members commands (ncSet S t ∖ g)
+
       C : List ℕ
       C = members commands (cSet S t ∖ g)
 
   segment-distinct : (g : Set) (t : Tally) → distinct (segment S g t) ≡ true
   segment-distinct g t =
       distinct-append (members commands (ncSet S t ∖ g)) (members commands (cSet S t ∖ g)) (members-distinct commands (ncSet S t ∖ g)) (members-distinct commands (cSet S t ∖ g))
-        (λ m h. go m (contents (members commands (cSet S t ∖ g)) m) refl (left (ncSet S t m) (not (g m)) (members-in commands (ncSet S t ∖ g) m h .1)))
+      (λ m h. go m (contents (members commands (cSet S t ∖ g)) m) refl (left (ncSet S t m) (not (g m)) (members-in commands (ncSet S t ∖ g) m h .1)))
     where
       go : (m : ℕ) (b : Bool) → contents (members commands (cSet S t ∖ g)) m ≡ b → ncSet S t m ≡ true → b ≡ false
       go m true e h =
@@ -62,21 +63,23 @@ module _ (S : System) where
 
   extend-sound : (g : History) (t : Tally) → Sound g → Sound (extend S g t)
   extend-sound g t v =
-      record
-        { member = λ m h. ⊎-elim (λ z. (v .member m z .0, true-or (g .settled m) ((ncSet S t ∪ cSet S t) m) (v .member m z .1)))
+      record {
+        member = λ m h. ⊎-elim (λ z. (v .member m z .0, true-or (g .settled m) ((ncSet S t ∪ cSet S t) m) (v .member m z .1)))
             (λ z. let w = segment-in (g .settled) t m z in (w .0, or-true (g .settled m) ((ncSet S t ∪ cSet S t) m) (w .2)))
-            (either (contents (g .sequence) m) (contents (segment S (g .settled) t) m) (sym (contents-append (g .sequence) (segment S (g .settled) t) m) ∙ h))
-        ; has = λ m l h. new m l h (known (g .settled m))
-        ; once = distinct-append (g .sequence) (segment S (g .settled) t) (v .once) (segment-distinct (g .settled) t)
-            (λ m h. apart m (contents (segment S (g .settled) t) m) refl (v .member m h .1)) }
+            (either (contents (g .sequence) m) (contents (segment S (g .settled) t) m) (sym (contents-append (g .sequence) (segment S (g .settled) t) m) ∙ h));
+        has = λ m l h. new m l h (known (g .settled m));
+        once = distinct-append (g .sequence) (segment S (g .settled) t) (v .once) (segment-distinct (g .settled) t)
+            (λ m h. apart m (contents (segment S (g .settled) t) m) refl (v .member m h .1));
+      }
     where
       new : (m : ℕ) → m < commands → (g .settled m || (ncSet S t ∪ cSet S t) m) ≡ true → (g .settled m ≡ true) ⊎ (g .settled m ≡ false)
           → contents (g .sequence ++ segment S (g .settled) t) m ≡ true
       new m l h (inl e) = contents-left (g .sequence) (segment S (g .settled) t) m (v .has m l e)
       new m l h (inr e) =
           contents-right (g .sequence) (segment S (g .settled) t) m
-            (segment-has (g .settled) t m l e
-              (⊎-elim (λ z. absurd (never (g .settled m) z e)) (λ z. z) (either (g .settled m) ((ncSet S t ∪ cSet S t) m) h)))
+          (segment-has (g .settled) t m l e
+          (⊎-elim (λ z. absurd (never (g .settled m) z e)) (λ z. z) (either (g .settled m) ((ncSet S t ∪ cSet S t) m) h)))
+
       apart : (m : ℕ) (b : Bool) → contents (segment S (g .settled) t) m ≡ b → g .settled m ≡ true → b ≡ false
       apart m true e h = absurd (never (g .settled m) h (segment-in (g .settled) t m e .1))
       apart m false e h = refl
@@ -86,6 +89,6 @@ module _ (S : System) where
   history-sound zero l h e = none-some e
   history-sound (suc zero) l h e =
       subst (λ (x : History). Sound x) (same-some e)
-        (record { member = λ m z. absurd (never false z refl); has = λ m b z. absurd (never false z refl); once = refl })
+      (record { member = λ m z. absurd (never false z refl); has = λ m b z. absurd (never false z refl); once = refl })
   history-sound (suc (suc k)) l h e =
       let w = history-last S k l h e in subst (λ (x : History). Sound x) (w .4) (extend-sound (w .0) (w .1) (history-sound (suc k) l (w .0) (w .2)))

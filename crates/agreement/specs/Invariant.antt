@@ -24,18 +24,26 @@ module _ (S : System) where
 
   pub good-start : Good (start S)
   good-start =
-      record
-        { settled = settled-start S; pending = pending-start S; promises = promises-start S; heard = heard-start S
-        ; faithful = faithful-start S; traced = traced-start S }
+      record {
+        settled = settled-start S;
+        pending = pending-start S;
+        promises = promises-start S;
+        heard = heard-start S;
+        faithful = faithful-start S;
+        traced = traced-start S;
+      }
 
   module _ (f : ℕ) (sizes : Sizes S f) where
     pub good-keeps : (w : World S) (t : Step) → Good w → Met (demands S w t) → Good (change S w t)
     good-keeps w t g h =
-        record
-          { settled = settled-keeps S w t (g .settled) h; pending = pending-keeps S w t (g .pending) h
-          ; promises = promises-keep S w t (g .pending) (g .promises) h; heard = heard-keeps S w t (g .heard) h
-          ; faithful = faithful-keeps S w t (g .faithful) h
-          ; traced = traced-keeps S f sizes w t (g .settled) (g .pending) (g .promises) (g .heard) (g .traced) h }
+        record {
+          settled = settled-keeps S w t (g .settled) h;
+          pending = pending-keeps S w t (g .pending) h;
+          promises = promises-keep S w t (g .pending) (g .promises) h;
+          heard = heard-keeps S w t (g .heard) h;
+          faithful = faithful-keeps S w t (g .faithful) h;
+          traced = traced-keeps S f sizes w t (g .settled) (g .pending) (g .promises) (g .heard) (g .traced) h;
+        }
 
     pub good-step : (w : World S) (t : Step) → Good w → Good (step S w t)
     good-step = step-keeps S Good good-keeps

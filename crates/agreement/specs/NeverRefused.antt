@@ -115,10 +115,13 @@ quiet e = absurd (never false e refl)
 distinct-count : (n : ℕ) (l : List ℕ) → distinct l ≡ true → ((m : ℕ) → contents l m ≡ true → m < n) → length l ≤ count n (contents l)
 distinct-count n [] h b = omega arith
 distinct-count n (x ∷ l) h b =
-    omega (arith, distinct-count n l (right (not (contents l x)) (distinct l) h) (λ m k. b m (or-true (eqb m x) (contents l m) k)),
+    omega (
+      arith,
+      distinct-count n l (right (not (contents l x)) (distinct l) h) (λ m k. b m (or-true (eqb m x) (contents l m) k)),
       count-split n (contents (x ∷ l)) (contents l),
       count-mono n (contents l) (λ m. contents (x ∷ l) m && contents l m) (λ m k e. both (contents (x ∷ l) m) (contents l m) (or-true (eqb m x) (contents l m) e) e),
-      count-at n (λ m. contents (x ∷ l) m && not (contents l m)) x (b x here) (both (contents (x ∷ l) x) (not (contents l x)) here (left (not (contents l x)) (distinct l) h)))
+      count-at n (λ m. contents (x ∷ l) m && not (contents l m)) x (b x here) (both (contents (x ∷ l) x) (not (contents l x)) here (left (not (contents l x)) (distinct l) h)),
+    )
   where
     here : contents (x ∷ l) x ≡ true
     here = true-or (eqb x x) (contents l x) (eq-eqb x x refl)
@@ -149,17 +152,21 @@ module _ (S : System) (f : ℕ) (sizes : Sizes S f) where
     where
       l : List ℕ
       l = v .past .sequence ++ members commands fast
+
       s : Sound S (v .past)
       s = history-sound S k log (v .past) (v .at)
+
       apart : (m : ℕ) (b : Bool) → contents (members commands fast) m ≡ b → v .past .settled m ≡ true → b ≡ false
       apart m true e z = absurd (never (v .past .settled m) z (h (v .past) (v .at) m (members-in commands fast m e .1)))
       apart m false e z = refl
+
       once : distinct l ≡ true
       once = distinct-append (v .past .sequence) (members commands fast) (s .once) (members-distinct commands fast) (λ m z. apart m (contents (members commands fast) m) refl (s .member m z .1))
+
       below : (m : ℕ) → contents l m ≡ true → m < commands
       below m z =
           ⊎-elim (λ y. s .member m y .0) (λ y. members-in commands fast m y .0)
-            (either (contents (v .past .sequence) m) (contents (members commands fast) m) (sym (contents-append (v .past .sequence) (members commands fast) m) ∙ z))
+          (either (contents (v .past .sequence) m) (contents (members commands fast) m) (sym (contents-append (v .past .sequence) (members commands fast) m) ∙ z))
 
   module _ (w : World S) (good : Good S w) where
     -- What is pending at a site is not settled below its round.
@@ -171,24 +178,34 @@ module _ (S : System) (f : ℕ) (sizes : Sizes S f) where
     room-fast : (i m : ℕ) → ltb m commands ≡ true → w .site i .pending m ≡ true → not (w .site i .fast m) ≡ true → room S (w .site i) 1 ≡ true
     room-fast i m lm pm fm =
         le-leb (length (w .site i .ledger .deliveries) + 1) commands
-          (omega (arith, sym (length-commands (w .site i .ledger .deliveries ++ new)), length-append (w .site i .ledger .deliveries) new,
-            list-room (w .log) (w .site i .round) (w .site i .fast ∪ only m) (commandsOf (w .site i .ledger .deliveries ++ new)) v
-              (λ h e k z. pending-new i h e k (⊎-elim (good .pending i .holds k) (λ y. ap (w .site i .pending) (eqb-true k m y) ∙ pm) (either (w .site i .fast k) (eqb k m) z)))))
+        (omega (
+          arith,
+          sym (length-commands (w .site i .ledger .deliveries ++ new)),
+          length-append (w .site i .ledger .deliveries) new,
+          list-room (w .log) (w .site i .round) (w .site i .fast ∪ only m) (commandsOf (w .site i .ledger .deliveries ++ new)) v
+              (λ h e k z. pending-new i h e k (⊎-elim (good .pending i .holds k) (λ y. ap (w .site i .pending) (eqb-true k m y) ∙ pm) (either (w .site i .fast k) (eqb k m) z))),
+        ))
       where
         new : List (Delivery (machine .Answer))
         new = record { command = m; answer = machine .answer (w .site i .ledger .state) m } ∷ []
+
         v : Traced S (w .log) (w .site i .round) (w .site i .fast ∪ only m) (commandsOf (w .site i .ledger .deliveries ++ new))
         v = fast-traced S (w .log) (w .site i) m (ltb-true m commands lm) pm (not-true (w .site i .fast m) fm) (good .pending i) (good .traced i)
 
     room-end : (i : ℕ) → isSome (decision S (w .site i) (w .log)) ≡ true → room S (w .site i) (length (due S (tallyOr (decision S (w .site i) (w .log))) (w .site i))) ≡ true
     room-end i h =
         le-leb (length (w .site i .ledger .deliveries) + length (due S t (w .site i))) commands
-          (omega (arith, length-commands (w .site i .ledger .deliveries), ap length (fold-commands S (w .site i .ledger) (due S t (w .site i))),
-            length-append (commandsOf (w .site i .ledger .deliveries)) (due S t (w .site i)),
-            list-room (w .log) (suc (w .site i .round)) ∅ (commandsOf (finish S t (w .site i) .ledger .deliveries)) v (λ h e m z. absurd (never false z refl))))
+        (omega (
+          arith,
+          length-commands (w .site i .ledger .deliveries),
+          ap length (fold-commands S (w .site i .ledger) (due S t (w .site i))),
+          length-append (commandsOf (w .site i .ledger .deliveries)) (due S t (w .site i)),
+          list-room (w .log) (suc (w .site i .round)) ∅ (commandsOf (finish S t (w .site i) .ledger .deliveries)) v (λ h e m z. absurd (never false z refl)),
+        ))
       where
         t : Tally
         t = tallyOr (decision S (w .site i) (w .log))
+
         v : Traced S (w .log) (suc (w .site i .round)) ∅ (commandsOf (finish S (tallyOr (decision S (w .site i) (w .log))) (w .site i) .ledger .deliveries))
         v = finish-traced S f sizes w i (decision S (w .site i) (w .log)) refl h (good .settled) (good .pending) (good .promises) (good .heard) (good .traced i)
 
@@ -213,14 +230,17 @@ module _ (S : System) (f : ℕ) (sizes : Sizes S f) where
     pub no-third : (i : ℕ) (r : Refusal) → judge S w (turn i) ≡ Refused r → isThird r ≡ false
     no-third i r e =
         spared isThird (demands S w (turn i))
-          (quiet, λ a. (quiet, λ b. (quiet, λ c. (quiet, λ d. ((λ z. or-true (acknowledges S (w .site i)) (ltb (entries i (w .site i .round) (w .log)) 2) (first b c)), λ z. (quiet, λ y. tt))))))
-          r e
+        (quiet, λ a. (quiet, λ b. (quiet, λ c. (quiet, λ d. ((λ z. or-true (acknowledges S (w .site i)) (ltb (entries i (w .site i .round) (w .log)) 2) (first b c)), λ z. (quiet, λ y. tt))))))
+        r e
       where
         first : correct S i ≡ true → isAcknowledging (w .site i .phase) ≡ true → ltb (entries i (w .site i .round) (w .log)) 2 ≡ true
         first b c =
             lt-ltb (entries i (w .site i .round) (w .log)) 2
-              (omega (arith, no-entries i (w .site i .round) (w .log)
-                (λ x l ex er. ⊎-elim (λ z. omega arith) (λ z. not-waiting (w .site i .phase) c (z .1)) (good .promises i b .spoke x l ex))))
+            (omega (
+              arith,
+              no-entries i (w .site i .round) (w .log)
+                  (λ x l ex er. ⊎-elim (λ z. omega arith) (λ z. not-waiting (w .site i .phase) c (z .1)) (good .promises i b .spoke x l ex)),
+            ))
 
     -- In the round after the last that the log takes everything is delivered, so no turn is enabled there: refusal 8 is never met.
     pub no-last-round : Exchange machine → Limits S → Brought S w → (t : Step) (r : Refusal) → judge S w t ≡ Refused r → isLastRound r ≡ false
@@ -231,11 +251,18 @@ module _ (S : System) (f : ℕ) (sizes : Sizes S f) where
             let z = any-some commands (unacknowledged S (w .site i)) h in
             let m = z .0 in
             let undelivered = neither (w .site i .delivered m) (w .site i .pending m)
-                  (not-true (w .site i .delivered m || w .site i .pending m) (right (w .site i .received m) (not (w .site i .delivered m || w .site i .pending m)) (z .2))) .0 in
+            (not-true (w .site i .delivered m || w .site i .pending m) (right (w .site i .received m) (not (w .site i .delivered m || w .site i .pending m)) (z .2))) .0 in
             le-leb (w .site i .round) rounds
-              (omega (arith, limits .fits, limits .enough, round-delivered S f sizes law w (good .settled) brought i,
-                count-split commands (λ k. true) (w .site i .delivered), count-all commands (λ k. true) (λ k l. refl),
-                count-at commands (λ k. not (w .site i .delivered k)) m (z .1) (ap not undelivered)))
+            (omega (
+              arith,
+              limits .fits,
+              limits .enough,
+              round-delivered S f sizes law w (good .settled) brought i,
+              count-split commands (λ k. true) (w .site i .delivered),
+              count-all commands (λ k. true) (λ k l. refl),
+              count-at commands (λ k. not (w .site i .delivered k)) m (z .1) (ap not undelivered),
+            ))
+
         rounds-spared : (t : Step) → Spared isLastRound (demands S w t)
         rounds-spared (command i m) = unmentioned isLastRound (demands S w (command i m)) refl
         rounds-spared (acknowledgment i j r a) = unmentioned isLastRound (demands S w (acknowledgment i j r a)) refl

@@ -40,9 +40,11 @@ module _ (S : System) where
 
   fast-more : (s : Site S) (m : ℕ) → s .pending m ≡ true → PendingAt s → Pending (s .received) (s .delivered) (s .pending) (s .fast ∪ only m)
   fast-more s m p v =
-      record
-        { inside = v .inside; calm = v .calm
-        ; holds = λ k h. ⊎-elim (v .holds k) (λ e. ap (s .pending) (eqb-true k m e) ∙ p) (either (s .fast k) (eqb k m) h) }
+      record {
+        inside = v .inside;
+        calm = v .calm;
+        holds = λ k h. ⊎-elim (v .holds k) (λ e. ap (s .pending) (eqb-true k m e) ∙ p) (either (s .fast k) (eqb k m) h);
+      }
 
   nothing : (received delivered : Set) → Pending received delivered ∅ ∅
   nothing received delivered = record { inside = λ m h. absurd (never false h refl); calm = free-empty; holds = λ m h. h }
@@ -62,8 +64,8 @@ module _ (S : System) where
   pending-keeps w (falseEntry j r nc c) v h = v
   pending-keeps w (turn i) v h =
       turn-keeps S AllPending (acknowledges S (w .site i)) {w = acknowledgingTurn S i (w .site i) w} {v = proposingTurn S i (w .site i) w}
-        (λ e. touch w i _ v (record { inside = λ m k. k; calm = e; holds = λ m k. v i .inside m (v i .holds m k) }))
-        (λ e. touch w i _ v (v i))
+      (λ e. touch w i _ v (record { inside = λ m k. k; calm = e; holds = λ m k. v i .inside m (v i .holds m k) }))
+      (λ e. touch w i _ v (v i))
   pending-keeps w (fastDelivery i m) v h = touch w i _ v (fast-more (w .site i) m (h .1 .1 .1 .0) (v i))
   pending-keeps w (logRead i) v h = touch w i _ v (v i)
   pending-keeps w (roundEnd i) v h = touch w i _ v (nothing _ _)

@@ -74,27 +74,32 @@ module _ (S : System) where
       → Promise log acks j (s .round) (s .pending) (isWaiting (s .phase))
       → Promise log (grown acks (s .round) (undelivered S s)) j (s .round) (undelivered S s) (isWaiting (s .phase))
   acknowledge-keeps log acks j s p f a v =
-      record
-        { current = λ r m h. ⊎-elim (λ z. old r m (v .current r m z)) (λ z. inr z) (grown-said acks (s .round) (undelivered S s) r m h)
-        ; calm = λ r a b la lb ha hb.
-            calm r a b la lb (grown-said acks (s .round) (undelivered S s) r a ha) (grown-said acks (s .round) (undelivered S s) r b hb)
-        ; spoke = v .spoke
-        ; kept = λ e l ej m h. ⊎-elim (v .kept e l ej m) (λ z. late e l ej (z .0)) (grown-said acks (s .round) (undelivered S s) (e .round) m h) }
+      record {
+        current = λ r m h. ⊎-elim (λ z. old r m (v .current r m z)) (λ z. inr z) (grown-said acks (s .round) (undelivered S s) r m h);
+        calm = λ r a b la lb ha hb.
+            calm r a b la lb (grown-said acks (s .round) (undelivered S s) r a ha) (grown-said acks (s .round) (undelivered S s) r b hb);
+        spoke = v .spoke;
+        kept = λ e l ej m h. ⊎-elim (v .kept e l ej m) (λ z. late e l ej (z .0)) (grown-said acks (s .round) (undelivered S s) (e .round) m h);
+      }
     where
       old : (r m : ℕ) → (r < s .round) ⊎ ((r ≡ s .round) × (s .pending m ≡ true)) → (r < s .round) ⊎ ((r ≡ s .round) × (undelivered S s m ≡ true))
       old r m (inl h) = inl h
       old r m (inr h) = inr (h .0, p .inside m (h .1))
+
       -- what was said in this round is undelivered
       here : (m : ℕ) → said (acks (s .round)) m ≡ true → undelivered S s m ≡ true
       here m h = ⊎-elim (λ z. absurd (omega arith)) (λ z. p .inside m (z .1)) (v .current (s .round) m h)
+
       new : (r m : ℕ) → r ≡ s .round → (said (acks r) m ≡ true) ⊎ ((r ≡ s .round) × (undelivered S s m ≡ true)) → undelivered S s m ≡ true
       new r m e (inl h) = here m (subst (λ (x : ℕ). said (acks x) m ≡ true) e h)
       new r m e (inr h) = h .1
+
       calm : (r a b : ℕ) → a < commands → b < commands → (said (acks r) a ≡ true) ⊎ ((r ≡ s .round) × (undelivered S s a ≡ true))
           → (said (acks r) b ≡ true) ⊎ ((r ≡ s .round) × (undelivered S s b ≡ true)) → machine .conflict a b ≡ false
       calm r a b la lb (inl ha) (inl hb) = v .calm r a b la lb ha hb
       calm r a b la lb (inl ha) (inr hb) = free-pair S (undelivered S s) f a b la lb (new r a (hb .0) (inl ha)) (hb .1)
       calm r a b la lb (inr ha) hb = free-pair S (undelivered S s) f a b la lb (ha .1) (new r b (ha .0) hb)
+
       -- it has no entry of this round yet
       late : (e : Entry) → Logged e log → e .site ≡ j → e .round ≡ s .round → {A : Type 0} → A
       late e l ej er = ⊎-elim (λ z. absurd (omega arith)) (λ z. absurd (not-waiting (s .phase) a (z .1))) (v .spoke e l ej)
@@ -103,41 +108,52 @@ module _ (S : System) where
       → Promise log acks j (s .round) (s .pending) (isWaiting (s .phase))
       → Promise (log ++ (entryOf S j s ∷ [])) acks j (s .round) (s .pending) true
   propose-keeps log acks j s v =
-      record
-        { current = v .current; calm = v .calm
-        ; spoke = λ e l ej. ⊎-elim (λ z. old e (v .spoke e z ej)) (λ z. inr (ap (λ (x : Entry). x .round) z, refl)) (logged-split e (entryOf S j s) log l)
-        ; kept = λ e l ej m h. ⊎-elim (λ z. v .kept e z ej m h) (λ z. new e z m h) (logged-split e (entryOf S j s) log l) }
+      record {
+        current = v .current;
+        calm = v .calm;
+        spoke = λ e l ej. ⊎-elim (λ z. old e (v .spoke e z ej)) (λ z. inr (ap (λ (x : Entry). x .round) z, refl)) (logged-split e (entryOf S j s) log l);
+        kept = λ e l ej m h. ⊎-elim (λ z. v .kept e z ej m h) (λ z. new e z m h) (logged-split e (entryOf S j s) log l);
+      }
     where
       old : (e : Entry) → (e .round < s .round) ⊎ ((e .round ≡ s .round) × (isWaiting (s .phase) ≡ true)) → (e .round < s .round) ⊎ ((e .round ≡ s .round) × (true ≡ true))
       old e (inl h) = inl h
       old e (inr h) = inr (h .0, refl)
+
       new : (e : Entry) → e ≡ entryOf S j s → (m : ℕ) → said (acks (e .round)) m ≡ true → e .nc m ≡ true
       new e q m h =
           ap (λ (x : Entry). x .nc m) q
-            ∙ ⊎-elim (λ z. absurd (omega arith)) (λ z. z .1)
-                (v .current (s .round) m (subst (λ (x : Entry). said (acks (x .round)) m ≡ true) q h))
+          ∙ ⊎-elim (λ z. absurd (omega arith)) (λ z. z .1)
+          (v .current (s .round) m (subst (λ (x : Entry). said (acks (x .round)) m ≡ true) q h))
 
   -- An entry of another site changes nothing.
   other-keeps : (log : Log) (acks : ℕ → List Set) (j k : ℕ) (pending : Set) (waits : Bool) (x : Entry) → (x .site ≡ j → ⊥)
       → Promise log acks j k pending waits → Promise (log ++ (x ∷ [])) acks j k pending waits
   other-keeps log acks j k pending waits x apart v =
-      record
-        { current = v .current; calm = v .calm
-        ; spoke = λ e l ej. ⊎-elim (λ z. v .spoke e z ej) (λ z. absurd (apart (sym (ap (λ (y : Entry). y .site) z) ∙ ej))) (logged-split e x log l)
-        ; kept = λ e l ej. ⊎-elim (λ z. v .kept e z ej) (λ z. absurd (apart (sym (ap (λ (y : Entry). y .site) z) ∙ ej))) (logged-split e x log l) }
+      record {
+        current = v .current;
+        calm = v .calm;
+        spoke = λ e l ej. ⊎-elim (λ z. v .spoke e z ej) (λ z. absurd (apart (sym (ap (λ (y : Entry). y .site) z) ∙ ej))) (logged-split e x log l);
+        kept = λ e l ej. ⊎-elim (λ z. v .kept e z ej) (λ z. absurd (apart (sym (ap (λ (y : Entry). y .site) z) ∙ ej))) (logged-split e x log l);
+      }
 
   finish-keeps : (log : Log) (acks : ℕ → List Set) (j k : ℕ) (pending : Set) (waits : Bool) → Promise log acks j k pending waits → Promise log acks j (suc k) ∅ false
   finish-keeps log acks j k pending waits v =
-      record
-        { current = λ r m h. inl (⊎-elim (λ z. omega arith) (λ (z : (r ≡ k) × (pending m ≡ true)). omega (arith, z .0)) (v .current r m h)); calm = v .calm
-        ; spoke = λ e l ej. inl (⊎-elim (λ z. omega arith) (λ (z : (e .round ≡ k) × (waits ≡ true)). omega (arith, z .0)) (v .spoke e l ej)); kept = v .kept }
+      record {
+        current = λ r m h. inl (⊎-elim (λ z. omega arith) (λ (z : (r ≡ k) × (pending m ≡ true)). omega (arith, z .0)) (v .current r m h));
+        calm = v .calm;
+        spoke = λ e l ej. inl (⊎-elim (λ z. omega arith) (λ (z : (e .round ≡ k) × (waits ≡ true)). omega (arith, z .0)) (v .spoke e l ej));
+        kept = v .kept;
+      }
 
   pub promises-start : Promises (start S)
   unfolding said
   promises-start j h =
-      record
-        { current = λ r m k. absurd (never false k refl); calm = λ r a b la lb ha hb. absurd (never false ha refl); spoke = λ e l. absurd l
-        ; kept = λ e l. absurd l }
+      record {
+        current = λ r m k. absurd (never false k refl);
+        calm = λ r a b la lb ha hb. absurd (never false ha refl);
+        spoke = λ e l. absurd l;
+        kept = λ e l. absurd l;
+      }
 
   touch : (w : World S) (i : ℕ) (s : Site S) → Promises w → (correct S i ≡ true → PromiseAt (w .log) (w .acks) i s) → (j : ℕ) → correct S j ≡ true → PromiseAt (w .log) (w .acks) j (pick (eqb j i) s (w .site j))
   touch w i s v h = put-keeps S (λ j s. correct S j ≡ true → PromiseAt (w .log) (w .acks) j s) (w .site) i s h (λ j e. v j)
@@ -148,12 +164,13 @@ module _ (S : System) where
     where
       s : Site S
       s = w .site i
+
       go : (b : Bool) → eqb j i ≡ b
           → PromiseAt (w .log) (λ x r. pick (b && eqb r (s .round)) (w .acks x r ++ (undelivered S s ∷ [])) (w .acks x r)) j
-              (pick b (acknowledge S s) (w .site j))
+          (pick b (acknowledge S s) (w .site j))
       go true e =
           subst (λ (x : ℕ). Promise (w .log) (grown (w .acks x) (s .round) (undelivered S s)) x (s .round) (undelivered S s) (isWaiting (s .phase)))
-            (sym (eqb-true j i e)) (acknowledge-keeps (w .log) (w .acks i) i s p f a (v i ci))
+          (sym (eqb-true j i e)) (acknowledge-keeps (w .log) (w .acks i) i s p f a (v i ci))
       go false e = v j c
 
   proposing-turn : (w : World S) (i : ℕ) → Promises w → correct S i ≡ true → Promises (proposingTurn S i (w .site i) w)
@@ -161,11 +178,12 @@ module _ (S : System) where
     where
       s : Site S
       s = w .site i
+
       go : (b : Bool) → eqb j i ≡ b
           → PromiseAt (w .log ++ (entryOf S i s ∷ [])) (w .acks) j (pick b (propose S s) (w .site j))
       go true e =
           subst (λ (x : ℕ). Promise (w .log ++ (entryOf S i s ∷ [])) (w .acks x) x (s .round) (s .pending) true) (sym (eqb-true j i e))
-            (propose-keeps (w .log) (w .acks i) i s (v i ci))
+          (propose-keeps (w .log) (w .acks i) i s (v i ci))
       go false e = other-keeps (w .log) (w .acks j) j _ _ _ (entryOf S i s) (λ q. never (eqb j i) (eq-eqb j i (sym q)) e) (v j c)
 
   pub promises-keep : (w : World S) (t : Step) → AllPending S w → Promises w → Met (demands S w t) → Promises (change S w t)
@@ -176,10 +194,10 @@ module _ (S : System) where
   promises-keep w (falseCheck i j r x) p v h = touch w i _ v (v i)
   promises-keep w (falseEntry j r nc c) p v h =
       λ i k. other-keeps (w .log) (w .acks i) i _ _ _ (record { site = j; round = r; nc = nc; c = c })
-        (λ e. not-both (System.faulty S i) k (ap (System.faulty S) (sym e) ∙ h .1 .1 .1 .1 .1 .0)) (v i k)
+      (λ e. not-both (System.faulty S i) k (ap (System.faulty S) (sym e) ∙ h .1 .1 .1 .1 .1 .0)) (v i k)
   promises-keep w (turn i) p v h =
       turn-keeps S Promises (acknowledges S (w .site i)) {w = acknowledgingTurn S i (w .site i) w} {v = proposingTurn S i (w .site i) w}
-        (λ e. acknowledging-turn w i v (p i) (h .1 .0) (h .1 .1 .0) e) (λ e. proposing-turn w i v (h .1 .0))
+      (λ e. acknowledging-turn w i v (p i) (h .1 .0) (h .1 .1 .0) e) (λ e. proposing-turn w i v (h .1 .0))
   promises-keep w (fastDelivery i m) p v h = touch w i _ v (v i)
   promises-keep w (logRead i) p v h = touch w i _ v (v i)
   promises-keep w (roundEnd i) p v h = touch w i _ v (λ c. finish-keeps (w .log) (w .acks i) i _ _ _ (v i c))

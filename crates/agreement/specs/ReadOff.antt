@@ -55,9 +55,10 @@ module _ (S : System) where
 
   longer-chain : (a b c : Log) → Longer a b → Longer b c → Longer a c
   longer-chain a b c h k =
-      record
-        { more = h .more ++ k .more
-        ; whole = sym (append-assoc a (h .more) (k .more)) ∙ ap (λ (l : Log). l ++ k .more) (h .whole) ∙ k .whole }
+      record {
+        more = h .more ++ k .more;
+        whole = sym (append-assoc a (h .more) (k .more)) ∙ ap (λ (l : Log). l ++ k .more) (h .whole) ∙ k .whole;
+      }
 
   change-longer : (w : World S) (t : Step) → Longer (w .log) (change S w t .log)
   change-longer w (command i m) = same-log (w .log)
@@ -68,7 +69,7 @@ module _ (S : System) where
   change-longer w (falseEntry j r nc c) = record { more = _; whole = refl }
   change-longer w (turn i) =
       turn-keeps S (λ (v : World S). Longer (w .log) (v .log)) (acknowledges S (w .site i)) {w = acknowledgingTurn S i (w .site i) w} {v = proposingTurn S i (w .site i) w}
-        (λ e. same-log (w .log)) (λ e. record { more = entryOf S i (w .site i) ∷ []; whole = refl })
+      (λ e. same-log (w .log)) (λ e. record { more = entryOf S i (w .site i) ∷ []; whole = refl })
   change-longer w (fastDelivery i m) = same-log (w .log)
   change-longer w (logRead i) = same-log (w .log)
   change-longer w (roundEnd i) = same-log (w .log)
@@ -98,14 +99,16 @@ module _ (S : System) where
     where
       v : Sound S (g .traced i .past)
       v = history-sound S (w .site i .round) (w .log) (g .traced i .past) (g .traced i .at)
+
       settled : contents (g .traced i .past .sequence) m ≡ w .site i .delivered m
       settled =
           same-test (contents (g .traced i .past .sequence) m) (g .traced i .past .settled m) (λ h. v .member m h .1) (v .has m l)
           ∙ ap (λ (h : History). h .settled m) (same-some (sym (g .traced i .at) ∙ g .settled i .at)) ∙ ap (λ (x : Set). x m) (g .settled i .same)
+
       fast : contents (members commands (w .site i .fast)) m ≡ w .site i .fast m
       fast =
           same-test (contents (members commands (w .site i .fast)) m) (w .site i .fast m)
-            (λ h. members-in commands (w .site i .fast) m h .1) (members-has commands (w .site i .fast) m l)
+          (λ h. members-in commands (w .site i .fast) m h .1) (members-has commands (w .site i .fast) m l)
 
   -- A round end delivers the decided round's NC, then its C, without what was delivered before.
   due-new : (w : World S) → Good S w → (i : ℕ) (t : Tally)
@@ -113,20 +116,22 @@ module _ (S : System) where
   due-new w g i t =
       (λ k. (D ++ first k) ++ members commands (cSet S t ∖ contents (D ++ first k)))
       ∙ ap (λ (l : List ℕ). (D ++ N) ++ l)
-          (members-ext commands (cSet S t ∖ contents (D ++ N)) (cSet S t ∖ (w .site i .delivered ∪ w .site i .fast))
-            (λ m l. ap (λ (b : Bool). cSet S t m && not b) (contents-append D N m)
-              ∙ skip-new (proposed S t m) (ncSet S t m) (contents D m) ((w .site i .delivered ∪ w .site i .fast) m) (contents N m) (list-contents w g i m l)
-                  (λ h. left (ncSet S t m) (not ((w .site i .delivered ∪ w .site i .fast) m)) (members-in commands (ncSet S t ∖ (w .site i .delivered ∪ w .site i .fast)) m h .1))))
+      (members-ext commands (cSet S t ∖ contents (D ++ N)) (cSet S t ∖ (w .site i .delivered ∪ w .site i .fast))
+      (λ m l. ap (λ (b : Bool). cSet S t m && not b) (contents-append D N m)
+      ∙ skip-new (proposed S t m) (ncSet S t m) (contents D m) ((w .site i .delivered ∪ w .site i .fast) m) (contents N m) (list-contents w g i m l)
+      (λ h. left (ncSet S t m) (not ((w .site i .delivered ∪ w .site i .fast) m)) (members-in commands (ncSet S t ∖ (w .site i .delivered ∪ w .site i .fast)) m h .1))))
       ∙ append-assoc D N (members commands (cSet S t ∖ (w .site i .delivered ∪ w .site i .fast)))
     where
       D : List ℕ
       D = commandsOf (w .site i .ledger .deliveries)
+
       N : List ℕ
       N = members commands (ncSet S t ∖ (w .site i .delivered ∪ w .site i .fast))
+
       first : members commands (ncSet S t ∖ contents D) ≡ N
       first =
           members-ext commands (ncSet S t ∖ contents D) (ncSet S t ∖ (w .site i .delivered ∪ w .site i .fast))
-            (λ m l. same-skip (ncSet S t m) (contents D m) ((w .site i .delivered ∪ w .site i .fast) m) (list-contents w g i m l))
+          (λ m l. same-skip (ncSet S t m) (contents D m) ((w .site i .delivered ∪ w .site i .fast) m) (list-contents w g i m l))
 
   -- A step that only touches what is not read off.
   quiet : (w : World S) (i i′ : ℕ) (s : Site S) → reading s ≡ reading (w .site i′) → reading (w .site i) ≡ reading (pick (eqb i i′) s (w .site i))
@@ -154,7 +159,7 @@ module _ (S : System) where
       decided : decide S (w .site i .round) log ≡ some t
       decided =
           subst (λ (l : Log). decide S (w .site i .round) l ≡ some t) (more .whole)
-            (decide-grows S (w .site i .round) (w .log) (more .more) t (decision-log S (w .site i) (w .log) t e))
+          (decide-grows S (w .site i .round) (w .log) (more .more) t (decision-log S (w .site i) (w .log) t e))
 
   change-reads : (w : World S) → Good S w → (i : ℕ) (t : Step) → Met (demands S w t) → (log : Log) → Longer (w .log) log
       → readStep S i log (reading (w .site i)) t ≡ reading (change S w t .site i)
@@ -166,16 +171,16 @@ module _ (S : System) where
   change-reads w g i (falseEntry j r nc c) h log more = refl
   change-reads w g i (turn i′) h log more =
       turn-keeps S (λ (v : World S). reading (w .site i) ≡ reading (v .site i)) (acknowledges S (w .site i′)) {w = acknowledgingTurn S i′ (w .site i′) w} {v = proposingTurn S i′ (w .site i′) w}
-        (λ e. quiet w i i′ (acknowledge S (w .site i′)) refl) (λ e. quiet w i i′ (propose S (w .site i′)) refl)
+      (λ e. quiet w i i′ (acknowledge S (w .site i′)) refl) (λ e. quiet w i i′ (propose S (w .site i′)) refl)
   change-reads w g i (fastDelivery i′ m) h log more =
       loud w i i′ (deliverFast S m (w .site i′)) _
-        (λ e. (λ k. record { round = w .site (e k) .round; list = commandsOf (w .site (e k) .ledger .deliveries) ++ (m ∷ []) })
-          ∙ (λ k. record { round = w .site i′ .round; list = sym (commands-append (w .site i′ .ledger .deliveries) (record { command = m; answer = System.machine S .answer (w .site i′ .ledger .state) m } ∷ [])) k }))
+      (λ e. (λ k. record { round = w .site (e k) .round; list = commandsOf (w .site (e k) .ledger .deliveries) ++ (m ∷ []) })
+      ∙ (λ k. record { round = w .site i′ .round; list = sym (commands-append (w .site i′ .ledger .deliveries) (record { command = m; answer = System.machine S .answer (w .site i′ .ledger .state) m } ∷ [])) k }))
   change-reads w g i (logRead i′) h log more = quiet w i i′ _ refl
   change-reads w g i (roundEnd i′) h log more =
       loud w i i′ (finish S (tallyOr (decision S (w .site i′) (w .log))) (w .site i′)) _
-        (λ e. ap (λ (k : ℕ). endRound S (tallyOr (decide S (w .site k .round) log)) (reading (w .site k))) e
-          ∙ ended w g i′ (decision S (w .site i′) (w .log)) refl (h .1 .1 .1 .0) log more)
+      (λ e. ap (λ (k : ℕ). endRound S (tallyOr (decide S (w .site k .round) log)) (reading (w .site k))) e
+      ∙ ended w g i′ (decision S (w .site i′) (w .log)) refl (h .1 .1 .1 .0) log more)
 
   module _ (f : ℕ) (sizes : Sizes S f) where
     play-reads : (w : World S) → Good S w → (i : ℕ) (l : List Step) (log : Log) → Longer (play S w l .log) log
@@ -185,6 +190,7 @@ module _ (S : System) where
       where
         here : Longer (w .log) log
         here = longer-chain (w .log) (play S w (t ∷ l) .log) log (play-longer w (t ∷ l)) more
+
         go : (d : Verdict) → judge S w t ≡ d
             → foldl (readStep S i log) (reading (settle S d (change S w t) w .site i)) (taken S (settle S d (change S w t) w) l) ≡ reading (play S (settle S d (change S w t) w) l .site i)
             → foldl (readStep S i log) (reading (w .site i)) (pick (isTaken d) (t ∷ taken S (settle S d (change S w t) w) l) (taken S (settle S d (change S w t) w) l))

@@ -56,18 +56,18 @@ module _ (S : System) where
       → ((m : ℕ) → m < commands → fast m ≡ true → (ncSet S t m ≡ true) × (g m ≡ false))
       → free S (ncSet S t) ≡ true
       → Alike machine
-          (members commands fast ++ (members commands (ncSet S t ∖ (g ∪ fast)) ++ members commands (cSet S t ∖ (g ∪ fast))))
-          (segment S g t)
+      (members commands fast ++ (members commands (ncSet S t ∖ (g ∪ fast)) ++ members commands (cSet S t ∖ (g ∪ fast))))
+      (segment S g t)
   segment-alike g fast t h calm =
       chain
-        (alike-equal machine
-          ((λ i. F ++ (members-ext commands (ncSet S t ∖ (g ∪ fast)) ((ncSet S t ∖ g) ∖ fast) (λ m l. skip-both (ncSet S t m) (g m) (fast m)) i
-            ++ members-ext commands (cSet S t ∖ (g ∪ fast)) (cSet S t ∖ g) (λ m l. skip-fast (proposed S t m) (ncSet S t m) (g m) (fast m) (λ e. h m l e .0)) i))
-            ∙ sym (append-assoc F (members commands ((ncSet S t ∖ g) ∖ fast)) (members commands (cSet S t ∖ g)))))
-        (alike-after machine (members commands (cSet S t ∖ g))
-          (merge machine commands fast (ncSet S t ∖ g)
-            (λ m l e. both (ncSet S t m) (not (g m)) (h m l e .0) (ap not (h m l e .1)))
-            (λ x y lx ly hx hy. free-pair S (ncSet S t) calm x y lx ly (left (ncSet S t x) (not (g x)) hx) (left (ncSet S t y) (not (g y)) hy))))
+      (alike-equal machine
+      ((λ i. F ++ (members-ext commands (ncSet S t ∖ (g ∪ fast)) ((ncSet S t ∖ g) ∖ fast) (λ m l. skip-both (ncSet S t m) (g m) (fast m)) i
+      ++ members-ext commands (cSet S t ∖ (g ∪ fast)) (cSet S t ∖ g) (λ m l. skip-fast (proposed S t m) (ncSet S t m) (g m) (fast m) (λ e. h m l e .0)) i))
+      ∙ sym (append-assoc F (members commands ((ncSet S t ∖ g) ∖ fast)) (members commands (cSet S t ∖ g)))))
+      (alike-after machine (members commands (cSet S t ∖ g))
+      (merge machine commands fast (ncSet S t ∖ g)
+      (λ m l e. both (ncSet S t m) (not (g m)) (h m l e .0) (ap not (h m l e .1)))
+      (λ x y lx ly hx hy. free-pair S (ncSet S t) calm x y lx ly (left (ncSet S t x) (not (g x)) hx) (left (ncSet S t y) (not (g y)) hy))))
     where
       F : List ℕ
       F = members commands fast
@@ -89,28 +89,34 @@ module _ (S : System) where
   pub traced-start : AllTraced (start S)
   unfolding history
   traced-start i =
-      record
-        { past = record { settled = ∅; sequence = [] }; at = refl
-        ; alike = alike-equal machine (sym (members-none commands ∅ (λ m l. refl))) }
+      record {
+        past = record { settled = ∅; sequence = [] };
+        at = refl;
+        alike = alike-equal machine (sym (members-none commands ∅ (λ m l. refl)));
+      }
 
   pub fast-traced : (log : Log) (s : Site S) (m : ℕ) → m < commands → s .pending m ≡ true → s .fast m ≡ false → PendingAt S s → TracedAt log s
       → Traced log (s .round) (s .fast ∪ only m) (commandsOf (s .ledger .deliveries ++ (record { command = m; answer = machine .answer (s .ledger .state) m } ∷ [])))
   fast-traced log s m lm pm fm p v =
-      record
-        { past = v .past; at = v .at
-        ; alike =
+      record {
+        past = v .past;
+        at = v .at;
+        alike =
             chain (alike-equal machine (commands-append (s .ledger .deliveries) _))
-              (chain (alike-after machine (m ∷ []) (v .alike))
-                (chain (alike-equal machine (append-assoc (v .past .sequence) (members commands (s .fast)) (m ∷ [])))
-                  (alike-before machine (v .past .sequence)
-                    (chain (alike-equal machine (λ i. members commands (s .fast) ++ single i))
-                      (merge machine commands (s .fast) (s .fast ∪ only m) (λ k l e. grow (s .fast k) (eqb k m) e) (λ x y lx ly hx hy. free-pair S (s .pending) (p .calm) x y lx ly (inside x hx) (inside y hy)))))))  }
+            (chain (alike-after machine (m ∷ []) (v .alike))
+            (chain (alike-equal machine (append-assoc (v .past .sequence) (members commands (s .fast)) (m ∷ [])))
+            (alike-before machine (v .past .sequence)
+            (chain (alike-equal machine (λ i. members commands (s .fast) ++ single i))
+            (merge machine commands (s .fast) (s .fast ∪ only m) (λ k l e. grow (s .fast k) (eqb k m) e) (λ x y lx ly hx hy. free-pair S (s .pending) (p .calm) x y lx ly (inside x hx) (inside y hy)))))));
+      }
     where
       grow : (a b : Bool) → a ≡ true → (a || b) ≡ true
       grow true b e = refl
       grow false b e = absurd (never false e refl)
+
       inside : (x : ℕ) → (s .fast ∪ only m) x ≡ true → s .pending x ≡ true
       inside x h = ⊎-elim (p .holds x) (λ e. ap (s .pending) (eqb-true x m e) ∙ pm) (either (s .fast x) (eqb x m) h)
+
       single : m ∷ [] ≡ members commands ((s .fast ∪ only m) ∖ s .fast)
       single = sym (members-one commands ((s .fast ∪ only m) ∖ s .fast) m lm (λ k l. one-more (s .fast k) (eqb k m) (λ e. ap (s .fast) (eqb-true k m e) ∙ fm)))
 
@@ -119,27 +125,33 @@ module _ (S : System) where
         → AllSettled S w → AllPending S w → Promises S w → AllHeard S w → TracedAt (w .log) (w .site i) → TracedAt (w .log) (finish S (tallyOr o) (w .site i))
     finish-traced w i none e h settled pending promises heard v = absurd (never false h refl)
     finish-traced w i (some t) e h settled pending promises heard v =
-        record
-          { past = extend S (v .past) t; at = history-next S (s .round) (w .log) (v .past) t (v .at) decided
-          ; alike =
+        record {
+          past = extend S (v .past) t;
+          at = history-next S (s .round) (w .log) (v .past) t (v .at) decided;
+          alike =
               chain (alike-equal machine (fold-commands S (s .ledger) (due S t s)))
-                (chain (alike-after machine (due S t s) (v .alike))
-                  (chain (alike-equal machine (append-assoc (v .past .sequence) (members commands (s .fast)) (due S t s)))
-                    (chain (alike-before machine (v .past .sequence)
-                      (chain (alike-equal machine (λ k. members commands (s .fast) ++ (members commands (ncSet S t ∖ (same-set k ∪ s .fast)) ++ members commands (cSet S t ∖ (same-set k ∪ s .fast)))))
-                        (segment-alike (v .past .settled) (s .fast) t fast-in (nc-free S (sizes .quorums .overlap) (s .round) (w .log) t decided))))
-                      (alike-equal machine (sym ((λ k. (v .past .sequence ++ segment S (v .past .settled) t) ++ members-none commands ∅ (λ m l. refl) k) ∙ append-nil (v .past .sequence ++ segment S (v .past .settled) t))))))) }
+              (chain (alike-after machine (due S t s) (v .alike))
+              (chain (alike-equal machine (append-assoc (v .past .sequence) (members commands (s .fast)) (due S t s)))
+              (chain (alike-before machine (v .past .sequence)
+              (chain (alike-equal machine (λ k. members commands (s .fast) ++ (members commands (ncSet S t ∖ (same-set k ∪ s .fast)) ++ members commands (cSet S t ∖ (same-set k ∪ s .fast)))))
+              (segment-alike (v .past .settled) (s .fast) t fast-in (nc-free S (omega (arith, sizes .quorums .overlap)) (s .round) (w .log) t decided))))
+              (alike-equal machine (sym ((λ k. (v .past .sequence ++ segment S (v .past .settled) t) ++ members-none commands ∅ (λ m l. refl) k) ∙ append-nil (v .past .sequence ++ segment S (v .past .settled) t)))))));
+        }
       where
         s : Site S
         s = w .site i
+
         decided : decide S (s .round) (w .log) ≡ some t
         decided = decision-log S s (w .log) t e
+
         same-set : s .delivered ≡ v .past .settled
         same-set = sym (ap (λ (h : History). h .settled) (same-some (sym (v .at) ∙ settled i .at)) ∙ settled i .same)
+
         fast-in : (m : ℕ) → m < commands → s .fast m ≡ true → (ncSet S t m ≡ true) × (v .past .settled m ≡ false)
-        fast-in m l k =
-            (acked-decided S f sizes w promises (s .round) m t (fast-acked S w heard i m k) decided,
-              sym (ap (λ (x : Set). x m) same-set) ∙ not-true (s .delivered m) (right (s .received m) (not (s .delivered m)) (pending i .inside m (pending i .holds m k))))
+        fast-in m l k = (
+          acked-decided S f sizes w promises (s .round) m t (fast-acked S w heard i m k) decided,
+          sym (ap (λ (x : Set). x m) same-set) ∙ not-true (s .delivered m) (right (s .received m) (not (s .delivered m)) (pending i .inside m (pending i .holds m k))),
+        )
 
     touch : (w : World S) (i : ℕ) (s : Site S) → AllTraced w → TracedAt (w .log) s → (j : ℕ) → TracedAt (w .log) (pick (eqb j i) s (w .site j))
     touch w i s v h = put-keeps S (λ j s. TracedAt (w .log) s) (w .site) i s h (λ j e. v j)
@@ -153,7 +165,7 @@ module _ (S : System) where
     traced-keeps w (falseEntry j r nc c) settled pending promises heard v h = λ i. traced-grows (w .log) (_ ∷ []) _ _ _ (v i)
     traced-keeps w (turn i) settled pending promises heard v h =
         turn-keeps S AllTraced (acknowledges S (w .site i)) {w = acknowledgingTurn S i (w .site i) w} {v = proposingTurn S i (w .site i) w}
-          (λ e. touch w i _ v (v i)) (λ e j. traced-grows (w .log) (entryOf S i (w .site i) ∷ []) _ _ _ (touch w i _ v (v i) j))
+        (λ e. touch w i _ v (v i)) (λ e j. traced-grows (w .log) (entryOf S i (w .site i) ∷ []) _ _ _ (touch w i _ v (v i) j))
     traced-keeps w (fastDelivery i m) settled pending promises heard v h =
         touch w i _ v (fast-traced (w .log) (w .site i) m (ltb-true m commands (h .1 .0)) (h .1 .1 .1 .0) (not-true (w .site i .fast m) (h .1 .1 .1 .1 .0)) (pending i) (v i))
     traced-keeps w (logRead i) settled pending promises heard v h = touch w i _ v (v i)

@@ -25,17 +25,19 @@ module _ (S : System) (f : ℕ) (sizes : Sizes S f) (law : Exchange (S .machine)
   -- that explains all that they delivered, answered and hold.
   pub common-sequence : (steps : List Step) → CommonSequence S steps
   common-sequence steps =
-      record
-        { sequence = sequence S f sizes w good
-        ; exactly = λ m. sequence-exactly S f sizes w good m
+      record {
+        sequence = sequence S f sizes w good;
+        exactly = λ m. sequence-exactly S f sizes w good m
             ∙ any-ext sites (λ i. correct S i && contents (listOf S w i) m) (λ i. correct S i && contents (delivers S i (w .log) (taken S (start S) steps)) m)
-                (λ i l k. correct S i && contents (sym (read-off S f sizes i steps) k) m)
-        ; once = sequence-once S f sizes w good
-        ; site = λ i l c. let k = completed S f sizes w good i l c in
+            (λ i l k. correct S i && contents (sym (read-off S f sizes i steps) k) m);
+        once = sequence-once S f sizes w good;
+        site = λ i l c. let k = completed S f sizes w good i l c in
             subst (λ (d : List ℕ). Explains S (sequence S f sizes w good) d (w .site i)) (sym (read-off S f sizes i steps))
-              (explains S law (w .site i) (k .rest) (sequence S f sizes w good) (good .faithful i) (sequence-once S f sizes w good) (k .alike)) }
+            (explains S law (w .site i) (k .rest) (sequence S f sizes w good) (good .faithful i) (sequence-once S f sizes w good) (k .alike));
+      }
     where
       w : World S
       w = play S (start S) steps
+
       good : Good S w
       good = good-play S f sizes steps

@@ -37,8 +37,8 @@ module _ (S : System) where
       → free S x ≡ true
   free-of x h =
       all-of commands (λ a. all commands (λ b. not (x a && (x b && machine .conflict a b))))
-        (λ a la. all-of commands (λ b. not (x a && (x b && machine .conflict a b)))
-          (λ b lb. go (x a) (x b) (machine .conflict a b) (h a b la lb)))
+      (λ a la. all-of commands (λ b. not (x a && (x b && machine .conflict a b)))
+      (λ b lb. go (x a) (x b) (machine .conflict a b) (h a b la lb)))
     where
       go : (p q c : Bool) → (p ≡ true → q ≡ true → c ≡ false) → not (p && (q && c)) ≡ true
       go true true c i = ap not (i refl refl)
@@ -107,7 +107,7 @@ module _ (S : System) where
           let ka = nc-majority d a ha in
           let kb = nc-majority d b hb in
           let few = count-mono sites (λ j. pa j || pb j) (λ j. isValid (d j))
-                (λ j lj hj. ⊎-elim (nc-valid (d j) a) (nc-valid (d j) b) (either (pa j) (pb j) hj)) in
+          (λ j lj hj. ⊎-elim (nc-valid (d j) a) (nc-valid (d j) b) (either (pa j) (pb j) hj)) in
           let w = count-some sites (λ j. pa j && pb j) (omega (arith, count-sum sites pa pb, decided-count r l d h)) in
           nc-pair r l d h (w .0) a b la lb (left (pa (w .0)) (pb (w .0)) (w .2)) (right (pa (w .0)) (pb (w .0)) (w .2))
 

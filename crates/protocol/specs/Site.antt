@@ -68,9 +68,17 @@ module _ (S : System) where
   -- 004, lines 1 and 2, with the initial state of the machine.
   abbrev pub fresh : Site
   fresh =
-      record
-        { received = ∅; delivered = ∅; pending = ∅; fast = ∅; round = 1; phase = acknowledging; position = 0; heard = λ j r. ∅
-        ; ledger = record { state = machine .initial; deliveries = [] } }
+      record {
+        received = ∅;
+        delivered = ∅;
+        pending = ∅;
+        fast = ∅;
+        round = 1;
+        phase = acknowledging;
+        position = 0;
+        heard = λ j r. ∅;
+        ledger = record { state = machine .initial; deliveries = [] };
+      }
 
   -- Received without G_del.
   abbrev pub undelivered : Site → Set
@@ -83,30 +91,55 @@ module _ (S : System) where
   -- A delivered command is executed on the site's register and its answer recorded.
   abbrev pub deliver : Ledger → ℕ → Ledger
   deliver g m =
-      record
-        { state = machine .execute (g .state) m
-        ; deliveries = g .deliveries ++ (record { command = m; answer = machine .answer (g .state) m } ∷ []) }
+      record {
+        state = machine .execute (g .state) m;
+        deliveries = g .deliveries ++ (record { command = m; answer = machine .answer (g .state) m } ∷ []);
+      }
 
   -- A set joins Received, whatever round it came in (004, lines 6, 7, 10 and 11).
   abbrev pub receive : Set → Site → Site
   receive x s =
-      record
-        { received = s .received ∪ x; delivered = s .delivered; pending = s .pending; fast = s .fast; round = s .round; phase = s .phase
-        ; position = s .position; heard = s .heard; ledger = s .ledger }
+      record {
+        received = s .received ∪ x;
+        delivered = s .delivered;
+        pending = s .pending;
+        fast = s .fast;
+        round = s .round;
+        phase = s .phase;
+        position = s .position;
+        heard = s .heard;
+        ledger = s .ledger;
+      }
 
   -- An acknowledgment joins Received and is kept under its sender and its own round, united with what was there (004, lines 8 and 9).
   abbrev pub hear : ℕ → ℕ → Set → Site → Site
   hear j r x s =
-      record
-        { received = s .received ∪ x; delivered = s .delivered; pending = s .pending; fast = s .fast; round = s .round; phase = s .phase
-        ; position = s .position; heard = λ j′ r′ m. s .heard j′ r′ m || eqb j′ j && eqb r′ r && x m; ledger = s .ledger }
+      record {
+        received = s .received ∪ x;
+        delivered = s .delivered;
+        pending = s .pending;
+        fast = s .fast;
+        round = s .round;
+        phase = s .phase;
+        position = s .position;
+        heard = λ j′ r′ m. s .heard j′ r′ m || eqb j′ j && eqb r′ r && x m;
+        ledger = s .ledger;
+      }
 
   -- 004, line 14.
   abbrev pub acknowledge : Site → Site
   acknowledge s =
-      record
-        { received = s .received; delivered = s .delivered; pending = undelivered s; fast = s .fast; round = s .round; phase = s .phase
-        ; position = s .position; heard = s .heard; ledger = s .ledger }
+      record {
+        received = s .received;
+        delivered = s .delivered;
+        pending = undelivered s;
+        fast = s .fast;
+        round = s .round;
+        phase = s .phase;
+        position = s .position;
+        heard = s .heard;
+        ledger = s .ledger;
+      }
 
   -- 004, line 18: the site waits with (pending, Received without G_del and pending).
   abbrev pub proposal : Site → Proposal
@@ -114,22 +147,46 @@ module _ (S : System) where
 
   abbrev pub propose : Site → Site
   propose s =
-      record
-        { received = s .received; delivered = s .delivered; pending = s .pending; fast = s .fast; round = s .round
-        ; phase = waiting (proposal s); position = s .position; heard = s .heard; ledger = s .ledger }
+      record {
+        received = s .received;
+        delivered = s .delivered;
+        pending = s .pending;
+        fast = s .fast;
+        round = s .round;
+        phase = waiting (proposal s);
+        position = s .position;
+        heard = s .heard;
+        ledger = s .ledger;
+      }
 
   -- 004, lines 26 to 29.
   abbrev pub deliverFast : ℕ → Site → Site
   deliverFast m s =
-      record
-        { received = s .received; delivered = s .delivered; pending = s .pending; fast = s .fast ∪ only m; round = s .round
-        ; phase = s .phase; position = s .position; heard = s .heard; ledger = deliver (s .ledger) m }
+      record {
+        received = s .received;
+        delivered = s .delivered;
+        pending = s .pending;
+        fast = s .fast ∪ only m;
+        round = s .round;
+        phase = s .phase;
+        position = s .position;
+        heard = s .heard;
+        ledger = deliver (s .ledger) m;
+      }
 
   abbrev pub readEntry : Site → Site
   readEntry s =
-      record
-        { received = s .received; delivered = s .delivered; pending = s .pending; fast = s .fast; round = s .round; phase = s .phase
-        ; position = suc (s .position); heard = s .heard; ledger = s .ledger }
+      record {
+        received = s .received;
+        delivered = s .delivered;
+        pending = s .pending;
+        fast = s .fast;
+        round = s .round;
+        phase = s .phase;
+        position = suc (s .position);
+        heard = s .heard;
+        ledger = s .ledger;
+      }
 
   -- What a round end delivers (004, lines 20 to 22): NCSet, then CSet, each in number order, skipping G_del and gAck_del.
   abbrev pub due : Tally → Site → List ℕ
@@ -138,9 +195,17 @@ module _ (S : System) where
   -- 004, lines 20 to 24.
   abbrev pub finish : Tally → Site → Site
   finish t s =
-      record
-        { received = s .received; delivered = s .delivered ∪ (ncSet S t ∪ cSet S t); pending = ∅; fast = ∅; round = suc (s .round)
-        ; phase = acknowledging; position = s .position; heard = s .heard; ledger = foldl deliver (s .ledger) (due t s) }
+      record {
+        received = s .received;
+        delivered = s .delivered ∪ (ncSet S t ∪ cSet S t);
+        pending = ∅;
+        fast = ∅;
+        round = suc (s .round);
+        phase = acknowledging;
+        position = s .position;
+        heard = s .heard;
+        ledger = foldl deliver (s .ledger) (due t s);
+      }
 
   -- How many senders have acknowledged m in the site's round.
   abbrev pub senders : Site → ℕ → ℕ

@@ -79,14 +79,14 @@ module _ (S : System) where
         go : (b : Bool) → (eqb (e .site) j && eqb (e .round) r) ≡ b → P (l ++ (e ∷ [])) (pick b (afterEntry S e (t j)) (t j))
         go true eb =
             new l e (t j) (eqb-true (e .site) j (left (eqb (e .site) j) (eqb (e .round) r) eb))
-              (eqb-true (e .round) r (right (eqb (e .site) j) (eqb (e .round) r) eb)) h
+            (eqb-true (e .round) r (right (eqb (e .site) j) (eqb (e .round) r) eb)) h
         go false eb = old l e (t j) eb h
 
     fold-keeps : (l more : Log) (t : Tally) → P l (t j) → P (l ++ more) (foldl (add S r) t more j)
     fold-keeps l [] t h = rw append-nil h
     fold-keeps l (e ∷ more) t h =
         subst (λ (x : Log). P x (foldl (add S r) (add S r t e) more j)) (append-assoc l (e ∷ []) more)
-          (fold-keeps (l ++ (e ∷ [])) more (add S r t e) (add-keeps l t e h))
+        (fold-keeps (l ++ (e ∷ [])) more (add S r t e) (add-keeps l t e h))
 
     pub tally-keeps : P [] absent → (l : Log) → P l (tally r l j)
     tally-keeps h l = fold-keeps [] l nobody h
@@ -117,9 +117,9 @@ module _ (S : System) where
   unfolding entries
   tally-counts r l j =
       tally-keeps (λ l s. Counts j r l s) j r
-        (λ l e s ej er h. counts-new j r l e s (entries-more j r l e ∙ ap (λ (b : Bool). entries j r l + one b) (both (eqb (e .site) j) (eqb (e .round) r) (eq-eqb (e .site) j ej) (eq-eqb (e .round) r er))) h)
-        (λ l e s no h. counts-old j r l (l ++ (e ∷ [])) s (entries-more j r l e ∙ ap (λ (b : Bool). entries j r l + one b) no ∙ omega arith) h)
-        refl l
+      (λ l e s ej er h. counts-new j r l e s (entries-more j r l e ∙ ap (λ (b : Bool). entries j r l + one b) (both (eqb (e .site) j) (eqb (e .round) r) (eq-eqb (e .site) j ej) (eq-eqb (e .round) r er))) h)
+      (λ l e s no h. counts-old j r l (l ++ (e ∷ [])) s (entries-more j r l e ∙ ap (λ (b : Bool). entries j r l + one b) no ∙ omega arith) h)
+      refl l
 
   -- A valid source is backed by an entry whose NC is free of conflicts.
   abbrev pub Backed : ℕ → ℕ → Log → Standing → Type 0
@@ -157,13 +157,15 @@ module _ (S : System) where
   decided-from r l [] t d e h = none-some h
   decided-from r l (x ∷ more) t d e h =
       go (eqb (validCount S (add S r t x)) nChk) h
-        (λ k. subst (λ (w : Log). Decided r w d) (append-assoc l (x ∷ []) more) (decided-from r (l ++ (x ∷ [])) more (add S r t x) d step k))
+      (λ k. subst (λ (w : Log). Decided r w d) (append-assoc l (x ∷ []) more) (decided-from r (l ++ (x ∷ [])) more (add S r t x) d step k))
     where
       fold-more : (t : Tally) (a : Log) → foldl (add S r) t (a ++ (x ∷ [])) ≡ add S r (foldl (add S r) t a) x
       fold-more t [] = refl
       fold-more t (y ∷ a) = fold-more (add S r t y) a
+
       step : add S r t x ≡ tally r (l ++ (x ∷ []))
       step = ap (λ (t : Tally). add S r t x) e ∙ sym (fold-more nobody l)
+
       go : (b : Bool) → pick b (some (add S r t x)) (decideFrom S r (add S r t x) more) ≡ some d
           → (decideFrom S r (add S r t x) more ≡ some d → Decided r (l ++ (x ∷ more)) d) → Decided r (l ++ (x ∷ more)) d
       go true h ih = record { part = l ++ (x ∷ []); rest = more; whole = append-assoc l (x ∷ []) more; standing = sym (same-some h) ∙ step }
@@ -177,5 +179,5 @@ module _ (S : System) where
   decided-backed r l d h j =
       let k = decided r l d h in
       subst (λ (x : Log). Backed j r x (d j)) (k .whole)
-        (backed-old j r (k .part) (k .rest) (d j)
-          (subst (λ (t : Tally). Backed j r (k .part) (t j)) (sym (k .standing)) (tally-backed r (k .part) j)))
+      (backed-old j r (k .part) (k .rest) (d j)
+      (subst (λ (t : Tally). Backed j r (k .part) (t j)) (sym (k .standing)) (tally-backed r (k .part) j)))

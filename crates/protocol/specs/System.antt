@@ -26,7 +26,6 @@ pub record System : Type 1 where
 
 -- What a step asks for, in order, each with the refusal that it earns where it does not hold.
 infixr 25 _else_⨾_
-
 pub data Demands : Type 0 where
   granted : Demands
   _else_⨾_ : Bool → Refusal → Demands → Demands

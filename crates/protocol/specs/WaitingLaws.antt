@@ -46,14 +46,15 @@ module _ (S : System) where
   pending-stays w (falseEntry j r nc c) h i k e = refl
   pending-stays w (turn i′) h i k e =
       turn-keeps S (λ (v : World S). v .site i .pending ≡ w .site i .pending) (acknowledges S (w .site i′)) {w = acknowledgingTurn S i′ (w .site i′) w} {v = proposingTurn S i′ (w .site i′) w}
-        (λ z. unless w i i′ (acknowledge S (w .site i′)) (λ q. absurd (not-waiting (w .site i .phase) (ap (λ (n : ℕ). isAcknowledging (w .site n .phase)) q ∙ h .1 .1 .0) k)))
-        (λ z. left-alone w i i′ (propose S (w .site i′)) refl)
+      (λ z. unless w i i′ (acknowledge S (w .site i′)) (λ q. absurd (not-waiting (w .site i .phase) (ap (λ (n : ℕ). isAcknowledging (w .site n .phase)) q ∙ h .1 .1 .0) k)))
+      (λ z. left-alone w i i′ (propose S (w .site i′)) refl)
   pending-stays w (fastDelivery i′ m) h i k e = left-alone w i i′ _ refl
   pending-stays w (logRead i′) h i k e = left-alone w i i′ _ refl
   pending-stays w (roundEnd i′) h i k e = ended (eqb i i′) refl e
     where
       after : Site S
       after = finish S (tallyOr (decision S (w .site i′) (w .log))) (w .site i′)
+
       ended : (b : Bool) → eqb i i′ ≡ b → pick b after (w .site i) .round ≡ w .site i .round → pick b after (w .site i) .pending ≡ w .site i .pending
       ended true eb q = absurd (let z = ap (λ (n : ℕ). w .site n .round) (eqb-true i i′ eb) in omega arith)
       ended false eb q = refl

@@ -67,9 +67,12 @@ module _ (S : System) where
   -- 004, line 15.
   abbrev pub sendAcknowledgment : ℕ → ℕ → Set → World → World
   sendAcknowledgment i k x w =
-      record
-        { site = w .site; log = w .log; acks = λ j r. pick (eqb j i && eqb r k) (w .acks j r ++ (x ∷ [])) (w .acks j r)
-        ; checks = w .checks }
+      record {
+        site = w .site;
+        log = w .log;
+        acks = λ j r. pick (eqb j i && eqb r k) (w .acks j r ++ (x ∷ [])) (w .acks j r);
+        checks = w .checks;
+      }
 
   -- 004, line 17.
   abbrev pub sendCheck : ℕ → ℕ → Set → World → World

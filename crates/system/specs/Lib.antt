@@ -1,4 +1,1 @@
 pub mod Dash
-pub mod Demand3
-pub mod Cases
-pub mod Runs

@@ -31,8 +31,8 @@ pub distinct-append : (a b : List ℕ) → distinct a ≡ true → distinct b �
 distinct-append [] b da db h = db
 distinct-append (x ∷ a) b da db h =
     both (not (contents (a ++ b) x)) (distinct (a ++ b))
-      (ap not (contents-append a b x ∙ go (contents a x) (contents b x) (not-true (contents a x) (left (not (contents a x)) (distinct a) da)) (h x (true-or (eqb x x) (contents a x) (eq-eqb x x refl)))))
-      (distinct-append a b (right (not (contents a x)) (distinct a) da) db (λ m k. h m (or-true (eqb m x) (contents a m) k)))
+    (ap not (contents-append a b x ∙ go (contents a x) (contents b x) (not-true (contents a x) (left (not (contents a x)) (distinct a) da)) (h x (true-or (eqb x x) (contents a x) (eq-eqb x x refl)))))
+    (distinct-append a b (right (not (contents a x)) (distinct a) da) db (λ m k. h m (or-true (eqb m x) (contents a m) k)))
   where
     go : (p q : Bool) → p ≡ false → q ≡ false → (p || q) ≡ false
     go true q hp hq = hp
@@ -42,8 +42,8 @@ pub distinct-left : (a b : List ℕ) → distinct (a ++ b) ≡ true → distinct
 distinct-left [] b h = refl
 distinct-left (x ∷ a) b h =
     both (not (contents a x)) (distinct a)
-      (go (contents a x) (contents b x) (ap not (sym (contents-append a b x)) ∙ left (not (contents (a ++ b) x)) (distinct (a ++ b)) h))
-      (distinct-left a b (right (not (contents (a ++ b) x)) (distinct (a ++ b)) h))
+    (go (contents a x) (contents b x) (ap not (sym (contents-append a b x)) ∙ left (not (contents (a ++ b) x)) (distinct (a ++ b)) h))
+    (distinct-left a b (right (not (contents (a ++ b) x)) (distinct (a ++ b)) h))
   where
     go : (p q : Bool) → not (p || q) ≡ true → not p ≡ true
     go true q k = k
@@ -57,7 +57,8 @@ distinct-apart (x ∷ a) b h m k = go (either (eqb m x) (contents a m) k) (disti
     here : contents b x ≡ false
     here =
         neither (contents a x) (contents b x)
-          (sym (contents-append a b x) ∙ not-true (contents (a ++ b) x) (left (not (contents (a ++ b) x)) (distinct (a ++ b)) h)) .1
+        (sym (contents-append a b x) ∙ not-true (contents (a ++ b) x) (left (not (contents (a ++ b) x)) (distinct (a ++ b)) h)) .1
+
     go : (eqb m x ≡ true) ⊎ (contents a m ≡ true) → (contents a m ≡ true → contents b m ≡ false) → contents b m ≡ false
     go (inl e) r = ap (contents b) (eqb-true m x e) ∙ here
     go (inr e) r = r e
@@ -67,34 +68,37 @@ pub before-first : (a b : ℕ) (l : List ℕ) → before a b l ≡ true → cont
 before-first a b [] h = h
 before-first a b (y ∷ l) h =
     ⊎-elim (λ z. true-or (eqb a y) (contents l a) (left (eqb a y) (contents l b) z)) (λ z. or-true (eqb a y) (contents l a) (before-first a b l z))
-      (either (eqb a y && contents l b) (before a b l) h)
+    (either (eqb a y && contents l b) (before a b l) h)
 
 pub before-second : (a b : ℕ) (l : List ℕ) → before a b l ≡ true → contents l b ≡ true
 before-second a b [] h = h
 before-second a b (y ∷ l) h =
     or-true (eqb b y) (contents l b)
-      (⊎-elim (right (eqb a y) (contents l b)) (before-second a b l) (either (eqb a y && contents l b) (before a b l) h))
+    (⊎-elim (right (eqb a y) (contents l b)) (before-second a b l) (either (eqb a y && contents l b) (before a b l) h))
 
 -- What stands before a number of the first part stands in the first part too.
 pub before-left : (a b : ℕ) (d rest : List ℕ) → distinct (d ++ rest) ≡ true → contents d b ≡ true → before a b (d ++ rest) ≡ true → before a b d ≡ true
 before-left a b [] rest h k l = absurd (never false k refl)
 before-left a b (x ∷ d) rest h k l =
     go (either (eqb a x && contents (d ++ rest) b) (before a b (d ++ rest)) l)
-      (before-left a b d rest (right (not (contents (d ++ rest) x)) (distinct (d ++ rest)) h))
+    (before-left a b d rest (right (not (contents (d ++ rest) x)) (distinct (d ++ rest)) h))
   where
     -- b stands in x ∷ d and so not in the rest
     apart : contents rest b ≡ false
     apart = distinct-apart (x ∷ d) rest h b k
+
     -- a number that stands in d and the rest together stands in d
     inside : contents (d ++ rest) b ≡ true → contents d b ≡ true
     inside e = ⊎-elim (λ z. z) (λ z. absurd (never (contents rest b) z apart)) (either (contents d b) (contents rest b) (sym (contents-append d rest b) ∙ e))
+
     later : before a b (d ++ rest) ≡ true → contents (d ++ rest) b ≡ true
     later e = before-second a b (d ++ rest) e
+
     go : ((eqb a x && contents (d ++ rest) b) ≡ true) ⊎ (before a b (d ++ rest) ≡ true)
         → (contents d b ≡ true → before a b (d ++ rest) ≡ true → before a b d ≡ true) → before a b (x ∷ d) ≡ true
     go (inl e) r =
         true-or (eqb a x && contents d b) (before a b d)
-          (both (eqb a x) (contents d b) (left (eqb a x) (contents (d ++ rest) b) e) (inside (right (eqb a x) (contents (d ++ rest) b) e)))
+        (both (eqb a x) (contents d b) (left (eqb a x) (contents (d ++ rest) b) e) (inside (right (eqb a x) (contents (d ++ rest) b) e)))
     go (inr e) r = or-true (eqb a x && contents d b) (before a b d) (r (inside (later e)) e)
 
 pub sift-append : (p : Set) (a b : List ℕ) → sift p (a ++ b) ≡ sift p a ++ sift p b

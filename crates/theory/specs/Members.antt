@@ -23,6 +23,7 @@ members-has (suc n) p m l h = go (last-or-below m n l) (λ k. members-has n p m 
     last : (b : Bool) → b ≡ true → m ≡ n → contents (pick b (n ∷ []) []) m ≡ true
     last true e k = true-or (eqb m n) false (eq-eqb m n k)
     last false e k = e
+
     go : (m ≡ n) ⊎ (m < n) → (m < n → contents (members n p) m ≡ true) → contents (members n p ++ pick (p n) (n ∷ []) []) m ≡ true
     go (inl e) r = contents-right (members n p) (pick (p n) (n ∷ []) []) m (last (p n) (ap p (sym e) ∙ h) e)
     go (inr e) r = contents-left (members n p) (pick (p n) (n ∷ []) []) m (r e)
@@ -32,13 +33,14 @@ unfolding members
 members-in zero p m h = absurd (never false h refl)
 members-in (suc n) p m h =
     go (either (contents (members n p) m) (contents (pick (p n) (n ∷ []) []) m) (sym (contents-append (members n p) (pick (p n) (n ∷ []) []) m) ∙ h))
-      (members-in n p m)
+    (members-in n p m)
   where
     last : (b : Bool) → p n ≡ b → contents (pick b (n ∷ []) []) m ≡ true → (m < suc n) × (p m ≡ true)
     last true e k =
         let q : m ≡ n = eqb-true m n (⊎-elim (λ z. z) (λ z. absurd (never false z refl)) (either (eqb m n) false k)) in
         (omega arith, ap p q ∙ e)
     last false e k = absurd (never false k refl)
+
     go : (contents (members n p) m ≡ true) ⊎ (contents (pick (p n) (n ∷ []) []) m ≡ true)
         → (contents (members n p) m ≡ true → (m < n) × (p m ≡ true)) → (m < suc n) × (p m ≡ true)
     go (inl e) r = (omega (arith, r e .0), r e .1)
@@ -64,6 +66,7 @@ members-one (suc n) p a l h = go (last-or-below a n l) (λ k. members-one n p a 
     other : (m : ℕ) → (b : Bool) → eqb m a ≡ b → (m ≡ a → ⊥) → b ≡ false
     other m true e k = absurd (k (eqb-true m a e))
     other m false e k = refl
+
     go : (a ≡ n) ⊎ (a < n) → (a < n → members n p ≡ a ∷ []) → members n p ++ pick (p n) (n ∷ []) [] ≡ a ∷ []
     go (inl e) r =
         let none : members n p ≡ [] = members-none n p (λ m k. h m (omega arith) ∙ other m (eqb m a) refl (λ z. omega arith)) in
@@ -81,9 +84,11 @@ members-distinct (suc n) p = distinct-append (members n p) (pick (p n) (n ∷ []
     last : (b : Bool) → distinct (pick b (n ∷ []) []) ≡ true
     last true = refl
     last false = refl
+
     single : (m : ℕ) (b : Bool) → eqb m n ≡ b → m < n → (b || false) ≡ false
     single m true e l = absurd (let q : m ≡ n = eqb-true m n e in omega arith)
     single m false e l = refl
+
     apart : (m : ℕ) (b : Bool) → m < n → contents (pick b (n ∷ []) []) m ≡ false
     apart m true l = single m (eqb m n) refl l
     apart m false l = refl

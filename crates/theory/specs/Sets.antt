@@ -27,7 +27,6 @@ only a m = eqb m a
 
 infixl 60 _∪_
 infixl 60 _∖_
-
 abbrev pub _∪_ : Set → Set → Set
 _∪_ a b m = a m || b m
 

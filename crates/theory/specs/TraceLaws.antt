@@ -107,18 +107,21 @@ module _ (M : Machine) where
     where
       A : List ℕ
       A = members n a
+
       B : List ℕ
       B = members n (p ∖ a)
+
       past : p n ≡ true → Alike M (n ∷ B) (B ++ (n ∷ []))
       past e =
           alike-past n B
-            (λ y k. let w = members-in n (p ∖ a) y k in
-              ((λ z. omega (arith, w .0)), calm n y (omega arith) (omega (arith, w .0)) e (left (p y) (not (a y)) (w .1))))
+          (λ y k. let w = members-in n (p ∖ a) y k in
+          ((λ z. omega (arith, w .0)), calm n y (omega arith) (omega (arith, w .0)) e (left (p y) (not (a y)) (w .1))))
+
       go : (u : Bool) → a n ≡ u → (v : Bool) → p n ≡ v → Alike M (A ++ B) (members n p)
           → Alike M ((A ++ pick u (n ∷ []) []) ++ (B ++ pick (v && not u) (n ∷ []) [])) (members n p ++ pick v (n ∷ []) [])
       go true eu true ev ih =
           chain (alike-equal ((λ i. (A ++ (n ∷ [])) ++ append-nil B i) ∙ append-assoc A (n ∷ []) B))
-            (chain (alike-before A (past ev)) (chain (alike-equal (sym (append-assoc A B (n ∷ [])))) (alike-after (n ∷ []) ih)))
+          (chain (alike-before A (past ev)) (chain (alike-equal (sym (append-assoc A B (n ∷ [])))) (alike-after (n ∷ []) ih)))
       go true eu false ev ih = absurd (never (p n) (within n (omega arith) eu) ev)
       go false eu true ev ih =
           chain (alike-equal ((λ i. append-nil A i ++ (B ++ (n ∷ []))) ∙ sym (append-assoc A B (n ∷ [])))) (alike-after (n ∷ []) ih)
@@ -133,8 +136,10 @@ module _ (M : Machine) where
       where
         forward : a ≡ x → b ≡ y → ⊥
         forward ea eb = never (conflict a b) c ((λ i. conflict (ea i) (eb i)) ∙ h)
+
         backward : a ≡ y → b ≡ x → ⊥
         backward ea eb = never (conflict a b) c ((λ i. conflict (ea i) (eb i)) ∙ law .symmetric y x ∙ h)
+
         go : (ax : Bool) → eqb a x ≡ ax → (ay : Bool) → eqb a y ≡ ay → (bx : Bool) → eqb b x ≡ bx → (bY : Bool) → eqb b y ≡ bY
             → (ax && (bY || contents l b) || (ay && contents l b || before a b l)) ≡ (ay && (bx || contents l b) || (ax && contents l b || before a b l))
         go true eax ay eay bx ebx true eby = absurd (forward (eqb-true a x eax) (eqb-true b y eby))

@@ -35,8 +35,8 @@ module _ (M : Machine) where
     alike-answer s m (swap {x} {y} {l} n h) = go (eqb m x) refl (eqb m y) refl
       where
         go : (p : Bool) → eqb m x ≡ p → (q : Bool) → eqb m y ≡ q →
-          pick p (some (answer s x)) (pick q (some (answer (execute s x) y)) (answerIn M (execute (execute s x) y) l m))
-          ≡ pick q (some (answer s y)) (pick p (some (answer (execute s y) x)) (answerIn M (execute (execute s y) x) l m))
+            pick p (some (answer s x)) (pick q (some (answer (execute s x) y)) (answerIn M (execute (execute s x) y) l m))
+            ≡ pick q (some (answer s y)) (pick p (some (answer (execute s y) x)) (answerIn M (execute (execute s y) x) l m))
         go true ep true eq = absurd (n (sym (eqb-true m x ep) ∙ eqb-true m y eq))
         go true ep false eq = ap some (sym (law .answers s y x (λ e. n (sym e)) (law .symmetric y x ∙ h)))
         go false ep true eq = ap some (law .answers s x y n h)

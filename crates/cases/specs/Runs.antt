@@ -28,8 +28,8 @@ use Rattle.protocol.specs.Recovery.{entries, decideFrom}
 use Rattle.protocol.specs.Site.{Site, Ledger}
 use Rattle.protocol.specs.World.{World, Step, command, acknowledgment, falseAcknowledgment, falseEntry, turn, fastDelivery, logRead, roundEnd, start, play, put}
 use Rattle.protocol.specs.CommonSequence.{CommonSequence, Explained, Explains, delivers, taken}
 use Rattle.system.specs.Dash.{dash}
-use Rattle.system.specs.Cases.{fitAndRead}
+use Rattle.cases.specs.Cases.{fitAndRead}
 
 -- ---- how a statement about every number is computed
 
@@ -66,7 +66,7 @@ module _ (S : System) where
       let la = below commands sequence small a (before-first a b sequence h) in
       let lb = below commands sequence small b (before-second a b sequence h) in
       go (machine .conflict a b) (before a b sequence) (contents list b) (before a b list) c h k
-        (all-at commands (inOrder sequence list a) (all-at commands (λ a. all commands (inOrder sequence list a)) test a la) b lb)
+      (all-at commands (inOrder sequence list a) (all-at commands (λ a. all commands (inOrder sequence list a)) test a la) b lb)
     where
       go : (p q r s : Bool) → p ≡ true → q ≡ true → r ≡ true → (not (p && (q && r)) || s) ≡ true → s ≡ true
       go true true true s hp hq hr h = h
@@ -83,13 +83,13 @@ module _ (S : System) where
       → Explains S sequence read site
   explains-by sequence list read site held er eh ans once small test eq state =
       subst (λ (d : List ℕ). Explains S sequence d site) (sym er)
-        (record {
-          held = eh ∙ ans;
-          once = once;
-          order = order-by-test sequence list small test;
-          answers = ap (map (λ (d : Delivery (machine .Answer)). some (d .answer))) eh ∙ eq;
-          state = state;
-        })
+      (record {
+        held = eh ∙ ans;
+        once = once;
+        order = order-by-test sequence list small test;
+        answers = ap (map (λ (d : Delivery (machine .Answer)). some (d .answer))) eh ∙ eq;
+        state = state;
+      })
 
 -- ---- one site, a FIT and a READ that conflict: document 01's whole case
 
@@ -110,25 +110,25 @@ whole-case =
       exactly = λ m. refl;
       once = refl;
       site = each 1 (λ i. correct alone i ≡ true → Explains alone (0 ∷ 1 ∷ []) (delivers alone i (play alone (start alone) wholeCase .log) (taken alone (start alone) wholeCase)) (play alone (start alone) wholeCase .site i))
-        (tt, λ c. explains-by alone (0 ∷ 1 ∷ []) (0 ∷ 1 ∷ []) _ _ (answer 0 (pos 0) ∷ answer 1 (pos 14000) ∷ []) refl refl refl refl refl refl refl refl);
+          (tt, λ c. explains-by alone (0 ∷ 1 ∷ []) (0 ∷ 1 ∷ []) _ _ (answer 0 (pos 0) ∷ answer 1 (pos 14000) ∷ []) refl refl refl refl refl refl refl refl);
     }
 
 -- The same run with another answer in the site's record.
 abbrev doctored : World alone
 doctored =
     put alone 0
-      (record {
-        received = site .received;
-        delivered = site .delivered;
-        pending = site .pending;
-        fast = site .fast;
-        round = site .round;
-        phase = site .phase;
-        position = site .position;
-        heard = site .heard;
-        ledger = record { state = site .ledger .state; deliveries = answer 0 (pos 0) ∷ answer 1 (pos 13999) ∷ [] };
-      })
-      (play alone (start alone) wholeCase)
+    (record {
+      received = site .received;
+      delivered = site .delivered;
+      pending = site .pending;
+      fast = site .fast;
+      round = site .round;
+      phase = site .phase;
+      position = site .position;
+      heard = site .heard;
+      ledger = record { state = site .ledger .state; deliveries = answer 0 (pos 0) ∷ answer 1 (pos 13999) ∷ [] };
+    })
+    (play alone (start alone) wholeCase)
   where
     site : Site alone
     site = play alone (start alone) wholeCase .site 0
@@ -186,24 +186,28 @@ adding-run =
       exactly = λ m. spread (eqb m 0) (eqb m 1);
       once = refl;
       site = each 6 (λ i. correct adding i ≡ true → Explains adding (0 ∷ 1 ∷ []) (delivers adding i (play adding (start adding) addingSteps .log) (taken adding (start adding) addingSteps)) (play adding (start adding) addingSteps .site i))
-        ((((((tt, λ c. first), λ c. second), λ c. nothing 2 refl refl refl), λ c. nothing 3 refl refl refl), λ c. nothing 4 refl refl refl), λ c. absurd (never false c refl));
+          ((((((tt, λ c. first), λ c. second), λ c. nothing 2 refl refl refl), λ c. nothing 3 refl refl refl), λ c. nothing 4 refl refl refl), λ c. absurd (never false c refl));
     }
   where
     world : World adding
     world = play adding (start adding) addingSteps
+
     spread : (a b : Bool) → (a || (b || false)) ≡ ((a || (b || false)) || (b || (a || false)) || false || false || false || false)
     spread true true = refl
     spread true false = refl
     spread false true = refl
     spread false false = refl
+
     first : Explains adding (0 ∷ 1 ∷ []) (delivers adding 0 (world .log) (taken adding (start adding) addingSteps)) (world .site 0)
     first = explains-by adding (0 ∷ 1 ∷ []) (0 ∷ 1 ∷ []) _ _ (answer 0 (pos 0) ∷ answer 1 (pos 0) ∷ []) refl refl refl refl refl refl refl refl
+
     second : Explains adding (0 ∷ 1 ∷ []) (delivers adding 1 (world .log) (taken adding (start adding) addingSteps)) (world .site 1)
     second = explains-by adding (0 ∷ 1 ∷ []) (1 ∷ 0 ∷ []) _ _ (answer 1 (pos 0) ∷ answer 0 (pos 0) ∷ []) refl refl refl refl refl refl refl (λ i k. same-bike (eqb k 5) i)
       where
         same-bike : (b : Bool) → inTurn (Add 5 20) (Add 5 10) b ≡ inTurn (Add 5 10) (Add 5 20) b
         same-bike true = refl
         same-bike false = refl
+
     nothing : (i : ℕ) → delivers adding i (world .log) (taken adding (start adding) addingSteps) ≡ [] → world .site i .ledger .deliveries ≡ [] → world .site i .ledger .state ≡ adding .machine .initial
         → Explains adding (0 ∷ 1 ∷ []) (delivers adding i (world .log) (taken adding (start adding) addingSteps)) (world .site i)
     nothing i er eh es = explains-by adding (0 ∷ 1 ∷ []) [] _ _ [] er eh refl refl refl refl refl es
@@ -230,21 +234,24 @@ fitting-run =
       exactly = λ m. spread (eqb m 0) (eqb m 1);
       once = refl;
       site = each 6 (λ i. correct fitting i ≡ true → Explains fitting (0 ∷ 1 ∷ []) (delivers fitting i (world .log) (taken fitting (start fitting) fittingSteps)) (world .site i))
-        ((((((tt, λ c. both 0 refl refl refl), λ c. both 1 refl refl refl), λ c. nothing 2 refl refl refl), λ c. nothing 3 refl refl refl), λ c. nothing 4 refl refl refl), λ c. absurd (never false c refl));
+          ((((((tt, λ c. both 0 refl refl refl), λ c. both 1 refl refl refl), λ c. nothing 2 refl refl refl), λ c. nothing 3 refl refl refl), λ c. nothing 4 refl refl refl), λ c. absurd (never false c refl));
     }
   where
     world : World fitting
     world = play fitting (start fitting) fittingSteps
+
     spread : (a b : Bool) → (a || (b || false)) ≡ ((a || (b || false)) || (a || (b || false)) || false || false || false || false)
     spread true true = refl
     spread true false = refl
     spread false true = refl
     spread false false = refl
+
     both : (i : ℕ) → delivers fitting i (world .log) (taken fitting (start fitting) fittingSteps) ≡ 0 ∷ 1 ∷ []
         → world .site i .ledger .deliveries ≡ answer 0 (pos 0) ∷ answer 1 (pos 14000) ∷ []
         → world .site i .ledger .state ≡ run (fitting .machine) (fitting .machine .initial) (0 ∷ 1 ∷ [])
         → Explains fitting (0 ∷ 1 ∷ []) (delivers fitting i (world .log) (taken fitting (start fitting) fittingSteps)) (world .site i)
     both i er eh es = explains-by fitting (0 ∷ 1 ∷ []) (0 ∷ 1 ∷ []) _ _ (answer 0 (pos 0) ∷ answer 1 (pos 14000) ∷ []) er eh refl refl refl refl refl es
+
     nothing : (i : ℕ) → delivers fitting i (world .log) (taken fitting (start fitting) fittingSteps) ≡ [] → world .site i .ledger .deliveries ≡ []
         → world .site i .ledger .state ≡ fitting .machine .initial
         → Explains fitting (0 ∷ 1 ∷ []) (delivers fitting i (world .log) (taken fitting (start fitting) fittingSteps)) (world .site i)

@@ -47,10 +47,10 @@ pub rounds : (table : SiteTable) (book : List ℕ) → isGood table ≡ true →
     → play (dash table (commandsOf book)) (start (dash table (commandsOf book))) steps .site i .round ≤ suc lastRound
 rounds table book good =
     round-bound (dash table (commandsOf book)) (table .faults) (sizes table (commandsOf book) good) (machine-exchange (commandAt (commandsOf book)))
-      (limits table book)
+    (limits table book)
 
 -- No run meets refusal 8 or 9, and no correct site's append is a third entry.
 pub refusals-unmet : (table : SiteTable) (book : List ℕ) → isGood table ≡ true → (steps : List Step) → NeverRefused (dash table (commandsOf book)) steps
 refusals-unmet table book good =
     never-refused (dash table (commandsOf book)) (table .faults) (sizes table (commandsOf book) good) (machine-exchange (commandAt (commandsOf book)))
-      (limits table book)
+    (limits table book)

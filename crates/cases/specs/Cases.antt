@@ -136,11 +136,11 @@ cases =
     ∷ row (fast 5) (stepped 0 (0 ∷ []))
     ∷ row (round ((0 ∷ []) ∷ (0 ∷ []) ∷ (0 ∷ []) ∷ [] ∷ [] ∷ []) ((1 ∷ []) ∷ (1 ∷ []) ∷ (1 ∷ []) ∷ (1 ∷ []) ∷ (1 ∷ []) ∷ [])) (decided (0 ∷ []) (1 ∷ []))
     ∷ row
-        (round ((0 ∷ []) ∷ (0 ∷ []) ∷ [] ∷ [] ∷ [] ∷ []) ((1 ∷ []) ∷ (1 ∷ []) ∷ (0 ∷ 1 ∷ []) ∷ (0 ∷ 1 ∷ []) ∷ (0 ∷ 1 ∷ []) ∷ []))
-        (decided [] (0 ∷ 1 ∷ []))
+    (round ((0 ∷ []) ∷ (0 ∷ []) ∷ [] ∷ [] ∷ [] ∷ []) ((1 ∷ []) ∷ (1 ∷ []) ∷ (0 ∷ 1 ∷ []) ∷ (0 ∷ 1 ∷ []) ∷ (0 ∷ 1 ∷ []) ∷ []))
+    (decided [] (0 ∷ 1 ∷ []))
     ∷ row
-        (run fitAndRead (command 0 0 ∷ command 0 1 ∷ turn 0 ∷ logRead 0 ∷ roundEnd 0 ∷ []))
-        (delivered (record { command = 0; answer = pos 0 } ∷ record { command = 1; answer = pos 14000 } ∷ []))
+    (run fitAndRead (command 0 0 ∷ command 0 1 ∷ turn 0 ∷ logRead 0 ∷ roundEnd 0 ∷ []))
+    (delivered (record { command = 0; answer = pos 0 } ∷ record { command = 1; answer = pos 14000 } ∷ []))
     ∷ []
 
 pub cases-hold : Hold cases
