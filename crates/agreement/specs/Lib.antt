@@ -14,3 +14,4 @@ pub mod Theorem
 pub mod Brought
 pub mod Bound
 pub mod NeverRefused
+pub mod Capacity
