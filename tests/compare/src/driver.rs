@@ -4,6 +4,7 @@ use crate::books::Opening;
 use crate::draw::Draw;
 use crate::noise;
 use reference::{play_run, Phase, Set, Step, World, MOST_BYTES};
+use std::collections::BTreeSet;
 
 /// How busy the network, the sites and the faulty sites are: percentages.
 #[derive(Clone, Copy, Debug)]
@@ -18,13 +19,16 @@ pub struct Manner {
     pub noise: usize,
     /// Faulty sites name any commands of the book, not only those that a correct site has received.
     pub is_wild: bool,
+    /// Each message reaches a site at most once.
+    pub is_once: bool,
 }
 
 impl Manner {
     /// Everything arrives and every enabled step is taken.
     pub fn prompt() -> Manner {
         let (acknowledgments, checks, turns, fast, reads, ends) = (100, 100, 100, 100, 100, 100);
-        Manner { acknowledgments, checks, turns, fast, reads, ends, faulty: 30, noise: 0, is_wild: false }
+        let (faulty, noise, is_wild, is_once) = (30, 0, false, false);
+        Manner { acknowledgments, checks, turns, fast, reads, ends, faulty, noise, is_wild, is_once }
     }
 
     /// Anything from idle to prompt.
@@ -39,9 +43,13 @@ impl Manner {
             faulty: draw.pick(&[0, 20, 50, 90]),
             noise: draw.pick(&[0, 0, 3, 10]),
             is_wild: draw.percent(40),
+            is_once: draw.percent(50),
         }
     }
 }
+
+/// How often a step is tried that is not enabled.
+const VAIN_PERCENT: usize = 5;
 
 pub struct Driver<'a> {
     pub draw: &'a mut Draw,
@@ -50,6 +58,8 @@ pub struct Driver<'a> {
     correct: Vec<usize>,
     faulty: Vec<usize>,
     most_bytes: usize,
+    /// The bytes of the messages brought so far.
+    brought: BTreeSet<Vec<u8>>,
 }
 
 impl<'a> Driver<'a> {
@@ -59,7 +69,8 @@ impl<'a> Driver<'a> {
         let world = play_run(&bytes).expect("an opening is taken").world;
         let correct = world.correct();
         let faulty = world.faulty.iter().copied().collect();
-        Driver { draw, world, bytes, correct, faulty, most_bytes: most_bytes.min(MOST_BYTES) }
+        let most_bytes = most_bytes.min(MOST_BYTES);
+        Driver { draw, world, bytes, correct, faulty, most_bytes, brought: BTreeSet::new() }
     }
 
     pub fn is_full(&self) -> bool {
@@ -71,6 +82,14 @@ impl<'a> Driver<'a> {
             self.bytes.extend(step.bytes());
             // Refused steps belong into runs as well.
             let _ = self.world.step(&step);
+        }
+    }
+
+    /// Brings a message, unless it has come before and messages come once.
+    fn bring(&mut self, manner: &Manner, message: Step) {
+        let is_new = self.brought.insert(message.bytes());
+        if is_new || !manner.is_once {
+            self.take(message);
         }
     }
 
@@ -101,7 +120,8 @@ impl<'a> Driver<'a> {
 
     pub fn turns(&mut self, manner: &Manner) {
         for site in self.correct.clone() {
-            if self.world.sites[site].is_turn_enabled() && self.draw.percent(manner.turns) {
+            let percent = if self.world.sites[site].is_turn_enabled() { manner.turns } else { VAIN_PERCENT };
+            if self.draw.percent(percent) {
                 self.take(Step::Turn { site });
             }
         }
@@ -116,7 +136,7 @@ impl<'a> Driver<'a> {
             for to in self.correct.clone() {
                 if sent > 0 && self.draw.percent(manner.acknowledgments) {
                     let a = if self.draw.percent(80) { sent } else { self.draw.within(1, sent) };
-                    self.take(Step::Acknowledgment { to, from, round, a });
+                    self.bring(manner, Step::Acknowledgment { to, from, round, a });
                 }
             }
         }
@@ -127,7 +147,7 @@ impl<'a> Driver<'a> {
             let round = self.world.sites[from].round;
             for to in self.correct.clone() {
                 if self.world.checks.contains_key(&(from, round)) && self.draw.percent(manner.checks) {
-                    self.take(Step::Check { to, from, round });
+                    self.bring(manner, Step::Check { to, from, round });
                 }
             }
         }
@@ -135,13 +155,25 @@ impl<'a> Driver<'a> {
 
     pub fn fast_deliveries(&mut self, manner: &Manner) {
         for site in self.correct.clone() {
-            for command in self.world.sites[site].pending.clone() {
+            for command in self.world.sites[site].received.clone() {
                 let is_enabled = self.world.sites[site].is_fast_delivery_enabled(&self.world.rules, command);
-                if is_enabled && self.draw.percent(manner.fast) {
+                let percent = match is_enabled {
+                    true => manner.fast,
+                    false if self.is_nearly_acknowledged(site, command) => 30,
+                    false => 0,
+                };
+                if self.draw.percent(percent) {
                     self.take(Step::FastDelivery { site, command });
                 }
             }
         }
+    }
+
+    /// At most one sender is missing for a fast delivery, whatever else may be.
+    fn is_nearly_acknowledged(&self, site: usize, command: usize) -> bool {
+        let site = &self.world.sites[site];
+        let heard = site.heard.iter().filter(|((round, _), set)| *round == site.round && set.contains(&command));
+        heard.count() + 1 >= self.world.rules.table.n_ack()
     }
 
     pub fn reads(&mut self, manner: &Manner) {
@@ -160,7 +192,7 @@ impl<'a> Driver<'a> {
             let is_waiting = self.world.sites[site].phase != Phase::Acknowledging;
             if is_waiting && self.draw.percent(manner.ends) {
                 let is_enabled = self.world.sites[site].decision(&self.world.rules, &self.world.log).is_some();
-                if is_enabled || self.draw.percent(10) {
+                if is_enabled || self.draw.percent(VAIN_PERCENT) {
                     self.take(Step::RoundEnd { site });
                 }
             }

@@ -11,12 +11,13 @@ use reference::MOST_BYTES;
 pub fn run(seed: u64, place: u64) -> Vec<u8> {
     let mut draw = Draw::new(seed, place);
     match draw.below(1000) {
-        0..=449 => short(&mut draw),
-        450..=629 => noisy(&mut draw),
-        630..=729 => medium(&mut draw),
-        730..=749 => deep(&mut draw),
-        750..=949 => damaged(&mut draw),
-        950..=979 => garbage(&mut draw),
+        0..=399 => short(&mut draw),
+        400..=499 => lagging(&mut draw),
+        500..=649 => noisy(&mut draw),
+        650..=769 => medium(&mut draw),
+        770..=799 => deep(&mut draw),
+        800..=959 => damaged(&mut draw),
+        960..=984 => garbage(&mut draw),
         _ => sized(&mut draw),
     }
 }
@@ -30,16 +31,31 @@ pub fn short(draw: &mut Draw) -> Vec<u8> {
     feed_and_beat(draw, &opening, &manner, beats, most_bytes, is_shuffled)
 }
 
+/// Sites that end rounds at different times, with messages that come once, so that some come a round early.
+pub fn lagging(draw: &mut Draw) -> Vec<u8> {
+    let sites = draw.pick(&[2, 3, 4, 6, 6, 6, 7, 11]);
+    let (sites, faults, mask) = books::table_of(draw, sites);
+    let style = draw.pick(&[Style::Full, Style::Mixed, Style::Mixed]);
+    let count = draw.within(4, 16);
+    let opening = Opening { sites, faults, mask, book: books::book(draw, style, count) };
+    let (reads, ends) = (draw.pick(&[70, 90, 100]), draw.pick(&[30, 60]));
+    let faulty = draw.pick(&[30, 60, 90]);
+    let manner = Manner { reads, ends, faulty, is_once: true, is_wild: draw.percent(20), ..Manner::prompt() };
+    let (beats, is_shuffled) = (draw.within(3, 9), draw.percent(50));
+    feed_and_beat(draw, &opening, &manner, beats, 4000, is_shuffled)
+}
+
 /// Ten rounds and more: a longer book, fed a few commands at a time, most of what is sent arrives.
 pub fn medium(draw: &mut Draw) -> Vec<u8> {
-    let sites = draw.pick(&[1, 2, 3, 4, 6, 6, 6, 7, 8]);
+    let sites = draw.pick(&[1, 2, 3, 4, 6, 6, 6, 7, 8, 11]);
     let (sites, faults, mask) = books::table_of(draw, sites);
     let style = draw.pick(&[Style::Full, Style::Full, Style::Mixed]);
     let count = draw.within(24, 64);
     let opening = Opening { sites, faults, mask, book: books::book(draw, style, count) };
     let manner = Manner { acknowledgments: draw.pick(&[20, 60, 100]), ..Manner::prompt() };
     let noise = draw.pick(&[0, 0, 2, 20]);
-    let manner = Manner { noise, is_wild: draw.percent(10), checks: draw.pick(&[60, 100]), ..manner };
+    let (checks, faulty) = (draw.pick(&[60, 100]), draw.pick(&[30, 60, 90]));
+    let manner = Manner { noise, checks, faulty, is_wild: draw.percent(10), is_once: draw.percent(30), ..manner };
     let beats = draw.within(10, 20);
     feed_and_beat(draw, &opening, &manner, beats, 30_000, false)
 }

@@ -59,6 +59,44 @@ impl Parts {
     }
 }
 
+impl Parts {
+    /// The same run without this site: steps about it are dropped, later sites move down.
+    pub fn without_site(&self, dropped: usize) -> Option<Parts> {
+        let [sites, faults, low, high] = *self.header.first_chunk::<4>()?;
+        let sites = sites.checked_sub(1).filter(|sites| *sites > 0)?;
+        let mask = usize::from(u16::from_le_bytes([low, high]));
+        let kept_low = mask & ((1 << dropped) - 1);
+        let [low, high] = ((kept_low | (mask >> (dropped + 1)) << dropped) as u16).to_le_bytes();
+        let header = vec![sites, faults.min((sites - 1) / 5), low, high];
+        let steps = self.steps.iter().filter_map(|step| step_without_site(step, dropped)).collect();
+        Some(Parts { header, steps, ..self.clone() })
+    }
+}
+
+/// The step after a site has left the table; none where it is about that site.
+fn step_without_site(step: &Step, dropped: usize) -> Option<Step> {
+    let mut step = step.clone();
+    let named = match &mut step {
+        Step::Acknowledgment { to, from, .. }
+        | Step::Check { to, from, .. }
+        | Step::FaultyAcknowledgment { to, from, .. }
+        | Step::FaultyCheck { to, from, .. } => vec![to, from],
+        Step::Command { to: site, .. }
+        | Step::FaultyEntry { from: site, .. }
+        | Step::Turn { site }
+        | Step::FastDelivery { site, .. }
+        | Step::LogRead { site }
+        | Step::RoundEnd { site } => vec![site],
+    };
+    for site in named {
+        if *site == dropped {
+            return None;
+        }
+        *site = number_without(*site, dropped);
+    }
+    Some(step)
+}
+
 fn number_without(number: usize, dropped: usize) -> usize {
     if number > dropped { number - 1 } else { number }
 }

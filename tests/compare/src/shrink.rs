@@ -39,13 +39,19 @@ fn shrink_list<T: Clone>(mut list: Vec<T>, holds: &mut dyn FnMut(&[T]) -> bool) 
     list
 }
 
-/// Drops steps, then commands of the book, then what follows a cut step.
+/// Drops steps, then sites, then commands of the book, then what follows a cut step.
 fn shrink_parts(mut parts: Parts, holds: Holds) -> Vec<u8> {
     let frame = Parts { steps: Vec::new(), ..parts.clone() };
     let steps = std::mem::take(&mut parts.steps);
     let with_steps = |steps: &[_]| Parts { steps: steps.to_vec(), ..frame.clone() };
     let steps = shrink_list(steps, &mut |steps| holds(&with_steps(steps).bytes()));
     parts = with_steps(&steps);
+    for dropped in (0..usize::from(parts.header[0]).min(11)).rev() {
+        match parts.without_site(dropped) {
+            Some(smaller) if holds(&smaller.bytes()) => parts = smaller,
+            _ => {}
+        }
+    }
     for dropped in (0..parts.book.len()).rev() {
         let smaller = parts.without_command(dropped);
         if holds(&smaller.bytes()) {
