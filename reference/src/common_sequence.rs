@@ -21,11 +21,7 @@ struct ReadOff {
 }
 
 /// The common sequence of a list of steps with these verdicts that left this world, or the first violation.
-pub fn common_sequence(
-    steps: &[Step],
-    verdicts: &[Result<(), Refusal>],
-    world: &World,
-) -> Result<Vec<usize>, String> {
+pub fn common_sequence(steps: &[Step], verdicts: &[Result<(), Refusal>], world: &World) -> Result<Vec<usize>, String> {
     if steps.len() != verdicts.len() {
         return Err(format!("{} steps have {} verdicts", steps.len(), verdicts.len()));
     }
@@ -47,12 +43,7 @@ pub fn common_sequence(
 }
 
 /// What site i delivers: 08 i m that is not refused delivers m; the r-th such 0A i delivers what round r decides.
-fn read_off(
-    number: usize,
-    steps: &[Step],
-    verdicts: &[Result<(), Refusal>],
-    world: &World,
-) -> Result<ReadOff, String> {
+fn read_off(number: usize, steps: &[Step], verdicts: &[Result<(), Refusal>], world: &World) -> Result<ReadOff, String> {
     let mut list = ReadOff::default();
     for (step, _) in steps.iter().zip(verdicts).filter(|(_, verdict)| verdict.is_ok()) {
         match step {
@@ -113,8 +104,7 @@ fn needed_before(lists: &BTreeMap<usize, ReadOff>, world: &World) -> BTreeMap<us
         for command in &list.delivered {
             for other in all.iter().filter(|other| world.rules.book.conflict(*command, **other)) {
                 // One that conflicts stands before exactly when this site delivered it before.
-                let (first, second) =
-                    if delivered.contains(other) { (other, command) } else { (command, other) };
+                let (first, second) = if delivered.contains(other) { (other, command) } else { (command, other) };
                 before.entry(*second).or_default().insert(*first);
             }
             delivered.insert(*command);

@@ -18,12 +18,13 @@ pub fn check_site(site: &Site, rules: &Rules) -> Result<(), Refusal> {
         Phase::Acknowledging => true,
         Phase::Waiting(proposal) => book.holds(&proposal.nc) && book.holds(&proposal.c),
     };
-    let heard_fits = site.heard.iter().all(|((round, sender), set)| {
-        is_round(*round) && *sender < rules.table.sites() && book.holds(set)
-    });
+    let heard_fits = site
+        .heard
+        .iter()
+        .all(|((round, sender), set)| is_round(*round) && *sender < rules.table.sites() && book.holds(set));
     let readings_fit = site.register.readings.iter().all(|reading| *reading <= MOST_READING);
-    let deliveries_fit = site.deliveries.len() <= book.count()
-        && site.deliveries.iter().all(|delivery| delivery.command < book.count());
+    let deliveries_fit =
+        site.deliveries.len() <= book.count() && site.deliveries.iter().all(|delivery| delivery.command < book.count());
     let fits = is_round(site.round) && sets_fit && proposal_fits && heard_fits && readings_fit;
     if fits && deliveries_fit {
         Ok(())

@@ -24,8 +24,7 @@ fn difference(new: u32, old: u32) -> i32 {
 impl Register {
     /// Executes the command and gives its answer.
     pub fn execute(&mut self, command: Command) -> i32 {
-        let (Some(reading), Some(dash)) =
-            (self.readings.get_mut(command.bike), self.dashes.get_mut(command.bike))
+        let (Some(reading), Some(dash)) = (self.readings.get_mut(command.bike), self.dashes.get_mut(command.bike))
         else {
             return 0;
         };

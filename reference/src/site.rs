@@ -155,9 +155,7 @@ impl Site {
     pub fn is_fast_delivery_enabled(&self, rules: &Rules, command: usize) -> bool {
         let senders = (0..rules.table.sites())
             .filter(|sender| self.heard.get(&(self.round, *sender)).is_some_and(|set| set.contains(&command)));
-        self.pending.contains(&command)
-            && !self.g_ack_del.contains(&command)
-            && senders.count() >= rules.table.n_ack()
+        self.pending.contains(&command) && !self.g_ack_del.contains(&command) && senders.count() >= rules.table.n_ack()
     }
 
     /// Fast delivery of a command (lines 26 to 29), also possible while waiting.

@@ -91,9 +91,7 @@ impl Step {
             Step::Command { to, command } => numbers(0x01, &[*to, *command]),
             Step::Acknowledgment { to, from, round, a } => numbers(0x02, &[*to, *from, *round, *a]),
             Step::Check { to, from, round } => numbers(0x03, &[*to, *from, *round]),
-            Step::FaultyAcknowledgment { to, from, round, set } => {
-                with_sets(0x04, &[*to, *from, *round], &[set])
-            }
+            Step::FaultyAcknowledgment { to, from, round, set } => with_sets(0x04, &[*to, *from, *round], &[set]),
             Step::FaultyCheck { to, from, round, set } => with_sets(0x05, &[*to, *from, *round], &[set]),
             Step::FaultyEntry { from, round, nc, c } => with_sets(0x06, &[*from, *round], &[nc, c]),
             Step::Turn { site } => numbers(0x07, &[*site]),

@@ -86,8 +86,7 @@ impl World {
                 is_site(to) && is_site(from) && is_round(*round) && (1..=MOST_ACKNOWLEDGMENTS).contains(a)
             }
             Step::Check { to, from, round } => is_site(to) && is_site(from) && is_round(*round),
-            Step::FaultyAcknowledgment { to, from, round, set }
-            | Step::FaultyCheck { to, from, round, set } => {
+            Step::FaultyAcknowledgment { to, from, round, set } | Step::FaultyCheck { to, from, round, set } => {
                 is_site(to) && is_site(from) && is_round(*round) && holds(set)
             }
             Step::FaultyEntry { from, round, nc, c } => {
@@ -104,9 +103,7 @@ impl World {
         let is_faulty = |site: &usize| self.faulty.contains(site);
         let fits = match step {
             Step::Command { to, .. } => !is_faulty(to),
-            Step::Acknowledgment { to, from, .. } | Step::Check { to, from, .. } => {
-                !is_faulty(to) && !is_faulty(from)
-            }
+            Step::Acknowledgment { to, from, .. } | Step::Check { to, from, .. } => !is_faulty(to) && !is_faulty(from),
             Step::FaultyAcknowledgment { to, from, .. } | Step::FaultyCheck { to, from, .. } => {
                 !is_faulty(to) && is_faulty(from)
             }

@@ -58,7 +58,7 @@ fn add(draw: &mut Draw, bike: usize) -> Vec<u8> {
 }
 
 fn fit(draw: &mut Draw, bike: usize) -> Vec<u8> {
-    let any_dash = draw.next() as u32;
+    let any_dash = draw.bits() as u32;
     let any_start = draw.below(1_000_000) as u32;
     let dash = draw.pick(&[0, 7, u32::MAX, any_dash]);
     let start = draw.pick(&[0, 5, 999_990, 999_999, any_start, any_start]);
@@ -123,8 +123,12 @@ pub fn book(draw: &mut Draw, style: Style, count: usize) -> Vec<Vec<u8>> {
     match style {
         Style::Free => free_book(draw, count),
         Style::Full => full_book(draw, count),
-        Style::Mixed => (0..count).map(|_| draw.below(bikes)).collect::<Vec<_>>().into_iter()
-            .map(|bike| any_command(draw, bike)).collect(),
+        Style::Mixed => (0..count)
+            .map(|_| draw.below(bikes))
+            .collect::<Vec<_>>()
+            .into_iter()
+            .map(|bike| any_command(draw, bike))
+            .collect(),
     }
 }
 

@@ -17,7 +17,7 @@ impl Draw {
         Draw { state: mix(mix(seed, 0), place) | 1 }
     }
 
-    pub fn next(&mut self) -> u64 {
+    pub fn bits(&mut self) -> u64 {
         self.state ^= self.state >> 12;
         self.state ^= self.state << 25;
         self.state ^= self.state >> 27;
@@ -29,7 +29,7 @@ impl Draw {
         if bound == 0 {
             return 0;
         }
-        ((self.next() >> 11) % bound as u64) as usize
+        ((self.bits() >> 11) % bound as u64) as usize
     }
 
     /// A number from low to high, both included.
@@ -43,7 +43,7 @@ impl Draw {
     }
 
     pub fn byte(&mut self) -> u8 {
-        (self.next() >> 32) as u8
+        (self.bits() >> 32) as u8
     }
 
     /// One of the values; there must be one.

@@ -1,4 +1,8 @@
 //! Random runs for the reference and for programs compared with it.
+//!
+//! `cargo test --offline` plays 20,000 runs and checks demand 3 of each. BEURILMA_RUNS and BEURILMA_SEED change
+//! their number and their seed, BEURILMA_FUZZ_SECONDS the time spent on damaged bytes. With `--features archive`
+//! and BEURILMA_ARCHIVE, the path of the proved program's static archive, every print is compared with its print.
 
 pub mod books;
 pub mod damage;

@@ -5,19 +5,31 @@ use reference::{Set, Step, World};
 
 fn site(draw: &mut Draw, world: &World) -> usize {
     let edge = draw.pick(&[world.sites.len(), 11, 255]);
-    if draw.percent(4) { edge } else { draw.below(world.sites.len()) }
+    if draw.percent(4) {
+        edge
+    } else {
+        draw.below(world.sites.len())
+    }
 }
 
 fn command(draw: &mut Draw, world: &World) -> usize {
     let count = world.rules.book.count();
-    if draw.percent(5) { draw.pick(&[count, 64, 255]) } else { draw.below(count) }
+    if draw.percent(5) {
+        draw.pick(&[count, 64, 255])
+    } else {
+        draw.below(count)
+    }
 }
 
 /// A round near those the sites are in, or at the ends of its range.
 fn round(draw: &mut Draw, world: &World) -> usize {
     let highest = world.sites.iter().map(|site| site.round).max().unwrap_or(1);
     let edge = draw.pick(&[0, 31, 32, 33, 34, 255]);
-    if draw.percent(10) { edge } else { draw.within(1, highest + 1) }
+    if draw.percent(10) {
+        edge
+    } else {
+        draw.within(1, highest + 1)
+    }
 }
 
 /// Any set of the book's commands, now and then with one beyond it.
@@ -58,5 +70,9 @@ pub fn step(draw: &mut Draw, world: &World) -> Step {
 /// A faulty site where there is one, mostly.
 fn faulty(draw: &mut Draw, world: &World, otherwise: usize) -> usize {
     let faulty: Vec<usize> = world.faulty.iter().copied().collect();
-    if faulty.is_empty() || draw.percent(10) { otherwise } else { draw.pick(&faulty) }
+    if faulty.is_empty() || draw.percent(10) {
+        otherwise
+    } else {
+        draw.pick(&faulty)
+    }
 }

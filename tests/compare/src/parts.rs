@@ -98,7 +98,11 @@ fn step_without_site(step: &Step, dropped: usize) -> Option<Step> {
 }
 
 fn number_without(number: usize, dropped: usize) -> usize {
-    if number > dropped { number - 1 } else { number }
+    if number > dropped {
+        number - 1
+    } else {
+        number
+    }
 }
 
 fn set_without(set: &Set, dropped: usize) -> Set {

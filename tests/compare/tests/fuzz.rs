@@ -1,10 +1,10 @@
 //! Arbitrary and damaged bytes: the reference never panics, and demand 3 holds of every play.
 
-#[cfg(feature = "archive")]
-use compare::program::{compare, Reference};
 use compare::damage::damage;
 use compare::draw::Draw;
 use compare::generator;
+#[cfg(feature = "archive")]
+use compare::program::{compare, Reference};
 use compare::settings::{hexadecimal, number, say};
 use reference::{common_sequence, play, play_run};
 use std::panic::catch_unwind;

@@ -25,10 +25,9 @@ fn addressed(step: &Step) -> Option<usize> {
         | Step::FaultyAcknowledgment { to, .. }
         | Step::FaultyCheck { to, .. } => Some(*to),
         Step::FaultyEntry { .. } => None,
-        Step::Turn { site }
-        | Step::FastDelivery { site, .. }
-        | Step::LogRead { site }
-        | Step::RoundEnd { site } => Some(*site),
+        Step::Turn { site } | Step::FastDelivery { site, .. } | Step::LogRead { site } | Step::RoundEnd { site } => {
+            Some(*site)
+        }
     }
 }
 
@@ -64,6 +63,25 @@ fn drop_acknowledgment_of_other_round(before: &Site, step: &Step, place: usize, 
         if *round != before.round {
             world.sites[place] = before.clone();
         }
+    }
+}
+
+fn count_acknowledgment_of_earlier_round(
+    before: &Site,
+    step: &Step,
+    place: usize,
+    world: &mut World,
+    verdict: &mut Verdict,
+) {
+    let (from, round, set) = match (step, verdict) {
+        (Step::FaultyAcknowledgment { from, round, set, .. }, Ok(())) => (from, round, set),
+        (Step::Acknowledgment { from, round, a, .. }, Ok(())) => {
+            (from, round, &world.acknowledgments[&(*from, *round)][a - 1])
+        }
+        _ => return,
+    };
+    if *round < before.round {
+        world.sites[place].heard.entry((before.round, *from)).or_default().extend(set);
     }
 }
 
@@ -184,9 +202,10 @@ fn acknowledge_only_what_is_new(before: &Site, step: &Step, place: usize, world:
     }
 }
 
-const FAULTS: [(&str, Fault); 13] = [
+const FAULTS: [(&str, Fault); 14] = [
     ("drop an acknowledgment of a later round", drop_acknowledgment_of_later_round),
     ("drop an acknowledgment of another round", drop_acknowledgment_of_other_round),
+    ("count an acknowledgment of an earlier round", count_acknowledgment_of_earlier_round),
     ("keep only a sender's last acknowledgment", keep_only_last_acknowledgment),
     ("grow pending while waiting", grow_pending_while_waiting),
     ("answer ADD with the reading", answer_add_with_the_reading),
