@@ -1,0 +1,4 @@
+pub mod Laws
+pub mod Front
+pub mod Walk
+pub mod RoundTrip
