@@ -44,25 +44,25 @@ impl Site {
     // The bytes of a site.
     pub const SIZE: usize = 3533;
     // Where each field stands.
-    const ROUND: usize = 0;
+    pub const ROUND: usize = 0;
 
-    const PHASE: usize = 1;
+    pub const PHASE: usize = 1;
 
-    const COUNT: usize = 2;
+    pub const COUNT: usize = 2;
 
-    const POSITION: usize = 3;
+    pub const POSITION: usize = 3;
 
-    const RECEIVED: usize = 5;
+    pub const RECEIVED: usize = 5;
 
-    const DELIVERED: usize = 13;
+    pub const DELIVERED: usize = 13;
 
-    const PENDING: usize = 21;
+    pub const PENDING: usize = 21;
 
-    const FAST: usize = 29;
+    pub const FAST: usize = 29;
 
-    const NC: usize = 37;
+    pub const NC: usize = 37;
 
-    const C: usize = 45;
+    pub const C: usize = 45;
 
     pub const HEARD: usize = 53;
 
@@ -133,7 +133,7 @@ fn tag(phase: Phase) -> u8
 }
 
 // The sets that a phase waits with, empty while it acknowledges.
-fn proposal_of(phase: Phase) -> Proposal
+pub fn proposal_of(phase: Phase) -> Proposal
     ensures { λ r. ⌜ r ≡ proposalOf phase ⌝ }
 {
     match phase {
