@@ -1,0 +1,99 @@
+-- How a step ends: the tables are written first, the header last, and the bytes are those of the site that they are seen as.
+-- Assumes nothing.
+use mathlib.Core.Path.{_≡_, refl, sym, ap, subst, _∙_}
+use mathlib.Core.List.{List}
+use Prim.Native.Nat.{ℕ, _≤_, _<_}
+use native.Mathlib.Omega.{arith}
+use lib.ListN.{length, getD}
+use Rattle.wire.specs.Wire.{value, bytes, readLe, splice}
+use Rattle.wire.proofs.Laws.{length-splice, value-bytes}
+use Rattle.sets.specs.Sets.{capacity}
+use Rattle.table.specs.declared.SiteTable.{SiteTable}
+use Rattle.register.specs.declared.Command.{Command}
+use Rattle.protocol.specs.Site as protocol
+use Rattle.system.specs.Dash.{dash}
+use Rattle.layout.specs.declared.Phase.{Phase}
+use Rattle.layout.specs.declared.Phase.the-variants.{Acknowledging, Waiting}
+use Rattle.layout.specs.declared.Site.{Site}
+use Rattle.layout.specs.Layout.{siteSize, phasePlace, countPlace, ncPlace, cPlace, heardPlace, registerPlace, deliveriesPlace, slot, tagOf, proposalOf, headOf, headBytes, numbersBytes, setsBytes, heardOf, siteOf, ledgerOf, view, encode}
+use Rattle.layout.specs.Good.{Fit, GoodHead, GoodTables, Good, Holds}
+use Rattle.layout.proofs.Header.{head-back, length-head}
+use Rattle.layout.proofs.Agree.{Agree, agree-after, agree-part, heard-agree, register-agree, deliveries-agree}
+use Rattle.layout.proofs.Encode.{encode-view}
+use Rattle.layout.proofs.Tables.{tables-agree}
+
+module _ (b : List ℕ) (h : Site) (size : length b ≡ siteSize) where
+  -- The header is written before everything else.
+  pub head-agree : Agree b (splice b 0 (headBytes h)) heardPlace siteSize
+  head-agree = let q = length-head h in agree-after b 0 (headBytes h) heardPlace siteSize (omega arith) (omega arith)
+
+  pub head-length : length (splice b 0 (headBytes h)) ≡ siteSize
+  head-length = let q = length-head h in length-splice b 0 (headBytes h) (omega arith) ∙ size
+
+  count-back : Fit h → readLe 1 (splice b 0 (headBytes h)) countPlace ≡ h .deliveries
+  unfolding headOf
+  count-back f = λ i. head-back b h f i .deliveries
+
+  tag-back : readLe 1 (splice b 0 (headBytes h)) phasePlace ≡ tagOf (h .phase)
+  unfolding splice numbersBytes setsBytes readLe value bytes
+  tag-back = value-bytes 1 (tagOf (h .phase)) (small (h .phase))
+    where
+      small : (p : Phase) → tagOf p < 256
+      small Acknowledging = omega arith
+      small (Waiting p) = omega arith
+
+  words-back : Fit h → (readLe 8 (splice b 0 (headBytes h)) ncPlace ≡ proposalOf (h .phase) .nc .bits) × (readLe 8 (splice b 0 (headBytes h)) cPlace ≡ proposalOf (h .phase) .c .bits)
+  unfolding splice numbersBytes setsBytes readLe value bytes
+  words-back f = (value-bytes 8 (proposalOf (h .phase) .nc .bits) (f .nc), value-bytes 8 (proposalOf (h .phase) .c .bits) (f .c))
+
+  -- Good bytes, whatever header stood there before.
+  pub good-head : {sites commands : ℕ} → Fit h → GoodHead commands h → GoodTables sites commands (h .deliveries) b → Good sites commands (splice b 0 (headBytes h))
+  good-head {sites} {commands} f g t =
+      let room = g .room in
+      record {
+        size = head-length;
+        tag = subst (λ (n : ℕ). n ≤ 1) (sym tag-back) (tag-most (h .phase));
+        idle = λ e. let w = words-back f in let z = quiet (h .phase) (sym tag-back ∙ e) in (w .0 ∙ z .0, w .1 ∙ z .1);
+        head = subst (GoodHead commands) (sym (head-back b h f)) g;
+        tables =
+            subst (λ (n : ℕ). GoodTables sites commands n (splice b 0 (headBytes h))) (sym (count-back f))
+            (tables-agree sites commands (h .deliveries) room head-agree t);
+      }
+    where
+      tag-most : (p : Phase) → tagOf p ≤ 1
+      tag-most Acknowledging = omega arith
+      tag-most (Waiting p) = omega arith
+
+      quiet : (p : Phase) → tagOf p ≡ 0 → (proposalOf p .nc .bits ≡ 0) × (proposalOf p .c .bits ≡ 0)
+      quiet Acknowledging e = (refl, refl)
+      quiet (Waiting p) e = absurd (omega arith)
+
+module _ (t : SiteTable) (book : List Command) where
+  -- What is seen after the header was written.
+  pub view-head : (b : List ℕ) (h : Site) → length b ≡ siteSize → Fit h → h .deliveries ≤ capacity
+      → view t book (splice b 0 (headBytes h)) ≡ siteOf t book h (heardOf b) (ledgerOf t book (h .deliveries) b)
+  view-head b h size f l =
+      let g = head-agree b h size in
+      (λ i. siteOf t book (head-back b h f i) (heard-agree (agree-part heardPlace registerPlace g (omega arith) (omega arith)) i)
+      (ledgerOf t book (count-back b h size f i) (splice b 0 (headBytes h))))
+      ∙ (λ i. siteOf t book h (heardOf b)
+      (record {
+        state = register-agree (agree-part registerPlace deliveriesPlace g (omega arith) (omega arith)) i;
+        deliveries = deliveries-agree (h .deliveries) (agree-part deliveriesPlace (slot (h .deliveries)) g (omega arith) (omega arith)) i;
+      }))
+
+  -- Good bytes hold what they say.
+  pub holds : {b : List ℕ} {s : protocol.Site (dash t book)} → Good (t .sites) (length book) b → ((i : ℕ) → getD b i 0 < 256) → view t book b ≡ s → Holds t book b s
+  holds {b} g small e = record { bytes = sym (encode-view t book b g small) ∙ ap (encode t book) e; says = e; good = g }
+
+  -- A step that leaves the bytes as they were.
+  pub unchanged : {b : List ℕ} → Good (t .sites) (length book) b → ((i : ℕ) → getD b i 0 < 256) → Holds t book b (view t book b)
+  unchanged g small = holds g small refl
+
+  -- A step that ends by writing the header h over bytes whose tables are good: one law by value is left, that of the last argument.
+  pub finish : (b : List ℕ) (h : Site) {b′ : List ℕ} {s : protocol.Site (dash t book)} → length b ≡ siteSize → b′ ≡ splice b 0 (headBytes h) → ((i : ℕ) → getD b′ i 0 < 256)
+      → Fit h → GoodHead (length book) h → GoodTables (t .sites) (length book) (h .deliveries) b
+      → siteOf t book h (heardOf b) (ledgerOf t book (h .deliveries) b) ≡ s → Holds t book b′ s
+  finish b h {b′} size e small f g tables law =
+      holds (subst (Good (t .sites) (length book)) (sym e) (good-head b h size f g tables)) small
+      (ap (view t book) e ∙ view-head b h size f (g .room) ∙ law)

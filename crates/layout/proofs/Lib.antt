@@ -1,0 +1,7 @@
+pub mod Header
+pub mod Agree
+pub mod Senders
+pub mod Deliveries
+pub mod Encode
+pub mod Tables
+pub mod Finish

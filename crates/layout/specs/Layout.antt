@@ -1,0 +1,228 @@
+-- One site in lent bytes: where each field stands, the site that the bytes are seen as, and the bytes of a site.
+-- Assumes nothing.
+use mathlib.Core.Bool.{Bool, _&&_}
+use mathlib.Core.List.{List, [], _∷_, _++_}
+use Prim.Native.Nat.{ℕ, zero, suc, _+_, _*_, _-_, _/_, _%_}
+use lib.Dec.{leb, ltb}
+use lib.IntN.{ℤ}
+use lib.ListN.{length, replicate}
+use Rattle.theory.specs.Machine.{Delivery}
+use Rattle.wire.specs.Wire.{bytes, readLe}
+use Rattle.signed.specs.Signed.{signed32, word32}
+use Rattle.sets.specs.declared.Set.{Set}
+use Rattle.sets.specs.Sets.{has, capacity, inSet, setOf, emptyOf, setBytes, readSet, writeSet, unionOf}
+use Rattle.table.specs.declared.SiteTable.{SiteTable}
+use Rattle.table.specs.Table.{maxSites}
+use Rattle.register.specs.declared.Command.{Command}
+use Rattle.register.specs.Lent.{registerOf, registerBytes}
+use Rattle.protocol.specs.Site as protocol
+use Rattle.protocol.specs.Site.{acknowledging, waiting}
+use Rattle.system.specs.Dash.{dash}
+use Rattle.layout.specs.declared.Proposal.{Proposal}
+use Rattle.layout.specs.declared.Phase.{Phase}
+use Rattle.layout.specs.declared.Phase.the-variants.{Acknowledging, Waiting}
+use Rattle.layout.specs.declared.Site.{Site}
+use Rattle.layout.specs.declared.Delivery as declared
+
+-- The bytes of a site.
+abbrev pub siteSize : ℕ
+siteSize = 3533
+
+-- Where each field stands. The round and the number of recorded deliveries take 1 byte, the log position 2, a set 8.
+-- The phase is a tag of 1 byte, 0 acknowledging and 1 waiting, and two sets.
+abbrev pub roundPlace : ℕ
+roundPlace = 0
+
+abbrev pub phasePlace : ℕ
+phasePlace = 1
+
+abbrev pub countPlace : ℕ
+countPlace = 2
+
+abbrev pub positionPlace : ℕ
+positionPlace = 3
+
+abbrev pub receivedPlace : ℕ
+receivedPlace = 5
+
+abbrev pub deliveredPlace : ℕ
+deliveredPlace = 13
+
+abbrev pub pendingPlace : ℕ
+pendingPlace = 21
+
+abbrev pub fastPlace : ℕ
+fastPlace = 29
+
+abbrev pub ncPlace : ℕ
+ncPlace = 37
+
+abbrev pub cPlace : ℕ
+cPlace = 45
+
+-- A set for each sender and round, all rounds of a sender together.
+abbrev pub heardPlace : ℕ
+heardPlace = 53
+
+abbrev pub registerPlace : ℕ
+registerPlace = 2957
+
+-- Each recorded delivery: the command in 1 byte, its answer in 4.
+abbrev pub deliveriesPlace : ℕ
+deliveriesPlace = 3213
+
+-- The rounds of a site: 1 to 33.
+abbrev pub siteRounds : ℕ
+siteRounds = 33
+
+-- The sets heard: one for each of 11 senders and each round.
+abbrev pub heardSets : ℕ
+heardSets = 363
+
+abbrev pub deliverySize : ℕ
+deliverySize = 5
+
+-- The place of the n-th set heard.
+abbrev pub heardAt : ℕ → ℕ
+heardAt n = heardPlace + setBytes * n
+
+-- The place of what sender j acknowledged in round r.
+abbrev pub cell : ℕ → ℕ → ℕ
+cell j r = heardAt (siteRounds * j + (r - 1))
+
+-- The place of the k-th recorded delivery.
+abbrev pub slot : ℕ → ℕ
+slot k = deliveriesPlace + deliverySize * k
+
+-- ---- what the bytes say
+
+abbrev pub phaseFrom : ℕ → Set → Set → Phase
+phaseFrom zero nc c = Acknowledging
+phaseFrom (suc n) nc c = Waiting (record { nc = nc; c = c })
+
+-- The header: all fields but what was heard, the register and the deliveries themselves.
+unfoldable pub headOf : List ℕ → Site
+headOf b =
+    record {
+      round = readLe 1 b roundPlace;
+      phase = phaseFrom (readLe 1 b phasePlace) (readSet b ncPlace) (readSet b cPlace);
+      position = readLe 2 b positionPlace;
+      deliveries = readLe 1 b countPlace;
+      received = readSet b receivedPlace;
+      delivered = readSet b deliveredPlace;
+      pending = readSet b pendingPlace;
+      fast = readSet b fastPlace;
+    }
+
+-- A sender and a round that the bytes have a set for.
+abbrev pub inTable : ℕ → ℕ → Bool
+inTable j r = ltb j maxSites && (leb 1 r && leb r siteRounds)
+
+-- What each sender acknowledged in each round; nothing outside the table.
+unfoldable pub heardOf : List ℕ → ℕ → ℕ → ℕ → Bool
+heardOf b j r m = inTable j r && has (readLe setBytes b (cell j r)) m
+
+-- The bytes with an acknowledgment united with what its sender acknowledged in its round.
+abbrev pub heardMore : List ℕ → ℕ → ℕ → Set → List ℕ
+heardMore b j r x = writeSet b (cell j r) (unionOf (readSet b (cell j r)) x)
+
+abbrev pub deliveryOf : List ℕ → ℕ → Delivery ℤ
+deliveryOf b k = record { command = readLe 1 b (slot k); answer = signed32 (readLe 4 b (slot k + 1)) }
+
+-- A delivery that was read, as the protocol has it.
+abbrev pub deliverySeen : declared.Delivery → Delivery ℤ
+deliverySeen d = record { command = d .command; answer = d .answer }
+
+-- The first n recorded deliveries.
+unfoldable pub deliveriesOf : ℕ → List ℕ → List (Delivery ℤ)
+deliveriesOf zero b = []
+deliveriesOf (suc n) b = deliveriesOf n b ++ (deliveryOf b n ∷ [])
+
+abbrev pub phaseSeen : Phase → protocol.Phase
+phaseSeen Acknowledging = acknowledging
+phaseSeen (Waiting p) = waiting (record { nc = inSet (p .nc); c = inSet (p .c) })
+
+-- ---- the bytes of what is said
+
+abbrev pub tagOf : Phase → ℕ
+tagOf Acknowledging = 0
+tagOf (Waiting p) = 1
+
+-- The sets that a phase is waiting with, empty while it acknowledges.
+abbrev pub proposalOf : Phase → Proposal
+proposalOf Acknowledging = record { nc = emptyOf; c = emptyOf }
+proposalOf (Waiting p) = p
+
+-- The numbers of a header, and its sets.
+unfoldable pub numbersBytes : Site → List ℕ
+numbersBytes h = ((bytes 1 (h .round) ++ bytes 1 (tagOf (h .phase))) ++ bytes 1 (h .deliveries)) ++ bytes 2 (h .position)
+
+unfoldable pub setsBytes : Site → List ℕ
+setsBytes h =
+    ((((bytes 8 (h .received .bits) ++ bytes 8 (h .delivered .bits)) ++ bytes 8 (h .pending .bits)) ++ bytes 8 (h .fast .bits))
+    ++ bytes 8 (proposalOf (h .phase) .nc .bits)) ++ bytes 8 (proposalOf (h .phase) .c .bits)
+
+abbrev pub headBytes : Site → List ℕ
+headBytes h = numbersBytes h ++ setsBytes h
+
+-- The first n of the sets heard: that of sender 0 and round 1 first.
+unfoldable pub heardBytes : ℕ → (ℕ → ℕ → ℕ → Bool) → List ℕ
+heardBytes zero h = []
+heardBytes (suc n) h = heardBytes n h ++ bytes setBytes (setOf capacity (h (n / siteRounds) (n % siteRounds + 1)) .bits)
+
+abbrev pub deliveryBytes : ℕ → ℤ → List ℕ
+deliveryBytes m z = bytes 1 m ++ bytes 4 (word32 z)
+
+abbrev pub deliveriesBytes : List (Delivery ℤ) → List ℕ
+deliveriesBytes [] = []
+deliveriesBytes (d ∷ ds) = deliveryBytes (d .command) (d .answer) ++ deliveriesBytes ds
+
+abbrev pub phaseFor : protocol.Phase → Phase
+phaseFor acknowledging = Acknowledging
+phaseFor (waiting p) = Waiting (record { nc = setOf capacity (p .nc); c = setOf capacity (p .c) })
+
+module _ (t : SiteTable) (book : List Command) where
+  -- The register and the first n recorded deliveries.
+  abbrev pub ledgerOf : ℕ → List ℕ → protocol.Ledger (dash t book)
+  ledgerOf n b = record { state = registerOf b registerPlace; deliveries = deliveriesOf n b }
+
+  -- The site of a header, of what was heard, and of a ledger.
+  abbrev pub siteOf : Site → (ℕ → ℕ → ℕ → Bool) → protocol.Ledger (dash t book) → protocol.Site (dash t book)
+  siteOf h heard ledger =
+      record {
+        received = inSet (h .received);
+        delivered = inSet (h .delivered);
+        pending = inSet (h .pending);
+        fast = inSet (h .fast);
+        round = h .round;
+        phase = phaseSeen (h .phase);
+        position = h .position;
+        heard = heard;
+        ledger = ledger;
+      }
+
+  -- The site that lent bytes are seen as.
+  abbrev pub view : List ℕ → protocol.Site (dash t book)
+  view b = siteOf (headOf b) (heardOf b) (ledgerOf (readLe 1 b countPlace) b)
+
+  -- The header of a site.
+  abbrev pub headFor : protocol.Site (dash t book) → Site
+  headFor s =
+      record {
+        round = s .round;
+        phase = phaseFor (s .phase);
+        position = s .position;
+        deliveries = length (s .ledger .deliveries);
+        received = setOf capacity (s .received);
+        delivered = setOf capacity (s .delivered);
+        pending = setOf capacity (s .pending);
+        fast = setOf capacity (s .fast);
+      }
+
+  -- The bytes of a site.
+  abbrev pub encode : protocol.Site (dash t book) → List ℕ
+  encode s =
+      headBytes (headFor s)
+      ++ (heardBytes heardSets (s .heard)
+      ++ (registerBytes (s .ledger .state)
+      ++ (deliveriesBytes (s .ledger .deliveries) ++ replicate (deliverySize * (capacity - length (s .ledger .deliveries))) 0)))

@@ -1,0 +1,220 @@
+// One site's state in lent bytes at fixed places: a header read and written as a struct, and the sets heard, the register and the deliveries in place.
+ghost use mathlib.Core.Path.{_≡_};
+ghost use Prim.Native.Nat.{_+_, _≤_, _<_};
+ghost use lib.ListN.{length};
+ghost use Rattle.wire.specs.Wire.{splice};
+ghost use Rattle.sets.specs.Sets.{capacity, readSet};
+ghost use Rattle.table.specs.Table.{maxSites};
+ghost use Rattle.layout.specs.Layout.{siteSize, siteRounds, registerPlace, cell, slot, headOf, phaseFrom, tagOf, proposalOf, numbersBytes, setsBytes, headBytes, deliveryOf, deliveryBytes, deliverySeen, heardMore};
+use sets::Set;
+
+// What a site proposed.
+pub struct Proposal {
+    pub nc: Set,
+    pub c: Set,
+}
+
+// A site is either acknowledging, or waiting with the sets it proposed.
+pub enum Phase {
+    Acknowledging,
+    Waiting(Proposal),
+}
+
+// The header of a site; the sets heard, the register and the deliveries stay in the lent bytes.
+pub struct Site {
+    pub round: u8,
+    pub phase: Phase,
+    // the log position: how many entries were read
+    pub position: u16,
+    // how many deliveries are recorded
+    pub deliveries: u8,
+    pub received: Set,
+    pub delivered: Set,
+    pub pending: Set,
+    pub fast: Set,
+}
+
+// A command delivered, with the answer that it was given.
+pub struct Delivery {
+    pub command: u8,
+    pub answer: i32,
+}
+
+impl Site {
+    // The bytes of a site.
+    pub const SIZE: usize = 3533;
+    // Where each field stands.
+    pub const ROUND: usize = 0;
+
+    pub const PHASE: usize = 1;
+
+    pub const COUNT: usize = 2;
+
+    pub const POSITION: usize = 3;
+
+    pub const RECEIVED: usize = 5;
+
+    pub const DELIVERED: usize = 13;
+
+    pub const PENDING: usize = 21;
+
+    pub const FAST: usize = 29;
+
+    pub const NC: usize = 37;
+
+    pub const C: usize = 45;
+
+    pub const HEARD: usize = 53;
+
+    pub const REGISTER: usize = 2957;
+
+    pub const DELIVERIES: usize = 3213;
+    // The rounds of a site: 1 to 33.
+    pub const ROUNDS: usize = 33;
+    // The sets heard: one for each of 11 senders and each round.
+    pub const HEARD_SETS: usize = 363;
+    // The bytes of a recorded delivery: its command, then its answer.
+    pub const DELIVERY: usize = 5;
+
+    // The header that stands in lent bytes.
+    pub fn read(site: &[u8]) -> Site
+        requires { ⌜ length (now site) ≡ siteSize ⌝ }
+        ensures { λ r. ⌜ r ≡ headOf (now (site .entry)) ⌝ }
+    {
+        let tag = wire::get1(site, Site::PHASE);
+        let nc = Set::read(site, Site::NC);
+        let c = Set::read(site, Site::C);
+        let phase = phase_of(tag, nc, c);
+        let round = wire::get1(site, Site::ROUND);
+        let position = wire::get2(site, Site::POSITION);
+        let deliveries = wire::get1(site, Site::COUNT);
+        let received = Set::read(site, Site::RECEIVED);
+        let delivered = Set::read(site, Site::DELIVERED);
+        let pending = Set::read(site, Site::PENDING);
+        let fast = Set::read(site, Site::FAST);
+        Site {
+            round,
+            phase,
+            position,
+            deliveries,
+            received,
+            delivered,
+            pending,
+            fast,
+        }
+    }
+
+    // The header is written over the one that stands in lent bytes.
+    pub fn write(self, site: &mut [u8])
+        requires { ⌜ length (now site) ≡ siteSize ⌝ }
+        ensures { λ _. ⌜ now (site .exit) ≡ splice (now (site .entry)) 0 (headBytes self) ⌝ }
+    {
+        write_numbers(site, self);
+        write_sets(site, self);
+    }
+}
+
+fn phase_of(tag: u8, nc: Set, c: Set) -> Phase
+    ensures { λ r. ⌜ r ≡ phaseFrom tag nc c ⌝ }
+{
+    if tag == 0 {
+        return Phase::Acknowledging;
+    }
+    Phase::Waiting(Proposal { nc, c })
+}
+
+fn tag(phase: Phase) -> u8
+    ensures { λ r. ⌜ r ≡ tagOf phase ⌝ }
+{
+    match phase {
+        Phase::Acknowledging => 0,
+        Phase::Waiting(_) => 1,
+    }
+}
+
+// The sets that a phase waits with, empty while it acknowledges.
+pub fn proposal_of(phase: Phase) -> Proposal
+    ensures { λ r. ⌜ r ≡ proposalOf phase ⌝ }
+{
+    match phase {
+        Phase::Acknowledging => Proposal {
+            nc: Set { bits: 0 },
+            c: Set { bits: 0 },
+        },
+        Phase::Waiting(proposed) => proposed,
+    }
+}
+
+fn write_numbers(site: &mut [u8], header: Site)
+    requires { ⌜ length (now site) ≡ siteSize ⌝ }
+    ensures { λ _. ⌜ now (site .exit) ≡ splice (now (site .entry)) 0 (numbersBytes header) ⌝ }
+{
+    let phase = header.phase;
+    wire::put1(site, Site::ROUND, header.round);
+    wire::put1(site, Site::PHASE, tag(phase));
+    wire::put1(site, Site::COUNT, header.deliveries);
+    wire::put2(site, Site::POSITION, header.position);
+}
+
+fn write_sets(site: &mut [u8], header: Site)
+    requires { ⌜ length (now site) ≡ siteSize ⌝ }
+    ensures { λ _. ⌜ now (site .exit) ≡ splice (now (site .entry)) 5 (setsBytes header) ⌝ }
+{
+    let phase = header.phase;
+    let proposed = proposal_of(phase);
+    header.received.write(site, Site::RECEIVED);
+    header.delivered.write(site, Site::DELIVERED);
+    header.pending.write(site, Site::PENDING);
+    header.fast.write(site, Site::FAST);
+    proposed.nc.write(site, Site::NC);
+    proposed.c.write(site, Site::C);
+}
+
+// The place of what a sender acknowledged in a round.
+fn heard_place(sender: usize, round: usize) -> usize
+    requires { ⌜ (sender < maxSites) × (1 ≤ round) × (round ≤ siteRounds) ⌝ }
+    ensures { λ r. ⌜ (r ≡ cell sender round) × (r + 8 ≤ registerPlace) ⌝ }
+{
+    Site::HEARD + Set::BYTES * (Site::ROUNDS * sender + (round - 1))
+}
+
+// What a sender acknowledged in a round.
+pub fn heard(site: &[u8], sender: usize, round: usize) -> Set
+    requires { ⌜ (length (now site) ≡ siteSize) × (sender < maxSites) × (1 ≤ round) × (round ≤ siteRounds) ⌝ }
+    ensures { λ r. ⌜ r ≡ readSet (now (site .entry)) (cell sender round) ⌝ }
+{
+    Set::read(site, heard_place(sender, round))
+}
+
+// An acknowledgment is united with what its sender acknowledged in its round.
+pub fn hear(site: &mut [u8], sender: usize, round: usize, set: Set)
+    requires { ⌜ (length (now site) ≡ siteSize) × (sender < maxSites) × (1 ≤ round) × (round ≤ siteRounds) ⌝ }
+    ensures { λ _. ⌜ now (site .exit) ≡ heardMore (now (site .entry)) sender round set ⌝ }
+{
+    let place = heard_place(sender, round);
+    let before = Set::read(&site[..], place);
+    before.union(set).write(site, place);
+}
+
+// The k-th recorded delivery.
+pub fn delivery_at(site: &[u8], k: usize) -> Delivery
+    requires { ⌜ (length (now site) ≡ siteSize) × (k < capacity) ⌝ }
+    ensures { λ r. ⌜ deliverySeen r ≡ deliveryOf (now (site .entry)) k ⌝ }
+{
+    let place = Site::DELIVERIES + Site::DELIVERY * k;
+    let command = wire::get1(site, place);
+    let word = wire::get4(site, place + 1);
+    let answer = signed::i32_of(word);
+    Delivery { command, answer }
+}
+
+// A delivery is written at the k-th place for one.
+pub fn record_delivery(site: &mut [u8], k: usize, command: u8, answer: i32)
+    requires { ⌜ (length (now site) ≡ siteSize) × (k < capacity) ⌝ }
+    ensures { λ _. ⌜ now (site .exit) ≡ splice (now (site .entry)) (slot k) (deliveryBytes command answer) ⌝ }
+{
+    let place = Site::DELIVERIES + Site::DELIVERY * k;
+    let word = signed::u32_of(answer);
+    wire::put1(site, place, command);
+    wire::put4(site, place + 1, word);
+}

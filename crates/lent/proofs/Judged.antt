@@ -1,0 +1,265 @@
+-- The test of a lent site tells exactly the good sites whose log position is among the entries lent.
+-- Assumes nothing.
+use mathlib.Core.Path.{_≡_, sym, ap, _∙_}
+use mathlib.Core.Bool.{Bool, true, false, _&&_, _||_}
+use mathlib.Core.Logic.{_⊎_, inl, inr, ⊎-elim}
+use mathlib.Core.List.{List}
+use Prim.Native.Nat.{ℕ, _+_, _*_, _≤_, _<_}
+use native.Mathlib.Omega.{arith}
+use lib.Dec.{eqb, leb, ltb}
+use lib.ListN.{length}
+use borrow.Author.Tests.{ltb-true, lt-ltb, leb-true, le-leb, eqb-true, eq-eqb}
+use Rattle.theory.specs.Sets.{all}
+use Rattle.theory.specs.Counting.{both, left, right, either, true-or, or-true, lt-or-le, all-at, all-of, all-more, all-not}
+use Rattle.wire.specs.Wire.{readLe}
+use Rattle.sets.specs.declared.Set.{Set}
+use Rattle.sets.specs.Sets.{capacity, withinOf, readSet}
+use Rattle.register.specs.Register.{isWithin}
+use Rattle.register.specs.Lent.{registerOf}
+use Rattle.register.proofs.Laws.{within-test}
+use Rattle.register.proofs.Lent.{view-within}
+use Rattle.layout.specs.declared.Site.{Site}
+use Rattle.layout.specs.Layout.{siteSize, phasePlace, countPlace, positionPlace, ncPlace, cPlace, registerPlace, siteRounds, heardSets, heardAt, slot, headOf, proposalOf}
+use Rattle.layout.specs.Good.{GoodHead, GoodTables, Good, goodHead, goodHeard, goodSlot, goodPhase, goodSite}
+
+-- What the code makes of one set heard.
+pub heard-test : (b : List ℕ) (sites commands k : ℕ) {set : Set} {t : Bool} → set ≡ readSet b (heardAt k) → t ≡ withinOf set commands
+    → (t && (ltb k (siteRounds * sites) || eqb (set .bits) 0)) ≡ goodHeard sites commands b k
+unfolding readSet
+heard-test b sites commands k es et =
+    λ i. (et ∙ ap (λ (s : Set). withinOf s commands) es) i && (ltb k (siteRounds * sites) || eqb (es i .bits) 0)
+
+-- A loop over a test: one that fails, one more that holds, and all.
+pub loop-not : (n : ℕ) (p : ℕ → Bool) (k : ℕ) {t : Bool} → k < n → t ≡ p k → t ≡ false → false ≡ all n p
+loop-not n p k l e h = sym (all-not n p k l (sym e ∙ h))
+
+pub loop-more : (k : ℕ) (p : ℕ → Bool) {t : Bool} → all k p ≡ true → t ≡ p k → t ≡ true → all (k + 1) p ≡ true
+loop-more k p h e l = all-more k p h (sym e ∙ l)
+
+pub loop-done : (n k : ℕ) (p : ℕ → Bool) → all k p ≡ true → k ≡ n → true ≡ all n p
+loop-done n k p h e = sym (ap (λ (m : ℕ). all m p) (sym e) ∙ h)
+
+-- What the code of judge makes of its parts, where the size is right.
+pub judged : (sites commands entries : ℕ) (b : List ℕ) {h : Site} {p e w d g : Bool} → length b ≡ siteSize → h ≡ headOf b → p ≡ goodPhase b → g ≡ goodHead commands h
+    → e ≡ all heardSets (goodHeard sites commands b) → w ≡ isWithin (registerOf b registerPlace) → d ≡ all capacity (goodSlot commands (h .deliveries) b)
+    → (leb (h .position) entries && p && g && e && w && d) ≡ goodSite sites commands entries b
+unfolding headOf
+judged sites commands entries b el eh ep eg ee ew ed =
+    (λ i.
+    leb (eh i .position) entries && ep i && (eg ∙ ap (goodHead commands) eh) i && ee i && ew i
+    && (ed ∙ ap (λ (x : Site). all capacity (goodSlot commands (x .deliveries) b)) eh) i)
+    ∙ ap
+    (λ (t : Bool).
+    t && leb (readLe 2 b positionPlace) entries && goodPhase b && goodHead commands (headOf b) && all heardSets (goodHeard sites commands b)
+    && isWithin (registerOf b registerPlace) && all capacity (goodSlot commands (readLe 1 b countPlace) b))
+    (sym (eq-eqb (length b) siteSize el))
+
+pub not-sized : (sites commands entries : ℕ) (b : List ℕ) → eqb (length b) siteSize ≡ false → false ≡ goodSite sites commands entries b
+not-sized sites commands entries b e =
+    ap
+    (λ (t : Bool).
+    t && leb (readLe 2 b positionPlace) entries && goodPhase b && goodHead commands (headOf b) && all heardSets (goodHeard sites commands b)
+    && isWithin (registerOf b registerPlace) && all capacity (goodSlot commands (readLe 1 b countPlace) b))
+    (sym e)
+
+-- ---- what the test tells
+
+-- The last of some tests, and the ones before.
+split : (a b : Bool) → (a && b) ≡ true → (a ≡ true) × (b ≡ true)
+split a b h = (left a b h, right a b h)
+
+module _ (commands : ℕ) (h : Site) where
+  pub head-good : goodHead commands h ≡ true → GoodHead commands h
+  unfolding goodHead
+  head-good e =
+      let t₁ = leb 1 (h .round) in
+      let t₂ = t₁ && leb (h .round) siteRounds in
+      let t₃ = t₂ && leb (h .deliveries) commands in
+      let t₄ = t₃ && leb (h .deliveries) capacity in
+      let t₅ = t₄ && withinOf (h .received) commands in
+      let t₆ = t₅ && withinOf (h .delivered) commands in
+      let t₇ = t₆ && withinOf (h .pending) commands in
+      let t₈ = t₇ && withinOf (h .fast) commands in
+      let t₉ = t₈ && withinOf (proposalOf (h .phase) .nc) commands in
+      let e₁₀ = split t₉ (withinOf (proposalOf (h .phase) .c) commands) e in
+      let e₉ = split t₈ (withinOf (proposalOf (h .phase) .nc) commands) (e₁₀ .0) in
+      let e₈ = split t₇ (withinOf (h .fast) commands) (e₉ .0) in
+      let e₇ = split t₆ (withinOf (h .pending) commands) (e₈ .0) in
+      let e₆ = split t₅ (withinOf (h .delivered) commands) (e₇ .0) in
+      let e₅ = split t₄ (withinOf (h .received) commands) (e₆ .0) in
+      let e₄ = split t₃ (leb (h .deliveries) capacity) (e₅ .0) in
+      let e₃ = split t₂ (leb (h .deliveries) commands) (e₄ .0) in
+      let e₂ = split t₁ (leb (h .round) siteRounds) (e₃ .0) in
+      record {
+        first = leb-true 1 (h .round) (e₂ .0);
+        last = leb-true (h .round) siteRounds (e₂ .1);
+        few = leb-true (h .deliveries) commands (e₃ .1);
+        room = leb-true (h .deliveries) capacity (e₄ .1);
+        received = e₅ .1;
+        delivered = e₆ .1;
+        pending = e₇ .1;
+        fast = e₈ .1;
+        nc = e₉ .1;
+        c = e₁₀ .1;
+      }
+
+  pub good-head : GoodHead commands h → goodHead commands h ≡ true
+  unfolding goodHead
+  good-head g =
+      simp (
+        le-leb 1 (h .round) (g .first),
+        le-leb (h .round) siteRounds (g .last),
+        le-leb (h .deliveries) commands (g .few),
+        le-leb (h .deliveries) capacity (g .room),
+        g .received,
+        g .delivered,
+        g .pending,
+        g .fast,
+        g .nc,
+        g .c,
+      )
+
+module _ (b : List ℕ) where
+  phase-good : goodPhase b ≡ true → (readLe 1 b phasePlace ≤ 1) × (readLe 1 b phasePlace ≡ 0 → (readLe 8 b ncPlace ≡ 0) × (readLe 8 b cPlace ≡ 0))
+  phase-good h = ⊎-elim waiting acknowledging (either (eqb tag 1) (eqb tag 0 && eqb nc 0 && eqb c 0) h)
+    where
+      tag : ℕ
+      tag = readLe 1 b phasePlace
+
+      nc : ℕ
+      nc = readLe 8 b ncPlace
+
+      c : ℕ
+      c = readLe 8 b cPlace
+
+      waiting : eqb tag 1 ≡ true → (tag ≤ 1) × (tag ≡ 0 → (nc ≡ 0) × (c ≡ 0))
+      waiting e = let q = eqb-true tag 1 e in (omega arith, λ z. absurd (omega arith))
+
+      acknowledging : (eqb tag 0 && eqb nc 0 && eqb c 0) ≡ true → (tag ≤ 1) × (tag ≡ 0 → (nc ≡ 0) × (c ≡ 0))
+      acknowledging e =
+          let p = split (eqb tag 0 && eqb nc 0) (eqb c 0) e in
+          let q = split (eqb tag 0) (eqb nc 0) (p .0) in
+          let z = eqb-true tag 0 (q .0) in
+          (omega arith, λ _. (eqb-true nc 0 (q .1), eqb-true c 0 (p .1)))
+
+  good-phase : readLe 1 b phasePlace ≤ 1 → (readLe 1 b phasePlace ≡ 0 → (readLe 8 b ncPlace ≡ 0) × (readLe 8 b cPlace ≡ 0)) → goodPhase b ≡ true
+  good-phase h idle = go (lt-or-le (readLe 1 b phasePlace) 1)
+    where
+      go : (readLe 1 b phasePlace < 1) ⊎ (1 ≤ readLe 1 b phasePlace) → goodPhase b ≡ true
+      go (inl l) =
+          let z : readLe 1 b phasePlace ≡ 0 = omega arith in
+          or-true (eqb (readLe 1 b phasePlace) 1) (eqb (readLe 1 b phasePlace) 0 && eqb (readLe 8 b ncPlace) 0 && eqb (readLe 8 b cPlace) 0)
+          (simp (eq-eqb (readLe 1 b phasePlace) 0 z, eq-eqb (readLe 8 b ncPlace) 0 (idle z .0), eq-eqb (readLe 8 b cPlace) 0 (idle z .1)))
+      go (inr l) =
+          true-or (eqb (readLe 1 b phasePlace) 1) (eqb (readLe 1 b phasePlace) 0 && eqb (readLe 8 b ncPlace) 0 && eqb (readLe 8 b cPlace) 0)
+          (eq-eqb (readLe 1 b phasePlace) 1 (omega arith))
+
+  module _ (sites commands n : ℕ) where
+    tables-good : n ≤ capacity → all heardSets (goodHeard sites commands b) ≡ true → isWithin (registerOf b registerPlace) ≡ true
+        → all capacity (goodSlot commands n b) ≡ true → GoodTables sites commands n b
+    tables-good l he hw hd =
+        record {
+          heard = λ k m. heard-at k m .0;
+          silent =
+              λ k m o.
+              ⊎-elim (λ e. absurd (let q = ltb-true k (siteRounds * sites) e in omega arith)) (λ e. eqb-true (readLe 8 b (heardAt k)) 0 e)
+              (either (ltb k (siteRounds * sites)) (eqb (readLe 8 b (heardAt k)) 0) (heard-at k m .1));
+          readings = view-within b registerPlace hw;
+          recorded =
+              λ k m.
+              ⊎-elim (λ e. ltb-true (command k) commands (right (ltb k n) (ltb (command k) commands) e))
+              (λ e. absurd (let q = leb-true n k (left (leb n k) (eqb (command k) 0) (left (leb n k && eqb (command k) 0) (eqb (word k) 0) e)) in omega arith))
+              (slot-at k (omega arith));
+          rest =
+              λ k m o.
+              ⊎-elim (λ e. absurd (let q = ltb-true k n (left (ltb k n) (ltb (command k) commands) e) in omega arith))
+              (λ e. (
+                eqb-true (command k) 0 (right (leb n k) (eqb (command k) 0) (left (leb n k && eqb (command k) 0) (eqb (word k) 0) e)),
+                eqb-true (word k) 0 (right (leb n k && eqb (command k) 0) (eqb (word k) 0) e),
+              ))
+              (slot-at k o);
+        }
+      where
+        command : ℕ → ℕ
+        command k = readLe 1 b (slot k)
+
+        word : ℕ → ℕ
+        word k = readLe 4 b (slot k + 1)
+
+        heard-at : (k : ℕ) → k < heardSets → (withinOf (readSet b (heardAt k)) commands ≡ true) × ((ltb k (siteRounds * sites) || eqb (readLe 8 b (heardAt k)) 0) ≡ true)
+        heard-at k m =
+            split (withinOf (readSet b (heardAt k)) commands) (ltb k (siteRounds * sites) || eqb (readLe 8 b (heardAt k)) 0)
+            (all-at heardSets (goodHeard sites commands b) he k m)
+
+        slot-at : (k : ℕ) → k < capacity → ((ltb k n && ltb (command k) commands) ≡ true) ⊎ ((leb n k && eqb (command k) 0 && eqb (word k) 0) ≡ true)
+        slot-at k m =
+            either (ltb k n && ltb (command k) commands) (leb n k && eqb (command k) 0 && eqb (word k) 0)
+            (all-at capacity (goodSlot commands n b) hd k m)
+
+    good-heard : GoodTables sites commands n b → all heardSets (goodHeard sites commands b) ≡ true
+    good-heard g =
+        all-of heardSets (goodHeard sites commands b)
+        (λ k m.
+        both (withinOf (readSet b (heardAt k)) commands) (ltb k (siteRounds * sites) || eqb (readLe 8 b (heardAt k)) 0) (g .heard k m)
+        (⊎-elim (λ l. true-or (ltb k (siteRounds * sites)) (eqb (readLe 8 b (heardAt k)) 0) (lt-ltb k (siteRounds * sites) l))
+        (λ l. or-true (ltb k (siteRounds * sites)) (eqb (readLe 8 b (heardAt k)) 0) (eq-eqb (readLe 8 b (heardAt k)) 0 (g .silent k m l)))
+        (lt-or-le k (siteRounds * sites))))
+
+    good-slots : GoodTables sites commands n b → all capacity (goodSlot commands n b) ≡ true
+    good-slots g =
+        all-of capacity (goodSlot commands n b)
+        (λ k m.
+        let command = readLe 1 b (slot k) in
+        let word = readLe 4 b (slot k + 1) in
+        ⊎-elim
+        (λ l. true-or (ltb k n && ltb command commands) (leb n k && eqb command 0 && eqb word 0)
+        (both (ltb k n) (ltb command commands) (lt-ltb k n l) (lt-ltb command commands (g .recorded k l))))
+        (λ l. or-true (ltb k n && ltb command commands) (leb n k && eqb command 0 && eqb word 0)
+        (both (leb n k && eqb command 0) (eqb word 0) (both (leb n k) (eqb command 0) (le-leb n k l) (eq-eqb command 0 (g .rest k l m .0)))
+        (eq-eqb word 0 (g .rest k l m .1))))
+        (lt-or-le k n))
+
+  counted : headOf b .deliveries ≤ capacity → readLe 1 b countPlace ≤ capacity
+  unfolding headOf
+  counted h = h
+
+  module _ (sites commands entries : ℕ) where
+    -- A site that the test takes is good.
+    pub site-good : goodSite sites commands entries b ≡ true → Good sites commands b × (readLe 2 b positionPlace ≤ entries)
+    site-good h =
+        let t₁ = eqb (length b) siteSize in
+        let t₂ = t₁ && leb (readLe 2 b positionPlace) entries in
+        let t₃ = t₂ && goodPhase b in
+        let t₄ = t₃ && goodHead commands (headOf b) in
+        let t₅ = t₄ && all heardSets (goodHeard sites commands b) in
+        let t₆ = t₅ && isWithin (registerOf b registerPlace) in
+        let e₇ = split t₆ (all capacity (goodSlot commands (readLe 1 b countPlace) b)) h in
+        let e₆ = split t₅ (isWithin (registerOf b registerPlace)) (e₇ .0) in
+        let e₅ = split t₄ (all heardSets (goodHeard sites commands b)) (e₆ .0) in
+        let e₄ = split t₃ (goodHead commands (headOf b)) (e₅ .0) in
+        let e₃ = split t₂ (goodPhase b) (e₄ .0) in
+        let e₂ = split t₁ (leb (readLe 2 b positionPlace) entries) (e₃ .0) in
+        let p = phase-good (e₃ .1) in
+        let g = head-good commands (headOf b) (e₄ .1) in (
+          record {
+            size = eqb-true (length b) siteSize (e₂ .0);
+            tag = p .0;
+            idle = p .1;
+            head = g;
+            tables = tables-good sites commands (readLe 1 b countPlace) (counted (g .room)) (e₅ .1) (e₆ .1) (e₇ .1);
+          },
+          leb-true (readLe 2 b positionPlace) entries (e₂ .1),
+        )
+
+    -- And every good site is taken.
+    pub good-site : Good sites commands b → readLe 2 b positionPlace ≤ entries → goodSite sites commands entries b ≡ true
+    good-site g l =
+        simp (
+          eq-eqb (length b) siteSize (g .size),
+          le-leb (readLe 2 b positionPlace) entries l,
+          good-phase (g .tag) (g .idle),
+          good-head commands (headOf b) (g .head),
+          good-heard sites commands (readLe 1 b countPlace) (g .tables),
+          within-test (registerOf b registerPlace) (g .tables .readings),
+          good-slots sites commands (readLe 1 b countPlace) (g .tables),
+        )

@@ -1,0 +1,147 @@
+// A lent site judged byte by byte, and a fresh site written over a lent buffer.
+ghost use mathlib.Core.Path.{_≡_};
+ghost use mathlib.Core.List.{List};
+ghost use Prim.Native.Nat.{_≤_, _<_, ℕ};
+ghost use lib.ListN.{length, getD};
+ghost use Rattle.theory.specs.Sets.{all};
+ghost use Rattle.sets.specs.Sets.{capacity};
+ghost use Rattle.table.specs.declared.SiteTable.{SiteTable};
+ghost use Rattle.table.specs.Table.{maxSites};
+ghost use Rattle.register.specs.declared.Command.{Command};
+ghost use Rattle.protocol.specs.Site as protocol;
+ghost use Rattle.system.specs.Dash.{dash};
+ghost use Rattle.layout.specs.Layout.{siteSize, heardSets};
+ghost use Rattle.lent.specs.Fresh.{freshHead};
+ghost use Rattle.layout.specs.Good.{goodHead, goodHeard, goodSlot, goodPhase, goodSite, Holds};
+use layout::Phase;
+use layout::Site;
+use sets::Set;
+
+// Whether the tag is 0 or 1, and nothing is proposed while it is 0.
+fn judge_phase(site: &[u8]) -> bool
+    requires { ⌜ length (now site) ≡ siteSize ⌝ }
+    ensures { λ r. ⌜ r ≡ goodPhase (now (site .entry)) ⌝ }
+{
+    let tag = wire::get1(site, Site::PHASE);
+    let nc = wire::get8(site, Site::NC);
+    let c = wire::get8(site, Site::C);
+    (tag == 1) | (tag == 0) & (nc == 0) & (c == 0)
+}
+
+// Whether the numbers of a header are in range and its sets within the book.
+fn judge_header(header: Site, commands: usize) -> bool
+    ensures { λ r. ⌜ r ≡ goodHead commands header ⌝ }
+{
+    let phase = header.phase;
+    let proposed = layout::proposal_of(phase);
+    let round = header.round as usize;
+    let deliveries = header.deliveries as usize;
+    (1 <= round)
+        & (round <= Site::ROUNDS)
+        & (deliveries <= commands)
+        & (deliveries <= Set::CAPACITY)
+        & header.received.within(commands)
+        & header.delivered.within(commands)
+        & header.pending.within(commands)
+        & header.fast.within(commands)
+        & proposed.nc.within(commands)
+        & proposed.c.within(commands)
+}
+
+// Whether every set heard is within the book, and those of senders that there are not are empty.
+fn judge_heard(site: &[u8], sites: usize, commands: usize) -> bool
+    requires { ⌜ (length (now site) ≡ siteSize) × (sites ≤ maxSites) ⌝ }
+    ensures { λ r. ⌜ r ≡ all heardSets (goodHeard sites commands (now (site .entry))) ⌝ }
+{
+    let senders = Site::ROUNDS * sites;
+    let mut k = 0;
+    while k < Site::HEARD_SETS {
+        let set = Set::read(site, Site::HEARD + Set::BYTES * k);
+        let good = set.within(commands) & ((k < senders) | (set.bits == 0));
+        if !good {
+            return false;
+        }
+        k += 1;
+    }
+    true
+}
+
+// Whether the place k for a delivery holds a command of the book where it is recorded, and else nothing.
+fn judge_slot(site: &[u8], commands: usize, recorded: usize, k: usize) -> bool
+    requires { ⌜ (length (now site) ≡ siteSize) × (k < capacity) ⌝ }
+    ensures { λ r. ⌜ r ≡ goodSlot commands recorded (now (site .entry)) k ⌝ }
+{
+    let place = Site::DELIVERIES + Site::DELIVERY * k;
+    let command = wire::get1(site, place) as usize;
+    let answer = wire::get4(site, place + 1);
+    (k < recorded) & (command < commands) | (recorded <= k) & (command == 0) & (answer == 0)
+}
+
+fn judge_deliveries(site: &[u8], commands: usize, recorded: usize) -> bool
+    requires { ⌜ length (now site) ≡ siteSize ⌝ }
+    ensures { λ r. ⌜ r ≡ all capacity (goodSlot commands recorded (now (site .entry))) ⌝ }
+{
+    let mut k = 0;
+    while k < Set::CAPACITY {
+        if !judge_slot(site, commands, recorded, k) {
+            return false;
+        }
+        k += 1;
+    }
+    true
+}
+
+// Whether lent bytes are a site, for so many sites, commands and log entries.
+pub fn judge(site: &[u8], sites: usize, commands: usize, entries: usize) -> bool
+    requires { ⌜ sites ≤ maxSites ⌝ }
+    ensures { λ r. ⌜ r ≡ goodSite sites commands entries (now (site .entry)) ⌝ }
+{
+    if site.len() != Site::SIZE {
+        return false;
+    }
+    let header = Site::read(site);
+    let position = header.position as usize;
+    let recorded = header.deliveries as usize;
+    (position <= entries)
+        & judge_phase(site)
+        & judge_header(header, commands)
+        & judge_heard(site, sites, commands)
+        & register::judge(site, Site::REGISTER)
+        & judge_deliveries(site, commands, recorded)
+}
+
+// The header of a fresh site.
+fn fresh_header() -> Site
+    ensures { λ r. ⌜ r ≡ freshHead ⌝ }
+{
+    Site {
+        round: 1,
+        phase: Phase::Acknowledging,
+        position: 0,
+        deliveries: 0,
+        received: Set { bits: 0 },
+        delivered: Set { bits: 0 },
+        pending: Set { bits: 0 },
+        fast: Set { bits: 0 },
+    }
+}
+
+// Every byte becomes 0.
+fn clear(site: &mut [u8])
+    ensures { λ _. ⌜ ((k : ℕ) → getD (now (site .exit)) k 0 ≡ 0) ⌝ }
+{
+    let mut k = 0;
+    while k < site.len() {
+        site[k] = 0;
+        k += 1;
+    }
+}
+
+// A fresh site is written over the whole buffer.
+pub fn fresh(site: &mut [u8])
+    requires { ⌜ length (now site) ≡ siteSize ⌝ }
+    ensures { λ _. ⌜ ((t : SiteTable) (book : List Command) → Holds t book (now (site .exit)) (protocol.fresh (dash t book))) ⌝ }
+{
+    clear(site);
+    fresh_header().write(site);
+}
