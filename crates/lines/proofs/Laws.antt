@@ -10,7 +10,8 @@ use mir.Syntax.{w32}
 use mir.Val.{SFits}
 use Rattle.print.specs.Print.{digits, decimal, signedDecimal}
 use Rattle.print.proofs.Laws.{length-digits, decimal-short, signed-short}
-use Rattle.lines.specs.Lines.{counted, numbered, runLine, stepLine, refusedLine, siteHead, deliveryText, Delivered, deliveriesText, siteLine}
+use Rattle.theory.specs.Machine.{Delivery}
+use Rattle.lines.specs.Lines.{counted, numbered, runLine, stepLine, refusedLine, siteHead, deliveryText, deliveriesText, siteLine}
 
 pub counted-length : (x : ℕ) (text : List ℕ) → length (counted x text) ≡ length (decimal x) + length text
 counted-length x text = length-append (decimal x) text
@@ -62,21 +63,21 @@ pub delivery-short : (command : ℕ) (answer : ℤ) → SFits w32 answer → len
 delivery-short command answer f = omega (arith, delivery-length command answer, answer-short answer f)
 
 -- Every answer of a list of deliveries fits 4 bytes.
-abbrev pub AllFit : List Delivered → Type 0
+abbrev pub AllFit : List (Delivery ℤ) → Type 0
 AllFit [] = Unit {0}
 AllFit (d ∷ ds) = SFits w32 (d .answer) × AllFit ds
 
-pub deliveries-short : (ds : List Delivered) → AllFit ds → length (deliveriesText ds) ≤ 15 * length ds
+pub deliveries-short : (ds : List (Delivery ℤ)) → AllFit ds → length (deliveriesText ds) ≤ 15 * length ds
 deliveries-short [] f = omega arith
 deliveries-short (d ∷ ds) f =
     let a = delivery-short (d .command) (d .answer) (f .0) in
     let b = deliveries-short ds (f .1) in
     omega (arith, length-append (deliveryText (d .command) (d .answer)) (deliveriesText ds))
 
-pub site-length : (site round : ℕ) (ds : List Delivered) → length (siteLine site round ds) ≡ 27 + length (deliveriesText ds)
+pub site-length : (site round : ℕ) (ds : List (Delivery ℤ)) → length (siteLine site round ds) ≡ 27 + length (deliveriesText ds)
 unfolding siteLine
 site-length site round ds = let a = head-length site round in simp length-append (omega arith)
 
 -- A site's line of n deliveries.
-pub site-short : (site round : ℕ) (ds : List Delivered) → AllFit ds → length (siteLine site round ds) ≤ 27 + 15 * length ds
+pub site-short : (site round : ℕ) (ds : List (Delivery ℤ)) → AllFit ds → length (siteLine site round ds) ≤ 27 + 15 * length ds
 site-short site round ds f = omega (arith, site-length site round ds, deliveries-short ds f)

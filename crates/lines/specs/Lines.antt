@@ -3,6 +3,7 @@
 use mathlib.Core.List.{List, [], _∷_, _++_}
 use Prim.Native.Nat.{ℕ}
 use lib.IntN.{ℤ}
+use Rattle.theory.specs.Machine.{Delivery}
 use Rattle.print.specs.Ascii.{ascii}
 use Rattle.print.specs.Print.{digits, decimal, signedDecimal}
 
@@ -39,16 +40,11 @@ siteHead site round = ascii "site " ++ numbered site (ascii " round ") ++ number
 unfoldable pub deliveryText : ℕ → ℤ → List ℕ
 deliveryText command answer = ascii " " ++ numbered command (ascii "=") ++ signedDecimal answer
 
--- A command that a site delivered, and its answer.
-pub record Delivered : Type 0 where
-  pub command : ℕ
-  pub answer : ℤ
-
 -- Deliveries, the first first.
-abbrev pub deliveriesText : List Delivered → List ℕ
+abbrev pub deliveriesText : List (Delivery ℤ) → List ℕ
 deliveriesText [] = []
 deliveriesText (d ∷ ds) = deliveryText (d .command) (d .answer) ++ deliveriesText ds
 
 -- A site's line.
-unfoldable pub siteLine : ℕ → ℕ → List Delivered → List ℕ
+unfoldable pub siteLine : ℕ → ℕ → List (Delivery ℤ) → List ℕ
 siteLine site round ds = siteHead site round ++ deliveriesText ds ++ lineEnd

@@ -1,0 +1,1 @@
+// A whole run: from its bytes to its print.
