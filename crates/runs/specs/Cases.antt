@@ -13,7 +13,7 @@ use Rattle.steps.specs.Steps.{uncut, readAs, readStep, stepsOf}
 use Rattle.print.specs.Ascii.{ascii}
 use Rattle.print.specs.Print.{digits, widthTo, width, decimal, signedDecimal}
 use Rattle.lines.specs.Lines.{runLine, stepLine, refusedLine, siteHead, deliveryText, siteLine}
-use Rattle.run.specs.Run.{printOf}
+use Rattle.runs.specs.Run.{printOf}
 
 -- One site, FIT and READ of bike 5, five steps.
 abbrev wholeCase : List ℕ

@@ -1,1 +1,0 @@
-// A whole run: from its bytes to its print.
