@@ -45,13 +45,6 @@ unfolding width widthTo
 width-more zero h = absurd (omega arith)
 width-more (suc x) h = rw (lt-leb (suc x) 9 h, width-enough x (suc x / 10) (suc x / 10) (omega arith) (omega arith)) refl
 
-pub width-pos : (x : ℕ) → 1 ≤ width x
-width-pos x =
-    elim (decLt 9 x) [
-      | yes l ↦ omega (arith, width-more x l)
-      | no l ↦ omega (arith, width-one x (omega arith))
-    ]
-
 pub width-short : (k x : ℕ) → x < 10 ^ suc k → width x ≤ suc k
 width-short zero x h = omega (arith, width-one x (omega arith))
 width-short (suc k) x h =

@@ -5,7 +5,7 @@ use mathlib.Core.List.{List, [], _∷_, _++_}
 use Prim.Native.Nat.{ℕ, zero, suc, _+_, _-_, _≤_, _<_}
 use native.Mathlib.Omega.{arith}
 use borrow.Author.Tests.{le-leb, lt-leb}
-use lib.ListN.{length, take, drop, length-append, length-drop}
+use lib.ListN.{length, take, drop, length-drop}
 use lib.Seq.{take-all}
 use Rattle.wire.specs.Wire.{splice}
 use Rattle.wire.proofs.Laws.{splice-two}
@@ -83,17 +83,5 @@ join s at a b h e p q = q ∙ (λ i. splice (e i) (p i) b) ∙ splice-two s at a
 abbrev pub Written : List ℕ → ℕ → List ℕ → ℕ → Step → Type 0
 Written after past s at t = (past ≡ at + sizeOf t) × (after ≡ splice s at (encodeStep t))
 
-module _ (s : List ℕ) (at : ℕ) {t : Step} (room : at + sizeOf t ≤ length s) where
-  pub wrote-one : {u : Step} {s₁ : List ℕ} {r : ℕ} → t ≡ u → Written s₁ r s at u → Written s₁ r s at t
-  wrote-one {s₁ = s₁} {r = r} e w = subst (λ (d : Step). Written s₁ r s at d) (sym e) w
-
-  pub wrote-two : {u : Step} (a b : List ℕ) {s₁ s₂ : List ℕ} {r₁ r₂ : ℕ} → t ≡ u → a ++ b ≡ encodeStep u → length a + length b ≡ sizeOf u
-      → (r₁ ≡ at + length a) × (s₁ ≡ splice s at a) → (r₂ ≡ r₁ + length b) × (s₂ ≡ splice s₁ r₁ b) → Written s₂ r₂ s at t
-  wrote-two a b e q n (p₁, w₁) (p₂, w₂) =
-      wrote-one e (omega arith, join s at a b (omega arith) w₁ p₁ w₂ ∙ ap (splice s at) q)
-
-  pub wrote-three : {u : Step} (a b d : List ℕ) {s₁ s₂ s₃ : List ℕ} {r₁ r₂ r₃ : ℕ} → t ≡ u → a ++ b ++ d ≡ encodeStep u → length a + length b + length d ≡ sizeOf u
-      → (r₁ ≡ at + length a) × (s₁ ≡ splice s at a) → (r₂ ≡ r₁ + length b) × (s₂ ≡ splice s₁ r₁ b) → (r₃ ≡ r₂ + length d) × (s₃ ≡ splice s₂ r₂ d)
-      → Written s₃ r₃ s at t
-  wrote-three a b d e q n (p₁, w₁) (p₂, w₂) (p₃, w₃) =
-      wrote-one e (omega arith, join s at (a ++ b) d (omega arith) (join s at a b (omega arith) w₁ p₁ w₂) (omega (arith, length-append a b)) w₃ ∙ ap (splice s at) q)
+pub wrote : (s : List ℕ) (at : ℕ) {s₁ : List ℕ} {r : ℕ} {t u : Step} → t ≡ u → Written s₁ r s at u → Written s₁ r s at t
+wrote s at {s₁} {r} e w = subst (λ (d : Step). Written s₁ r s at d) (sym e) w

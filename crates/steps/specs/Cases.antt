@@ -1,4 +1,4 @@
--- The steps of document 01's whole case, and what cannot be read.
+-- The steps of document 01's whole case, and bytes that cannot be read.
 -- Assumes nothing.
 use mathlib.Core.Path.{_≡_, refl}
 use mathlib.Core.List.{[], _∷_}

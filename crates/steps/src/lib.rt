@@ -1,7 +1,7 @@
 // The steps of a run: bytes to steps and back.
 ghost use mathlib.Core.Path.{_≡_};
 ghost use Prim.Native.Nat.{_+_, _≤_};
-ghost use mathlib.Core.List.{_∷_, []};
+ghost use mathlib.Core.List.{_∷_, [], _++_};
 ghost use lib.ListN.{length};
 ghost use Rattle.wire.specs.Wire.{splice};
 ghost use Rattle.sets.specs.Sets.{setBytes};
@@ -295,6 +295,42 @@ fn put_head(out: &mut [u8], at: usize, code: u8, site: u8, from: u8, round: u8) 
     put_two(out, middle, from, round)
 }
 
+// A step 02 is written.
+fn put_acknowledgment(out: &mut [u8], at: usize, site: u8, from: u8, round: u8, number: u8) -> usize
+    requires { ⌜ at + 5 ≤ length (now out) ⌝ }
+    ensures { λ r. ⌜ (r ≡ at + 5) × (now (out .exit) ≡ splice (now (out .entry)) at (2 ∷ site ∷ from ∷ round ∷ number ∷ [])) ⌝ }
+{
+    let middle = put_three(out, at, 2, site, from);
+    put_two(out, middle, round, number)
+}
+
+// A step 04 or 05 is written.
+fn put_message(
+    out: &mut [u8],
+    at: usize,
+    code: u8,
+    site: u8,
+    from: u8,
+    round: u8,
+    set: Set,
+) -> usize
+    requires { ⌜ at + 12 ≤ length (now out) ⌝ }
+    ensures { λ r. ⌜ (r ≡ at + 12) × (now (out .exit) ≡ splice (now (out .entry)) at (code ∷ site ∷ from ∷ round ∷ setOperand set)) ⌝ }
+{
+    let middle = put_head(out, at, code, site, from, round);
+    put_set(out, middle, set)
+}
+
+// A step 06 is written.
+fn put_entry(out: &mut [u8], at: usize, from: u8, round: u8, nc: Set, c: Set) -> usize
+    requires { ⌜ at + 19 ≤ length (now out) ⌝ }
+    ensures { λ r. ⌜ (r ≡ at + 19) × (now (out .exit) ≡ splice (now (out .entry)) at (6 ∷ from ∷ round ∷ setOperand nc ++ setOperand c)) ⌝ }
+{
+    let first = put_three(out, at, 6, from, round);
+    let second = put_set(out, first, nc);
+    put_set(out, second, c)
+}
+
 // A step is written at a position.
 pub fn write_step(out: &mut [u8], at: usize, step: Step) -> usize
     requires { ⌜ at + sizeOf step ≤ length (now out) ⌝ }
@@ -307,34 +343,21 @@ pub fn write_step(out: &mut [u8], at: usize, step: Step) -> usize
             from,
             round,
             number,
-        } => {
-            let middle = put_three(out, at, 2, site, from);
-            put_two(out, middle, round, number)
-        }
+        } => put_acknowledgment(out, at, site, from, round, number),
         Step::Check { site, from, round } => put_head(out, at, 3, site, from, round),
         Step::FalseAcknowledgment {
             site,
             from,
             round,
             set,
-        } => {
-            let middle = put_head(out, at, 4, site, from, round);
-            put_set(out, middle, set)
-        }
+        } => put_message(out, at, 4, site, from, round, set),
         Step::FalseCheck {
             site,
             from,
             round,
             set,
-        } => {
-            let middle = put_head(out, at, 5, site, from, round);
-            put_set(out, middle, set)
-        }
-        Step::FalseEntry { from, round, nc, c } => {
-            let first = put_three(out, at, 6, from, round);
-            let second = put_set(out, first, nc);
-            put_set(out, second, c)
-        }
+        } => put_message(out, at, 5, site, from, round, set),
+        Step::FalseEntry { from, round, nc, c } => put_entry(out, at, from, round, nc, c),
         Step::Turn { site } => put_two(out, at, 7, site),
         Step::FastDelivery { site, command } => put_three(out, at, 8, site, command),
         Step::LogRead { site } => put_two(out, at, 9, site),
