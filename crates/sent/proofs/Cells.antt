@@ -1,0 +1,157 @@
+-- Cells of what was sent: bytes that agree on a cell say the same there, and what a write says of its own cell.
+-- Assumes nothing.
+use mathlib.Core.Path.{_≡_, refl, ap, _∙_}
+use mathlib.Core.Logic.{_⊎_, inl, inr}
+use mathlib.Core.List.{List, [], _∷_, _++_}
+use mathlib.Core.Option.{none, some}
+use Prim.Native.Nat.{ℕ, zero, suc, _+_, _*_, _^_, _≤_, _<_}
+use native.Mathlib.Omega.{arith}
+use native.Mathlib.Numerals.{add-one}
+use lib.Dec.{eqb}
+use lib.ListN.{length}
+use Rattle.theory.specs.Sets.{pick}
+use Rattle.theory.specs.Sets as theory
+use Rattle.theory.specs.Lists.{nth}
+use Rattle.wire.specs.Wire.{readLe, bytes, splice}
+use Rattle.wire.proofs.Laws.{length-bytes, length-splice, read-same, read-before, read-after}
+use Rattle.sets.specs.declared.Set.{Set}
+use Rattle.sets.specs.Sets.{inSet, setBytes, readSet, writeSet}
+use Rattle.sets.proofs.Laws.{read-written, length-write}
+use Rattle.sent.specs.Sent.{cellSize, countPlace, setPlace, flagPlace, checkPlace, maxAcknowledgments}
+use Rattle.sent.specs.Sent.{countIn, flagIn, setsFrom, acksIn, checkIn, written, acknowledgedIn, checkedIn}
+
+-- ---- bytes that agree on a part
+
+-- Every number that stands between two places is the same in both.
+pub record Agree (b b′ : List ℕ) (from to : ℕ) : Type 0 where
+  pub reads : (n k : ℕ) → from ≤ k → k + n ≤ to → readLe n b′ k ≡ readLe n b k
+
+pub agree-trans : {a b c : List ℕ} {from to : ℕ} → Agree a b from to → Agree b c from to → Agree a c from to
+agree-trans p q = record { reads = λ n k l m. q .reads n k l m ∙ p .reads n k l m }
+
+pub agree-part : {a b : List ℕ} {from to : ℕ} (from′ to′ : ℕ) → Agree a b from to → from ≤ from′ → to′ ≤ to → Agree a b from′ to′
+agree-part from′ to′ p h l = record { reads = λ n k m o. p .reads n k (omega arith) (omega arith) }
+
+-- A write of n bytes changes nothing before it and nothing after it.
+pub agree-splice : (b : List ℕ) (at : ℕ) (bs : List ℕ) (n from to : ℕ) → length bs ≡ n → at + n ≤ length b → (to ≤ at) ⊎ (at + n ≤ from)
+    → Agree b (splice b at bs) from to
+agree-splice b at bs n from to e h (inl l) = record { reads = λ m k o p. read-before m b at bs k (omega arith) (omega arith) }
+agree-splice b at bs n from to e h (inr l) = record { reads = λ m k o p. read-after m b at bs k (omega arith) (omega arith) }
+
+pub agree-set : {b b′ : List ℕ} {from to : ℕ} (at : ℕ) → Agree b b′ from to → from ≤ at → at + setBytes ≤ to → readSet b′ at ≡ readSet b at
+unfolding readSet
+agree-set at g h l = λ i. record { bits = g .reads setBytes at h l i }
+
+-- ---- what a cell says
+
+pub sets-agree : (n at : ℕ) {b b′ : List ℕ} {from to : ℕ} → Agree b b′ from to → from ≤ at → at + n * setBytes ≤ to
+    → setsFrom n at b′ ≡ setsFrom n at b
+unfolding setsFrom
+sets-agree zero at g h l = refl
+sets-agree (suc n) at g h l =
+    λ i. inSet (agree-set at g h (omega arith) i) ∷ sets-agree n (at + setBytes) g (omega arith) (omega arith) i
+
+pub acks-agree : (k : ℕ) {b b′ : List ℕ} → Agree b b′ (countPlace k) (flagPlace k) → countIn b k ≤ maxAcknowledgments → acksIn b′ k ≡ acksIn b k
+unfolding acksIn
+acks-agree k {b} {b′} g h =
+    ap (λ (n : ℕ). setsFrom n (setPlace k 0) b′) (g .reads 1 (countPlace k) (omega arith) (omega arith))
+    ∙ sets-agree (countIn b k) (setPlace k 0) g (omega arith) (omega arith)
+
+pub check-agree : (k : ℕ) {b b′ : List ℕ} → Agree b b′ (flagPlace k) (countPlace k + cellSize) → checkIn b′ k ≡ checkIn b k
+unfolding checkIn
+check-agree k g =
+    λ i.
+    pick (eqb (g .reads 1 (flagPlace k) (omega arith) (omega arith) i) 1)
+    (some (inSet (agree-set (checkPlace k) g (omega arith) (omega arith) i))) none
+
+-- One set more stands after those before it.
+pub sets-more : (n at : ℕ) (b : List ℕ) → setsFrom (suc n) at b ≡ setsFrom n at b ++ (inSet (readSet b (at + n * setBytes)) ∷ [])
+unfolding setsFrom
+sets-more zero at b = let e : at + 0 * setBytes ≡ at = omega arith in rw e refl
+sets-more (suc n) at b =
+    let e : at + suc n * setBytes ≡ at + setBytes + n * setBytes = omega arith in
+    rw e (ap (λ (l : List theory.Set). inSet (readSet b at) ∷ l) (sets-more n (at + setBytes) b))
+
+pub length-sets : (n at : ℕ) (b : List ℕ) → length (setsFrom n at b) ≡ n
+unfolding setsFrom
+length-sets zero at b = refl
+length-sets (suc n) at b = ap suc (length-sets n (at + setBytes) b)
+
+pub nth-set : (n at : ℕ) (b : List ℕ) (i : ℕ) → i < n → nth (setsFrom n at b) i ≡ some (inSet (readSet b (at + i * setBytes)))
+unfolding setsFrom
+nth-set zero at b i h = absurd (omega arith)
+nth-set (suc n) at b zero h = let e : at + 0 * setBytes ≡ at = omega arith in rw e refl
+nth-set (suc n) at b (suc i) h =
+    let e : at + suc i * setBytes ≡ at + setBytes + i * setBytes = omega arith in
+    rw e (nth-set n (at + setBytes) b i (omega arith))
+
+pub nth-none : (n at : ℕ) (b : List ℕ) (i : ℕ) → n ≤ i → nth (setsFrom n at b) i ≡ none
+unfolding setsFrom
+nth-none zero at b i h = refl
+nth-none (suc n) at b zero h = absurd (omega arith)
+nth-none (suc n) at b (suc i) h = nth-none n (at + setBytes) b i (omega arith)
+
+-- ---- a set and a byte written
+
+module _ (b : List ℕ) (p : ℕ) (s : Set) (q x : ℕ) (hp : p + setBytes ≤ length b) (hq : q + 1 ≤ length b) where
+  pub length-written : length (written b p s q x) ≡ length b
+  unfolding written
+  length-written =
+      let e = length-write b p s hp in
+      let n = length-bytes 1 x in
+      length-splice (writeSet b p s) q (bytes 1 x) (omega arith) ∙ e
+
+  pub agree-written : (from to : ℕ) → (to ≤ p) ⊎ (p + setBytes ≤ from) → (to ≤ q) ⊎ (q + 1 ≤ from) → Agree b (written b p s q x) from to
+  unfolding written writeSet
+  agree-written from to l m =
+      let e = length-write b p s hp in
+      agree-trans (agree-splice b p (bytes setBytes (s .bits)) setBytes from to (length-bytes setBytes (s .bits)) hp l)
+      (agree-splice (writeSet b p s) q (bytes 1 x) 1 from to (length-bytes 1 x) (omega arith) m)
+
+  pub number-written : x < 256 → readLe 1 (written b p s q x) q ≡ x
+  unfolding written
+  number-written h = let e = length-write b p s hp in read-same 1 (writeSet b p s) q x (omega arith) h
+
+  pub set-written : q + 1 ≤ p → s .bits < 2 ^ 64 → readSet (written b p s q x) p ≡ s
+  unfolding written
+  set-written l h =
+      let e = length-write b p s hp in
+      agree-set p (agree-splice (writeSet b p s) q (bytes 1 x) 1 p (p + setBytes) (length-bytes 1 x) (omega arith) (inr l)) (omega arith) (omega arith)
+      ∙ read-written b p s hp h
+
+-- ---- the two writes, at their own cell
+
+module _ (b : List ℕ) (k : ℕ) (s : Set) (room : countPlace k + cellSize ≤ length b) where
+  module _ (few : countIn b k < maxAcknowledgments) where
+    pub count-acknowledged : countIn (acknowledgedIn b k s) k ≡ countIn b k + 1
+    count-acknowledged =
+        number-written b (setPlace k (countIn b k)) s (countPlace k) (countIn b k + 1) (omega arith) (omega arith) (omega arith)
+
+    pub acks-acknowledged : s .bits < 2 ^ 64 → acksIn (acknowledgedIn b k s) k ≡ acksIn b k ++ (inSet s ∷ [])
+    unfolding acksIn
+    acks-acknowledged h =
+        let n = countIn b k in
+        let b′ = acknowledgedIn b k s in
+        let g = agree-written b (setPlace k n) s (countPlace k) (n + 1) (omega arith) (omega arith) (setPlace k 0) (setPlace k n) (inl (omega arith)) (inr (omega arith)) in
+        let w = set-written b (setPlace k n) s (countPlace k) (n + 1) (omega arith) (omega arith) (omega arith) h in
+        let e : setPlace k 0 + n * setBytes ≡ setPlace k n = omega arith in
+        ap (λ (m : ℕ). setsFrom m (setPlace k 0) b′) (count-acknowledged ∙ add-one n) ∙ sets-more n (setPlace k 0) b′
+        ∙ (λ i. sets-agree n (setPlace k 0) g (omega arith) (omega arith) i ++ (inSet ((ap (readSet b′) e ∙ w) i) ∷ []))
+
+    pub check-acknowledged : Agree b (acknowledgedIn b k s) (flagPlace k) (countPlace k + cellSize)
+    check-acknowledged =
+        agree-written b (setPlace k (countIn b k)) s (countPlace k) (countIn b k + 1) (omega arith) (omega arith) (flagPlace k) (countPlace k + cellSize)
+        (inr (omega arith)) (inr (omega arith))
+
+  pub flag-checked : flagIn (checkedIn b k s) k ≡ 1
+  flag-checked = number-written b (checkPlace k) s (flagPlace k) 1 (omega arith) (omega arith) (omega arith)
+
+  pub check-checked : s .bits < 2 ^ 64 → checkIn (checkedIn b k s) k ≡ some (inSet s)
+  unfolding checkIn
+  check-checked h =
+      let w = set-written b (checkPlace k) s (flagPlace k) 1 (omega arith) (omega arith) (omega arith) h in
+      λ i. pick (eqb (flag-checked i) 1) (some (inSet (w i))) none
+
+  pub acks-checked : Agree b (checkedIn b k s) (countPlace k) (flagPlace k)
+  acks-checked =
+      agree-written b (checkPlace k) s (flagPlace k) 1 (omega arith) (omega arith) (countPlace k) (flagPlace k) (inl (omega arith)) (inl (omega arith))

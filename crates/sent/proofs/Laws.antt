@@ -1,0 +1,155 @@
+-- What was sent, over all sites and rounds: which have a cell, views that differ in one cell, and what a message read means.
+-- Assumes nothing.
+use mathlib.Core.Path.{_≡_, refl, sym, ap, _∙_}
+use mathlib.Core.Bool.{Bool, true, false, _&&_}
+use mathlib.Core.Logic.{⊎-elim}
+use mathlib.Core.List.{List, []}
+use mathlib.Core.Option.{none, some}
+use Prim.Native.Nat.{ℕ, zero, suc, pred, _+_, _*_, _-_, _≤_, _<_}
+use native.Mathlib.Omega.{arith}
+use lib.Dec.{eqb, leb, ltb}
+use lib.ListN.{length}
+use borrow.Author.Tests.{ltb-true, leb-true, eqb-true, lt-ltb, le-leb, lt-leb, eq-eqb, ne-eqb}
+use Rattle.theory.specs.Sets.{pick}
+use Rattle.theory.specs.Sets as theory
+use Rattle.theory.specs.Lists.{nth}
+use Rattle.theory.specs.Counting.{both, left, right, known, never}
+use Rattle.wire.specs.Wire.{readLe}
+use Rattle.sets.specs.declared.Set.{Set}
+use Rattle.sets.specs.Sets.{inSet, setBytes, readSet}
+use Rattle.table.specs.Table.{maxSites}
+use Rattle.sent.specs.declared.Message.the-variants.{Sent, Never}
+use Rattle.sent.specs.Sent.{sentRounds, flagOffset, checkOffset, cells, cellOf, countPlace, setPlace, checkPlace}
+use Rattle.sent.specs.Sent.{countIn, flagIn, acksIn, checkIn, inTable, acksOf, checksOf, acknowledgmentOf, checkOf, Read}
+use Rattle.sent.proofs.Cells.{length-sets, nth-set, nth-none}
+
+-- ---- sites and rounds that have a cell
+
+pub in-table : (j r : ℕ) → j < maxSites → 1 ≤ r → r ≤ sentRounds → inTable j r ≡ true
+in-table j r a b c = both (ltb j maxSites) (leb 1 r && leb r sentRounds) (lt-ltb j maxSites a) (both (leb 1 r) (leb r sentRounds) (le-leb 1 r b) (le-leb r sentRounds c))
+
+pub table-told : (j r : ℕ) → inTable j r ≡ true → (j < maxSites) × (1 ≤ r) × (r ≤ sentRounds)
+table-told j r h =
+    let t = right (ltb j maxSites) (leb 1 r && leb r sentRounds) h in (
+      ltb-true j maxSites (left (ltb j maxSites) (leb 1 r && leb r sentRounds) h),
+      leb-true 1 r (left (leb 1 r) (leb r sentRounds) t),
+      leb-true r sentRounds (right (leb 1 r) (leb r sentRounds) t),
+    )
+
+-- A cell is below the number of cells.
+pub cell-inside : (j r : ℕ) → inTable j r ≡ true → cellOf j r < cells
+cell-inside j r h = let w = table-told j r h in omega arith
+
+-- Two of them have the same cell only where both are the same.
+pub cell-same : (j r i s : ℕ) → inTable j r ≡ true → inTable i s ≡ true → cellOf j r ≡ cellOf i s → (j ≡ i) × (r ≡ s)
+cell-same j r i s h l e =
+    let w = table-told j r h in
+    let v = table-told i s l in
+    (omega arith, omega arith)
+
+-- Two views by cells that are the same in every cell.
+pub same-view : {A : Type 0} (f g : ℕ → A) (d : A) → ((k : ℕ) → k < cells → f k ≡ g k)
+    → (j r : ℕ) → pick (inTable j r) (f (cellOf j r)) d ≡ pick (inTable j r) (g (cellOf j r)) d
+same-view {A} f g d h j r = go (inTable j r) (λ e. h (cellOf j r) (cell-inside j r e))
+  where
+    go : (t : Bool) → (t ≡ true → f (cellOf j r) ≡ g (cellOf j r)) → pick t (f (cellOf j r)) d ≡ pick t (g (cellOf j r)) d
+    go true l = l refl
+    go false l = refl
+
+-- Two views by cells that differ in the cell of i and s only.
+pub other-view : {A : Type 0} (f g : ℕ → A) (d : A) (new : A → A) (i s : ℕ) → inTable i s ≡ true
+    → f (cellOf i s) ≡ new (g (cellOf i s)) → ((k : ℕ) → k < cells → (k ≡ cellOf i s → ⊥) → f k ≡ g k)
+    → (j r : ℕ)
+    → pick (inTable j r) (f (cellOf j r)) d
+    ≡ pick (eqb j i && eqb r s) (new (pick (inTable j r) (g (cellOf j r)) d)) (pick (inTable j r) (g (cellOf j r)) d)
+other-view {A} f g d new i s t here there j r = ⊎-elim same other (known (eqb j i && eqb r s))
+  where
+    same : (eqb j i && eqb r s) ≡ true → pick (inTable j r) (f (cellOf j r)) d ≡ pick (eqb j i && eqb r s) (new (pick (inTable j r) (g (cellOf j r)) d)) (pick (inTable j r) (g (cellOf j r)) d)
+    same e =
+        let a = eqb-true j i (left (eqb j i) (eqb r s) e) in
+        let b = eqb-true r s (right (eqb j i) (eqb r s) e) in
+        let u : inTable j r ≡ true = (λ k. inTable (a k) (b k)) ∙ t in
+        let c : cellOf j r ≡ cellOf i s = λ k. cellOf (a k) (b k) in
+        (λ k. pick (u k) (f (cellOf j r)) d) ∙ ap f c ∙ here ∙ ap (λ (x : ℕ). new (g x)) (sym c)
+        ∙ sym (λ k. pick (e k) (new (pick (u k) (g (cellOf j r)) d)) (pick (u k) (g (cellOf j r)) d))
+
+    go : (u : Bool) → (u ≡ true → f (cellOf j r) ≡ g (cellOf j r)) → pick u (f (cellOf j r)) d ≡ pick u (g (cellOf j r)) d
+    go true l = l refl
+    go false l = refl
+
+    other : (eqb j i && eqb r s) ≡ false → pick (inTable j r) (f (cellOf j r)) d ≡ pick (eqb j i && eqb r s) (new (pick (inTable j r) (g (cellOf j r)) d)) (pick (inTable j r) (g (cellOf j r)) d)
+    other e =
+        go (inTable j r)
+        (λ u.
+        there (cellOf j r) (cell-inside j r u)
+        (λ c.
+        let w = cell-same j r i s u t c in
+        never (eqb j i && eqb r s) (both (eqb j i) (eqb r s) (eq-eqb j i (w .0)) (eq-eqb r s (w .1))) e))
+        ∙ sym (λ k. pick (e k) (new (pick (inTable j r) (g (cellOf j r)) d)) (pick (inTable j r) (g (cellOf j r)) d))
+
+-- ---- messages read
+
+-- What was read from where a cell starts is its count.
+pub counted : (b : List ℕ) (k : ℕ) {p n : ℕ} → p ≡ countPlace k → n ≡ readLe 1 b p → n ≡ countIn b k
+counted b k e c = c ∙ ap (readLe 1 b) e
+
+module _ (b : List ℕ) (j r : ℕ) (t : inTable j r ≡ true) where
+  pub acks-at : acksOf b j r ≡ acksIn b (cellOf j r)
+  unfolding acksOf
+  acks-at = λ k. pick (t k) (acksIn b (cellOf j r)) []
+
+  pub checks-at : checksOf b j r ≡ checkIn b (cellOf j r)
+  unfolding checksOf
+  checks-at = λ k. pick (t k) (checkIn b (cellOf j r)) none
+
+  -- There are as many acknowledgments as the cell counts.
+  pub length-acks : length (acksOf b j r) ≡ countIn b (cellOf j r)
+  unfolding acksIn
+  length-acks = ap length acks-at ∙ length-sets (countIn b (cellOf j r)) (setPlace (cellOf j r) 0) b
+
+  module _ {p : ℕ} (e : p ≡ countPlace (cellOf j r)) where
+    pub no-acknowledgment : (a : ℕ) {n : ℕ} → n ≡ readLe 1 b p → 1 ≤ a → n < a → Read Never (acknowledgmentOf b j r a) (nth (acksOf b j r) (pred a))
+    unfolding acksIn acknowledgmentOf
+    no-acknowledgment zero c h l = absurd (omega arith)
+    no-acknowledgment (suc a) {n} c h l =
+        let d : n ≡ countIn b (cellOf j r) = c ∙ ap (readLe 1 b) e in
+        record {
+          answer = sym (λ k. pick (lt-leb (suc a) (countIn b (cellOf j r)) (omega arith) k) (Sent (readSet b (setPlace (cellOf j r) (suc a - 1)))) Never);
+          means = sym (ap (λ (x : List theory.Set). nth x a) acks-at ∙ nth-none (countIn b (cellOf j r)) (setPlace (cellOf j r) 0) b a (omega arith));
+        }
+
+    pub some-acknowledgment : (a : ℕ) {n : ℕ} {s : Set} → n ≡ readLe 1 b p → 1 ≤ a → a ≤ n → s ≡ readSet b (p + 1 + (a - 1) * setBytes)
+        → Read (Sent s) (acknowledgmentOf b j r a) (nth (acksOf b j r) (pred a))
+    unfolding acksIn acknowledgmentOf
+    some-acknowledgment zero c h l m = absurd (omega arith)
+    some-acknowledgment (suc a) {n} {s} c h l m =
+        let d : n ≡ countIn b (cellOf j r) = c ∙ ap (readLe 1 b) e in
+        let q : setPlace (cellOf j r) (suc a - 1) ≡ setPlace (cellOf j r) 0 + a * setBytes = omega arith in
+        let w : s ≡ readSet b (setPlace (cellOf j r) (suc a - 1)) = m ∙ ap (λ (x : ℕ). readSet b (x + 1 + (suc a - 1) * setBytes)) e in
+        record {
+          answer = ap Sent w ∙ sym (λ k. pick (le-leb (suc a) (countIn b (cellOf j r)) (omega arith) k) (Sent (readSet b (setPlace (cellOf j r) (suc a - 1)))) Never);
+          means =
+              ap (λ (x : Set). some (inSet x)) (w ∙ ap (readSet b) q)
+              ∙ sym (ap (λ (x : List theory.Set). nth x a) acks-at ∙ nth-set (countIn b (cellOf j r)) (setPlace (cellOf j r) 0) b a (omega arith));
+        }
+
+    pub no-check : {n : ℕ} → n ≡ readLe 1 b (p + flagOffset) → (n ≡ 1 → ⊥) → Read Never (checkOf b j r) (checksOf b j r)
+    unfolding checkIn checkOf
+    no-check {n} c h =
+        let d : n ≡ flagIn b (cellOf j r) = c ∙ ap (λ (x : ℕ). readLe 1 b (x + flagOffset)) e in
+        let f = ne-eqb (flagIn b (cellOf j r)) 1 (λ x. h (d ∙ x)) in
+        record {
+          answer = sym (λ k. pick (f k) (Sent (readSet b (checkPlace (cellOf j r)))) Never);
+          means = sym (checks-at ∙ (λ k. pick (f k) (some (inSet (readSet b (checkPlace (cellOf j r))))) none));
+        }
+
+    pub some-check : {n : ℕ} {s : Set} → n ≡ readLe 1 b (p + flagOffset) → n ≡ 1 → s ≡ readSet b (p + checkOffset) → Read (Sent s) (checkOf b j r) (checksOf b j r)
+    unfolding checkIn checkOf
+    some-check {n} {s} c h m =
+        let d : n ≡ flagIn b (cellOf j r) = c ∙ ap (λ (x : ℕ). readLe 1 b (x + flagOffset)) e in
+        let f = eq-eqb (flagIn b (cellOf j r)) 1 (sym d ∙ h) in
+        let w : s ≡ readSet b (checkPlace (cellOf j r)) = m ∙ ap (λ (x : ℕ). readSet b (x + checkOffset)) e in
+        record {
+          answer = ap Sent w ∙ sym (λ k. pick (f k) (Sent (readSet b (checkPlace (cellOf j r)))) Never);
+          means = ap (λ (x : Set). some (inSet x)) w ∙ sym (checks-at ∙ (λ k. pick (f k) (some (inSet (readSet b (checkPlace (cellOf j r))))) none));
+        }

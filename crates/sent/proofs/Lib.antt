@@ -1,0 +1,4 @@
+pub mod Cells
+pub mod Laws
+pub mod Writes
+pub mod Protocol
