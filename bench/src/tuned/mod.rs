@@ -58,6 +58,7 @@ impl Work {
 /// Plays a run's bytes and gives the length of its print, which stands at the front of `out`.
 ///
 /// `out` has at least `OUT_BYTES` bytes.
+#[inline(never)]
 pub fn play(run: &[u8], work: &mut Work, out: &mut [u8]) -> usize {
     let mut printer = Printer::new(out);
     match open(run, &mut work.world) {

@@ -55,12 +55,6 @@ impl<'a> Printer<'a> {
         self.length += N;
     }
 
-    /// Two digits of a number below 100.
-    #[inline(always)]
-    pub fn put_pair(&mut self, number: u8) {
-        self.put(PAIRS[usize::from(number) % 100]);
-    }
-
     /// A number below 1,000,000 without leading zeros.
     #[inline(always)]
     pub fn put_number(&mut self, number: u32) {
@@ -80,20 +74,34 @@ impl<'a> Printer<'a> {
         self.put([b'0' + refusal as u8, b'\n']);
     }
 
-    #[inline(always)]
+    /// A function of its own, so that the loop over the steps keeps its registers.
+    #[inline(never)]
     pub fn step_refused(&mut self, number: u32, refusal: u32) {
-        self.put(*b"step ");
-        self.put_number(number);
-        self.put(*b" refused");
-        self.put([b' ', b'0' + refusal as u8, b'\n']);
+        self.length += match number {
+            0..=9 => self.step_line::<1>(number, refusal),
+            10..=99 => self.step_line::<2>(number, refusal),
+            100..=999 => self.step_line::<3>(number, refusal),
+            1000..=9999 => self.step_line::<4>(number, refusal),
+            _ => self.step_line::<5>(number, refusal),
+        };
+    }
+
+    /// The line of a refused step whose number has D digits, and its length.
+    #[inline(always)]
+    fn step_line<const D: usize>(&mut self, number: u32, refusal: u32) -> usize {
+        let line: &mut [u8; 21] = self.out[self.length..].first_chunk_mut().expect("there is room for a line");
+        line[..5].copy_from_slice(b"step ");
+        line[5..5 + D].copy_from_slice(&digits::<D>(number));
+        line[5 + D..13 + D].copy_from_slice(b" refused");
+        line[13 + D..16 + D].copy_from_slice(&[b' ', b'0' + refusal as u8, b'\n']);
+        16 + D
     }
 
     pub fn site(&mut self, number: u8, round: u8, deliveries: &[Delivery]) {
-        self.put(*b"site ");
-        self.put_pair(number);
-        self.put(*b" round ");
-        self.put_pair(round);
-        self.put(*b" delivered");
+        let mut line = *b"site 00 round 00 delivered";
+        line[5..7].copy_from_slice(&PAIRS[usize::from(number) % 100]);
+        line[14..16].copy_from_slice(&PAIRS[usize::from(round) % 100]);
+        self.put(line);
         for delivery in deliveries {
             let [tens, ones] = PAIRS[delivery.command as usize % 100];
             self.put([b' ', tens, ones, b'=']);

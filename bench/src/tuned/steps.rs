@@ -1,96 +1,69 @@
 //! The world of all sites and its ten steps (document 01, "A run and its print").
 //!
-//! A step's guards come in document 01's order: 4, 5, 6, 7, 8.
+//! What refuses a step is told apart, in document 01's order, only after it is known that something does.
 
 use super::book::Book;
 use super::log::{Entry, Log};
 use super::print::Printer;
-use super::site::{Deliveries, Heard, Register, Site};
-use super::site::{INITIAL_REGISTER, NOTHING_DELIVERED, NOTHING_HEARD, START};
+use super::site::{Site, ACKNOWLEDGMENTS};
 use super::*;
 
-/// The a of step 02 is 1 to 64; a site's pending set grows with each acknowledgment of a round.
-const ACKNOWLEDGMENTS: usize = 64;
-/// A site sends acknowledgments in rounds 1 to 33.
-const SENT: usize = ACKNOWLEDGMENTS * (ROUNDS - 1);
-
-/// Where the acknowledgments of a round stand among those that a site has sent.
-#[derive(Clone, Copy)]
-struct Span {
-    start: u16,
-    count: u16,
-}
-
-const NOTHING_SENT: Span = Span { start: 0, count: 0 };
+/// What a byte that names a site stands for.
+const CORRECT: u8 = 0;
+const FAULTY: u8 = 1;
+const NO_SITE: u8 = 2;
 
 pub struct World {
-    sites: [Site; SITES],
+    /// For each byte what it names.
+    roles: [u8; 256],
     n: u8,
     n_ack: u8,
-    /// The faulty sites as bits.
-    faulty: u16,
-    pub book: Book,
+    faulty: u32,
     log: Log,
-    registers: [Register; SITES],
-    deliveries: [Deliveries; SITES],
-    heard: [Heard; SITES],
-    /// For each site and round up to the site's own.
-    spans: [[Span; ROUNDS]; SITES],
-    /// What each site has sent as acknowledgments, one after another.
-    sent: [[u64; SENT]; SITES],
+    pub book: Book,
+    sites: [Site; SITES],
 }
 
 /// Whether a message's round is out of range.
-#[inline(always)]
 fn is_no_round(round: u8) -> bool {
     round.wrapping_sub(1) >= 33
 }
 
 impl World {
     pub fn new() -> World {
-        World {
-            sites: [START; SITES],
-            n: 1,
-            n_ack: 1,
-            faulty: 0,
-            book: Book::new(),
-            log: Log::new(),
-            registers: [INITIAL_REGISTER; SITES],
-            deliveries: [NOTHING_DELIVERED; SITES],
-            heard: [NOTHING_HEARD; SITES],
-            spans: [[NOTHING_SENT; ROUNDS]; SITES],
-            sent: [[0; SENT]; SITES],
-        }
+        let sites = std::array::from_fn(|_| Site::new());
+        let (log, book) = (Log::new(), Book::new());
+        World { roles: [NO_SITE; 256], n: 1, n_ack: 1, faulty: 0, log, book, sites }
     }
 
     /// The start of a run with the book that was read.
-    pub fn start(&mut self, sites: u8, faults: u8, faulty: u16) {
-        self.n = sites;
-        self.n_ack = sites - faults;
-        self.faulty = faulty;
-        self.log.start(sites - faults);
-        for site in 0..usize::from(sites) {
-            self.sites[site] = START;
-            self.registers[site] = INITIAL_REGISTER;
-            self.spans[site][1] = NOTHING_SENT;
+    pub fn start(&mut self, n: u8, faults: u8, mask: u16) {
+        self.n = n;
+        self.n_ack = n - faults;
+        self.faulty = mask.count_ones();
+        self.log.start(n - faults);
+        for (number, role) in self.roles.iter_mut().enumerate().take(SITES) {
+            let is_site = number < usize::from(n);
+            *role = if is_site { (mask >> number & 1) as u8 } else { NO_SITE };
         }
+        self.sites[..usize::from(n)].iter_mut().for_each(Site::start);
     }
 
     pub fn print_opening(&self, out: &mut Printer) {
         out.put(*b"run ");
         out.put_number(u32::from(self.n));
         out.put(*b" sites ");
-        out.put_number(self.faulty.count_ones());
+        out.put_number(self.faulty);
         out.put(*b" liars ");
         out.put_number(u32::from(self.book.count));
         out.put(*b" commands\n");
     }
 
     pub fn print_sites(&self, out: &mut Printer) {
-        for number in (0..self.n).filter(|number| self.faulty >> number & 1 == 0) {
-            let site = &self.sites[usize::from(number)];
-            let deliveries = &self.deliveries[usize::from(number)][..usize::from(site.deliveries)];
-            out.site(number, site.round, deliveries);
+        for (number, site) in self.sites.iter().enumerate() {
+            if self.roles[number] == CORRECT {
+                out.site(number as u8, site.round, site.deliveries());
+            }
         }
     }
 
@@ -114,49 +87,49 @@ impl World {
     /// One step: its refusal and what follows its operands; none for an unknown code or cut operands.
     #[inline(always)]
     fn step<'a>(&mut self, code: u8, operands: &'a [u8]) -> Option<(Refusal, &'a [u8])> {
-        if code == 0x06 {
-            let (&[source, round], rest) = operands.split_first_chunk::<2>()?;
-            let (nc, rest) = rest.split_first_chunk::<8>()?;
-            let (c, rest) = rest.split_first_chunk::<8>()?;
-            let entry = Entry { nc: u64::from_le_bytes(*nc), c: u64::from_le_bytes(*c) };
-            return Some((self.faulty_entry(source, round, entry), rest));
-        }
-        let (to, rest) = operands.split_first()?;
         Some(match code {
-            0x01 => rest.split_first().map(|(command, rest)| (self.receive_command(*to, *command), rest))?,
+            0x01 => operands.split_first_chunk().map(|(&[to, m], rest)| (self.receive_command(to, m), rest))?,
             0x02 => {
-                let (&[from, round, a], rest) = rest.split_first_chunk()?;
-                (self.receive_acknowledgment(*to, from, round, a), rest)
+                let (&[to, from, round, a], rest) = operands.split_first_chunk()?;
+                (self.receive_acknowledgment(to, from, round, a), rest)
             }
             0x03 => {
-                let (&[from, round], rest) = rest.split_first_chunk()?;
-                (self.receive_check(*to, from, round), rest)
+                let (&[to, from, round], rest) = operands.split_first_chunk()?;
+                (self.receive_check(to, from, round), rest)
             }
-            0x04 | 0x05 => {
-                let (&[from, round], rest) = rest.split_first_chunk()?;
-                let (set, rest) = rest.split_first_chunk()?;
-                (self.receive_faulty(code == 0x04, *to, from, round, u64::from_le_bytes(*set)), rest)
+            0x04 => faulty_message(operands).map(|(message, rest)| (self.receive_faulty(true, message), rest))?,
+            0x05 => faulty_message(operands).map(|(message, rest)| (self.receive_faulty(false, message), rest))?,
+            0x06 => {
+                let (operands, rest) = operands.split_first_chunk::<18>()?;
+                (self.faulty_entry(operands), rest)
             }
-            0x07 => (self.turn(*to), rest),
-            0x08 => rest.split_first().map(|(command, rest)| (self.deliver_fast(*to, *command), rest))?,
-            0x09 => (self.read_log(*to), rest),
-            0x0A => (self.end_round(*to), rest),
+            0x07 => operands.split_first().map(|(site, rest)| (self.turn(*site), rest))?,
+            0x08 => operands.split_first_chunk().map(|(&[site, m], rest)| (self.deliver_fast(site, m), rest))?,
+            0x09 => operands.split_first().map(|(site, rest)| (self.read_log(*site), rest))?,
+            0x0A => operands.split_first().map(|(site, rest)| (self.end_round(*site), rest))?,
             _ => return None,
         })
     }
 
     #[inline(always)]
-    fn is_faulty(&self, site: u8) -> bool {
-        self.faulty >> (site & 15) & 1 == 1
+    fn role(&self, site: u8) -> u8 {
+        self.roles[usize::from(site)]
+    }
+
+    /// The refusal of a step whose numbers are in range or not, but for the sites named.
+    fn refusal(&self, is_in_range: bool, sites: &[u8], otherwise: Refusal) -> Refusal {
+        if !is_in_range || sites.iter().any(|site| self.role(*site) == NO_SITE) {
+            RANGE
+        } else {
+            otherwise
+        }
     }
 
     #[inline(always)]
     fn receive_command(&mut self, to: u8, command: u8) -> Refusal {
-        if to >= self.n || command >= self.book.count {
-            return RANGE;
-        }
-        if self.is_faulty(to) {
-            return ROLE;
+        let is_in_range = command < self.book.count;
+        if !is_in_range || self.role(to) != CORRECT {
+            return self.refusal(is_in_range, &[to], ROLE);
         }
         self.sites[usize::from(to)].received |= 1 << command;
         TAKEN
@@ -164,30 +137,23 @@ impl World {
 
     #[inline(always)]
     fn receive_acknowledgment(&mut self, to: u8, from: u8, round: u8, a: u8) -> Refusal {
-        let place = u16::from(a.wrapping_sub(1));
-        if to >= self.n || from >= self.n || is_no_round(round) || usize::from(place) >= ACKNOWLEDGMENTS {
-            return RANGE;
+        let after = a.wrapping_sub(1);
+        if self.role(to) | self.role(from) == CORRECT {
+            if let Some(set) = self.sites[usize::from(from)].acknowledgment(round, after) {
+                self.sites[usize::from(to)].hear(from, round, set);
+                return TAKEN;
+            }
         }
-        if self.is_faulty(to) || self.is_faulty(from) {
-            return ROLE;
-        }
-        let (to, from) = (usize::from(to), usize::from(from));
-        let span = self.spans[from][usize::from(round)];
-        if round > self.sites[from].round || place >= span.count {
-            return NOT_ENABLED;
-        }
-        let set = self.sent[from][usize::from(span.start + place)];
-        self.sites[to].hear(&mut self.heard[to], from, usize::from(round), set);
-        TAKEN
+        let is_in_range = !is_no_round(round) && usize::from(after) < ACKNOWLEDGMENTS;
+        let is_role = self.role(to) | self.role(from) == CORRECT;
+        self.refusal(is_in_range, &[to, from], if is_role { NOT_ENABLED } else { ROLE })
     }
 
     #[inline(always)]
     fn receive_check(&mut self, to: u8, from: u8, round: u8) -> Refusal {
-        if to >= self.n || from >= self.n || is_no_round(round) {
-            return RANGE;
-        }
-        if self.is_faulty(to) || self.is_faulty(from) {
-            return ROLE;
+        let is_in_range = !is_no_round(round);
+        if !is_in_range || self.role(to) | self.role(from) != CORRECT {
+            return self.refusal(is_in_range, &[to, from], ROLE);
         }
         let Some(entry) = self.log.proposal(usize::from(from), usize::from(round)) else {
             return NOT_ENABLED;
@@ -198,16 +164,15 @@ impl World {
 
     /// An acknowledgment or a check message of a faulty site.
     #[inline(always)]
-    fn receive_faulty(&mut self, is_acknowledgment: bool, to: u8, from: u8, round: u8, set: u64) -> Refusal {
-        if to >= self.n || from >= self.n || is_no_round(round) || set & !self.book.all != 0 {
-            return RANGE;
-        }
-        if self.is_faulty(to) || !self.is_faulty(from) {
-            return ROLE;
+    fn receive_faulty(&mut self, is_acknowledgment: bool, message: FaultyMessage) -> Refusal {
+        let FaultyMessage { to, from, round, set } = message;
+        let is_in_range = !is_no_round(round) && set & !self.book.all == 0;
+        if !is_in_range || self.role(to) | (self.role(from) ^ FAULTY) != CORRECT {
+            return self.refusal(is_in_range, &[to, from], ROLE);
         }
         let site = &mut self.sites[usize::from(to)];
         if is_acknowledgment {
-            site.hear(&mut self.heard[usize::from(to)], usize::from(from), usize::from(round), set);
+            site.hear(from, round, set);
         } else {
             site.received |= set;
         }
@@ -215,13 +180,12 @@ impl World {
     }
 
     #[inline(always)]
-    fn faulty_entry(&mut self, source: u8, round: u8, entry: Entry) -> Refusal {
-        let is_beyond = (entry.nc | entry.c) & !self.book.all != 0;
-        if source >= self.n || round.wrapping_sub(1) >= 32 || is_beyond {
-            return RANGE;
-        }
-        if !self.is_faulty(source) {
-            return ROLE;
+    fn faulty_entry(&mut self, operands: &[u8; 18]) -> Refusal {
+        let (source, round) = (operands[0], operands[1]);
+        let entry = Entry { nc: word(operands, 2), c: word(operands, 10) };
+        let is_in_range = round.wrapping_sub(1) < 32 && (entry.nc | entry.c) & !self.book.all == 0;
+        if !is_in_range || self.role(source) != FAULTY {
+            return self.refusal(is_in_range, &[source], ROLE);
         }
         let (source, round) = (usize::from(source), usize::from(round));
         if self.log.has_two(source, round) {
@@ -235,14 +199,10 @@ impl World {
     /// Lines 12 to 18 of source document 004. A correct site proposes once in a round, so 7 is not met.
     #[inline(always)]
     fn turn(&mut self, number: u8) -> Refusal {
-        if number >= self.n {
-            return RANGE;
+        if self.role(number) != CORRECT {
+            return self.refusal(true, &[number], ROLE);
         }
-        if self.is_faulty(number) {
-            return ROLE;
-        }
-        let number = usize::from(number);
-        let site = &mut self.sites[number];
+        let site = &mut self.sites[usize::from(number)];
         let open = site.received & !site.delivered;
         let new = open & !site.pending;
         if site.is_waiting || new == 0 {
@@ -250,50 +210,43 @@ impl World {
         }
         if !self.book.conflict(new, open) {
             site.pending = open;
-            let span = &mut self.spans[number][usize::from(site.round)];
-            self.sent[number][usize::from(span.start + span.count)] = open;
-            span.count += 1;
+            site.acknowledge();
             return TAKEN;
         }
         if site.round > 32 {
             return LAST_ROUND;
         }
         site.is_waiting = true;
-        self.log.append(number, usize::from(site.round), Entry { nc: site.pending, c: new }, false);
+        let entry = Entry { nc: site.pending, c: new };
+        self.log.append(usize::from(number), usize::from(site.round), entry, false);
         TAKEN
     }
 
     /// Lines 26 to 29 of source document 004.
     #[inline(always)]
     fn deliver_fast(&mut self, number: u8, command: u8) -> Refusal {
-        if number >= self.n || command >= self.book.count {
-            return RANGE;
+        let is_in_range = command < self.book.count;
+        if !is_in_range || self.role(number) != CORRECT {
+            return self.refusal(is_in_range, &[number], ROLE);
         }
-        if self.is_faulty(number) {
-            return ROLE;
-        }
-        let number = usize::from(number);
-        let site = &mut self.sites[number];
+        let site = &mut self.sites[usize::from(number)];
         let bit = 1u64 << command;
         let is_open = site.pending & !site.fast & bit != 0;
-        if !is_open || site.senders(&self.heard[number], command) < u64::from(self.n_ack) {
+        if !is_open || site.senders(command) < u64::from(self.n_ack) {
             return NOT_ENABLED;
         }
-        if site.deliveries >= self.book.count {
+        if !site.has_room(&self.book, 1) {
             return ROOM;
         }
         site.fast |= bit;
-        site.deliver(&self.book, u32::from(command), &mut self.registers[number], &mut self.deliveries[number]);
+        site.deliver(&self.book, u32::from(command));
         TAKEN
     }
 
     #[inline(always)]
     fn read_log(&mut self, number: u8) -> Refusal {
-        if number >= self.n {
-            return RANGE;
-        }
-        if self.is_faulty(number) {
-            return ROLE;
+        if self.role(number) != CORRECT {
+            return self.refusal(true, &[number], ROLE);
         }
         let site = &mut self.sites[usize::from(number)];
         if site.log_position >= self.log.length {
@@ -306,43 +259,47 @@ impl World {
     /// Lines 20 to 24 of source document 004: NCSet, then CSet, each in number order.
     #[inline(always)]
     fn end_round(&mut self, number: u8) -> Refusal {
-        if number >= self.n {
-            return RANGE;
+        if self.role(number) != CORRECT {
+            return self.refusal(true, &[number], ROLE);
         }
-        if self.is_faulty(number) {
-            return ROLE;
-        }
-        let number = usize::from(number);
-        let site = &mut self.sites[number];
+        let site = &mut self.sites[usize::from(number)];
         let decision = self.log.decision(usize::from(site.round), site.log_position);
         let Some(decision) = decision.filter(|_| site.is_waiting) else {
             return NOT_ENABLED;
         };
         let earlier = site.delivered | site.fast;
         let news = [decision.nc & !earlier, decision.c & !earlier];
-        if u32::from(site.deliveries) + (news[0] | news[1]).count_ones() > u32::from(self.book.count) {
+        if !site.has_room(&self.book, (news[0] | news[1]).count_ones()) {
             return ROOM;
         }
         for mut left in news {
             while left != 0 {
-                let command = left.trailing_zeros();
-                site.deliver(&self.book, command, &mut self.registers[number], &mut self.deliveries[number]);
+                site.deliver(&self.book, left.trailing_zeros());
                 left &= left - 1;
             }
         }
-        self.next_round(number, decision.nc | decision.c);
+        site.next_round(decision.nc | decision.c);
         TAKEN
     }
+}
 
-    #[inline(always)]
-    fn next_round(&mut self, number: usize, decided: u64) {
-        let site = &mut self.sites[number];
-        let Span { start, count } = self.spans[number][usize::from(site.round)];
-        site.delivered |= decided;
-        site.pending = 0;
-        site.fast = 0;
-        site.is_waiting = false;
-        site.round += 1;
-        self.spans[number][usize::from(site.round)] = Span { start: start + count, count: 0 };
-    }
+/// The operands of steps 04 and 05.
+struct FaultyMessage {
+    to: u8,
+    from: u8,
+    round: u8,
+    set: u64,
+}
+
+#[inline(always)]
+fn faulty_message(operands: &[u8]) -> Option<(FaultyMessage, &[u8])> {
+    let (operands, rest) = operands.split_first_chunk::<11>()?;
+    let [to, from, round, ..] = *operands;
+    Some((FaultyMessage { to, from, round, set: word(operands, 3) }, rest))
+}
+
+/// The set at this place of the operands.
+#[inline(always)]
+fn word<const N: usize>(operands: &[u8; N], at: usize) -> u64 {
+    u64::from_le_bytes(std::array::from_fn(|byte| operands[at + byte]))
 }
