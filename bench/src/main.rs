@@ -13,7 +13,7 @@ static ALLOCATOR: Counting = Counting;
 
 type Programs = [Box<dyn Measured>];
 
-/// The names of the programs that are divided, by their place among those measured.
+/// Which times are divided by which, by the programs' places.
 fn ratios(programs: &Programs) -> Vec<(usize, usize)> {
     match programs.len() {
         2 => vec![(0, 1)],
@@ -30,13 +30,22 @@ fn empty_table(programs: &Programs) -> Table {
     table
 }
 
+/// None where a difference of times came out as nothing.
+fn ratio(over: f64, under: f64) -> String {
+    if over > 0.0 && under > 0.0 {
+        format!("{:.2}", over / under)
+    } else {
+        String::from("-")
+    }
+}
+
 fn row(programs: &mut Programs, workload: &Workload, effort: Effort) -> Vec<String> {
     check(programs, workload);
     let times = nanoseconds(programs, workload, effort);
     let mut row = vec![workload.name.clone(), workload.steps.to_string()];
     row.extend(times.iter().map(|time| format!("{time:.1}")));
     for (over, under) in ratios(programs) {
-        row.push(format!("{:.2}", times[over] / times[under]));
+        row.push(ratio(times[over], times[under]));
     }
     row
 }
