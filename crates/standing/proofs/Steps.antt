@@ -1,9 +1,9 @@
 -- One law for each answer of the code that adds an entry.
 -- Assumes nothing.
-use mathlib.Core.Path.{_≡_, refl, sym, ap, _∙_}
+use mathlib.Core.Path.{_≡_, sym, ap, _∙_}
 use mathlib.Core.Bool.{Bool, true, false, _&&_, not}
 use mathlib.Core.List.{List}
-use Prim.Native.Nat.{ℕ, zero, suc, _+_, _-_, _≤_, _<_}
+use Prim.Native.Nat.{ℕ, suc, _+_, _-_, _≤_, _<_}
 use native.Mathlib.Numerals.{add-one}
 use native.Mathlib.Omega.{arith}
 use lib.Dec.{eqb, ltb}
@@ -18,7 +18,7 @@ use Rattle.calm.specs.Rows.{freeBy}
 use Rattle.entries.specs.declared.Entry.{Entry}
 use Rattle.entries.specs.Entries.{entryOf}
 use Rattle.standing.specs.declared.Standing.{Standing}
-use Rattle.standing.specs.Standings.{nobodyYet, validAfter, marked, withEntry, standingOf}
+use Rattle.standing.specs.Standings.{validAfter, marked, withEntry, standingOf}
 
 module _ (rows : List ℕ) (site : ℕ) (nc : Set) (s : Standing) {t : Bool} (et : t ≡ inSet (s .seen) site) where
   pub second-entry : {none source r : Set} → t ≡ true → none ≡ emptyOf → source ≡ withOf none site → r ≡ withoutOf (s .valid) source

@@ -5,20 +5,16 @@ use mathlib.Core.Bool.{Bool, true, false, _&&_}
 use mathlib.Core.List.{List, [], _∷_, _++_, foldl}
 use mathlib.Core.Logic.{_⊎_, inl, inr}
 use mathlib.Core.Option.{Option, none, some}
-use Prim.Native.Nat.{ℕ, zero, suc, _+_, _*_, _≤_, _<_}
+use Prim.Native.Nat.{ℕ, zero, suc, _≤_, _<_}
 use native.Mathlib.Omega.{arith}
 use lib.Dec.{eqb}
-use lib.ListN.{length, getD}
 use Rattle.theory.specs.Sets.{pick}
 use Rattle.theory.specs.Counting.{last-or-below}
-use Rattle.sets.specs.Sets.{capacity, inSet}
-use Rattle.sets.proofs.Laws.{in-above}
-use Rattle.protocol.specs.System.{System, free}
-use Rattle.protocol.specs.Recovery.{Entry, Log, Standing, absent, valid, excluded, isValid, ncOf, cOf, Tally, nobody, afterEntry, add, validCount, decideFrom, decide}
+use Rattle.protocol.specs.System.{System}
+use Rattle.protocol.specs.Recovery.{Entry, Log, excluded, Tally, nobody, afterEntry, add, validCount, decideFrom, decide}
 use Rattle.protocol.specs.StandingLaws.{tally, none-some}
 use Rattle.protocol.specs.RecoveryLaws.{decide-grows}
-use Rattle.entries.specs.Entries.{entrySize, entryOf, viewEntry, logTo}
-use Rattle.entries.proofs.Bytes.{Fits, entry-fits}
+use Rattle.entries.specs.Entries.{entryOf, viewEntry, logTo}
 
 module _ (S : System) (r : ℕ) where
   -- A standing decides where nChk sources are valid.
@@ -93,26 +89,3 @@ module _ (S : System) (r : ℕ) where
         go : (k ≡ suc n) ⊎ (k < suc n) → (k ≤ n → tallyTo n j ≡ excluded) → tallyTo (suc n) j ≡ excluded
         go (inl e) f = ap (λ (x : ℕ). tallyTo x j) (sym e) ∙ h
         go (inr g) f = excluded-next n j (f (omega arith))
-
-    -- No set of a valid source has a command beyond the capacity.
-    module _ (small : (i : ℕ) → getD b i 0 < 256) (m : ℕ) (high : capacity ≤ m) where
-      pub sets-bounded : (k j : ℕ) → k * entrySize ≤ length b → (ncOf (tallyTo k j) m ≡ false) × (cOf (tallyTo k j) m ≡ false)
-      unfolding tallyTo
-      sets-bounded zero j h = (refl, refl)
-      sets-bounded (suc k) j h =
-          go (eqb (entryOf b k .site) j && eqb (entryOf b k .round) r) (tallyTo k j) (entry-fits b small k (omega arith)) (sets-bounded k j (omega arith))
-        where
-          first : (c : Bool) → (inSet (entryOf b k .nc) m ≡ false) × (inSet (entryOf b k .c) m ≡ false)
-              → (ncOf (pick c (valid (inSet (entryOf b k .nc)) (inSet (entryOf b k .c))) excluded) m ≡ false)
-              × (cOf (pick c (valid (inSet (entryOf b k .nc)) (inSet (entryOf b k .c))) excluded) m ≡ false)
-          first true w = w
-          first false w = (refl, refl)
-
-          go : (c : Bool) (x : Standing) → Fits (entryOf b k) → (ncOf x m ≡ false) × (cOf x m ≡ false)
-              → (ncOf (pick c (afterEntry S (viewEntry (entryOf b k)) x) x) m ≡ false)
-              × (cOf (pick c (afterEntry S (viewEntry (entryOf b k)) x) x) m ≡ false)
-          go true absent f w =
-              first (free S (inSet (entryOf b k .nc))) (in-above (entryOf b k .nc) m (f .nc) high, in-above (entryOf b k .c) m (f .c) high)
-          go true (valid nc c) f w = (refl, refl)
-          go true excluded f w = (refl, refl)
-          go false x f w = w
