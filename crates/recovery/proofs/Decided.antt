@@ -4,8 +4,9 @@ use mathlib.Core.Path.{_≡_, refl, sym, ap, _∙_, subst}
 use mathlib.Core.Bool.{Bool, true, false, _&&_, _||_, not}
 use mathlib.Core.List.{List}
 use mathlib.Core.Option.{Option, none, some}
-use Prim.Native.Nat.{ℕ, zero, suc, _≤_, _<_}
+use Prim.Native.Nat.{ℕ, zero, suc, _/_, _≤_, _<_}
 use native.Mathlib.Omega.{arith}
+use lib.ListN.{length, take}
 use lib.Dec.{leb}
 use Rattle.theory.specs.Sets.{pick}
 use Rattle.theory.specs.Counting.{not-true, not-false}
@@ -22,12 +23,14 @@ use Rattle.protocol.specs.Recovery.{valid, isValid, ncOf, cOf, Tally, Log, deci
 use Rattle.system.specs.Dash.{dash}
 use Rattle.calm.specs.Rows.{rowsSystem}
 use Rattle.calm.proofs.Same.{decide-rows}
-use Rattle.entries.specs.Entries.{logTo}
+use Rattle.entries.specs.Entries.{entrySize, logTo, logOf}
+use Rattle.entries.proofs.Logs.{log-of-take}
 use Rattle.standing.specs.declared.Standing.{Standing}
 use Rattle.standing.specs.Standings.{standingOf}
 use Rattle.standing.proofs.Tallies.{tallyTo}
 use Rattle.standing.proofs.Agreement.{Marks, Agrees, agrees}
 use Rattle.recovery.specs.declared.Sets.{Sets}
+use Rattle.recovery.specs.declared.Decision.{Decision}
 use Rattle.recovery.specs.declared.Decision.the-variants.{Undecided, Decided}
 use Rattle.recovery.specs.declared.Levels.{Levels}
 use Rattle.recovery.specs.Decisions.{setsOf, decisionOf, ncCount, inAny, atLeast, levelsOf, levelOf}
@@ -82,17 +85,17 @@ module _ (t : SiteTable) (rows : List ℕ) (r : ℕ) (b : List ℕ) where
 
   -- One law for each answer.
   module _ (good : isGood t ≡ true) (k : ℕ) {s : Standing} (es : s ≡ standingOf t rows r b k) where
-    stands : Agrees t rows r b k s
-    stands = subst (λ (x : Standing). Agrees t rows r b k x) (sym es) (agrees t rows r b good k)
+    agreed : Agrees t rows r b k s
+    agreed = subst (λ (x : Standing). Agrees t rows r b k x) (sym es) (agrees t rows r b good k)
 
     pub not-decided : not (s .decided) ≡ true → Undecided ≡ decisionOf (rowsSystem t rows) (decide (rowsSystem t rows) r (logTo b k))
     not-decided h =
         ap (λ (x : Bool). decisionOf (rowsSystem t rows) (pick x (some (tallyTo (rowsSystem t rows) r b (s .entries))) none)) (sym (not-true (s .decided) h))
-        ∙ ap (decisionOf (rowsSystem t rows)) (sym (stands .decides))
+        ∙ ap (decisionOf (rowsSystem t rows)) (sym (agreed .decides))
 
     -- The deciding entry is among those read.
     pub decided-place : not (s .decided) ≡ false → s .entries ≤ k
-    decided-place h = stands .place (not-false (s .decided) h)
+    decided-place h = agreed .place (not-false (s .decided) h)
 
     pub is-decided : {levels : Levels} {m : ℕ} {nc c : Set} → not (s .decided) ≡ false → levels ≡ levelsOf b r (s .valid) (s .entries)
         → m ≡ majorityOf t → nc ≡ levelOf levels m → c ≡ withoutOf (levels .proposed) nc
@@ -100,10 +103,10 @@ module _ (t : SiteTable) (rows : List ℕ) (r : ℕ) (b : List ℕ) where
     is-decided {levels} h el em en ec =
         let d = not-false (s .decided) h in
         let l = good-limits t good in
-        let marks = subst (λ (x : Bool). Marks t rows s (tallyTo (rowsSystem t rows) r b (pick x (s .entries) k))) d (stands .marks) in
+        let marks = subst (λ (x : Bool). Marks t rows s (tallyTo (rowsSystem t rows) r b (pick x (s .entries) k))) d (agreed .marks) in
         ap Decided (found (s .entries) (s .valid) (marks .valid) (marks .beyond) (omega arith) (omega arith) el (en ∙ ap (levelOf levels) em) ec)
         ∙ ap (λ (x : Bool). decisionOf (rowsSystem t rows) (pick x (some (tallyTo (rowsSystem t rows) r b (s .entries))) none)) (sym d)
-        ∙ ap (decisionOf (rowsSystem t rows)) (sym (stands .decides))
+        ∙ ap (decisionOf (rowsSystem t rows)) (sym (agreed .decides))
 
 -- By the rows of a book the decision is the one at the dash register.
 same-decision : (t : SiteTable) (s : List ℕ) (d : Option Tally)
@@ -116,3 +119,12 @@ pub decision-dash : (t : SiteTable) (s : List ℕ) (r : ℕ) (l : Log)
     ≡ decisionOf (dash t (commandsOf s)) (decide (dash t (commandsOf s)) r l)
 decision-dash t s r l =
     same-decision t s (decide (rowsSystem t (conflictRows s)) r l) ∙ ap (decisionOf (dash t (commandsOf s))) (decide-rows s t r l)
+
+-- So it is what a site asks for: the decision by the entries that it has read.
+pub decision-log : (t : SiteTable) (s rows : List ℕ) (r : ℕ) (b : List ℕ) (k : ℕ) {d : Decision} → rows ≡ conflictRows s → k ≤ length b / entrySize
+    → d ≡ decisionOf (rowsSystem t rows) (decide (rowsSystem t rows) r (logTo b k))
+    → d ≡ decisionOf (dash t (commandsOf s)) (decide (dash t (commandsOf s)) r (take k (logOf b)))
+decision-log t s rows r b k er h ed =
+    ed ∙ ap (λ (x : List ℕ). decisionOf (rowsSystem t x) (decide (rowsSystem t x) r (logTo b k))) er
+    ∙ decision-dash t s r (logTo b k)
+    ∙ ap (λ (l : Log). decisionOf (dash t (commandsOf s)) (decide (dash t (commandsOf s)) r l)) (sym (log-of-take b k h))

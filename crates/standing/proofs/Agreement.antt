@@ -70,7 +70,7 @@ valid-other rows site nc s j n = go (inSet (s .seen) site) (freeBy rows (inSet n
     go false false = refl
 
 module _ (t : SiteTable) (rows : List ℕ) where
-  -- Its own source stands as the protocol has it.
+  -- Its own source becomes what the protocol makes of it.
   valid-source : (e : Entry) (s : Standing) (x : recovery.Standing) → inSet (s .seen) (e .site) ≡ isSeen x → inSet (s .valid) (e .site) ≡ isValid x
       → inSet (validAfter rows (e .site) (e .nc) s) (e .site) ≡ isValid (afterEntry (rowsSystem t rows) (viewEntry e) x)
   unfolding validAfter
