@@ -28,15 +28,13 @@ put-site-head-requires c κs =
 
 put-deliveries-requires : tie.Need-put-deliveries-requires
 put-deliveries-requires c κs =
-    let r = c .before .before .before .before .before .before .before .read in
-    let few : r .result .deliveries ≤ capacity = rw (r .ensures) (c .before .before .before .before .before .before .before .before .before .before .pre .0 .few) in
+    let few : c .before .before .before .before .before .before .before .read .result .deliveries ≤ capacity = rw (c .before .before .before .before .before .before .before .read .ensures) (c .before .before .before .before .before .before .before .before .before .before .pre .0 .few) in
     let e = simp head-length at (c .before .before .before .put-site-head .ensures .end) in
     (c .before .before .before .before .before .before .before .before .before .before .pre .0 .size, few, omega arith)
 
 put-line-end-requires : tie.Need-put-line-end-requires
 put-line-end-requires c κs =
-    let r = c .before .before .before .before .before .before .before .before .before .before .before .read in
-    let few : r .result .deliveries ≤ capacity = rw (r .ensures) (c .before .before .before .before .before .before .before .before .before .before .before .before .before .before .pre .0 .few) in
+    let few : c .before .before .before .before .before .before .before .before .before .before .before .read .result .deliveries ≤ capacity = rw (c .before .before .before .before .before .before .before .before .before .before .before .read .ensures) (c .before .before .before .before .before .before .before .before .before .before .before .before .before .before .pre .0 .few) in
     let e = simp head-length at (c .before .before .before .before .before .before .before .put-site-head .ensures .end) in
     omega (arith, c .before .before .before .put-deliveries .ensures .1)
 
@@ -45,14 +43,13 @@ same-length c = search needs
 
 returns : tie.Need-returns
 returns c =
-    let r = c .before .before .before .before .before .before .before .before .before .before .before .before .before .before .read in
-    let few : r .result .deliveries ≤ capacity = rw (r .ensures) (c .before .before .before .before .before .before .before .before .before .before .before .before .before .before .before .before .before .pre .0 .few) in
+    let few : c .before .before .before .before .before .before .before .before .before .before .before .before .before .before .read .result .deliveries ≤ capacity = rw (c .before .before .before .before .before .before .before .before .before .before .before .before .before .before .read .ensures) (c .before .before .before .before .before .before .before .before .before .before .before .before .before .before .before .before .before .pre .0 .few) in
     let a = c .before .before .before .before .before .before .before .before .before .before .before .before .before .before .before .before .before .args in
     let h : a .at ≤ length (now (a .out)) = omega arith in
     let head = c .before .before .before .before .before .before .before .before .before .before .put-site-head .ensures in
     let body = c .before .before .before .before .before .before .put-deliveries .ensures in
     let end = c .before .before .put-line-end .ensures in (
-      line-wrote (a .number) (now (a .site)) h (ap (λ (x : Site). x .round) (r .ensures)) (ap (λ (x : Site). x .deliveries) (r .ensures)) head (body .0) end,
+      line-wrote (a .number) (now (a .site)) h (ap (λ (x : Site). x .round) (c .before .before .before .before .before .before .before .before .before .before .before .before .before .before .read .ensures)) (ap (λ (x : Site). x .deliveries) (c .before .before .before .before .before .before .before .before .before .before .before .before .before .before .read .ensures)) head (body .0) end,
       omega (arith, simp head-length at (head .end), body .1, end .end),
     )
 
