@@ -1,0 +1,116 @@
+-- How the rows are looked at, member by member, and what is known when the looking ends.
+-- Assumes nothing.
+use mathlib.Core.Path.{_≡_, refl, sym, ap, _∙_}
+use mathlib.Core.Bool.{Bool, true, false, _&&_, _||_, not}
+use mathlib.Core.List.{List}
+use Prim.Native.Nat.{ℕ, _+_, _<_}
+use native.Mathlib.Decide.{ℕ-discrete}
+use native.Mathlib.Omega.{arith}
+use lib.Dec.{eqb}
+use borrow.Author.Tests.{eq-eqb, ne-eqb}
+use Rattle.theory.specs.Sets.{one, count}
+use Rattle.theory.specs.Counting.{left, right, not-true, not-false, never}
+use Rattle.sets.specs.declared.Set.{Set}
+use Rattle.sets.specs.Sets.{capacity, inSet, emptyOf, withOf, withoutOf, commonOf, loadSet, isEmptyOf, sizeOf, firstOf}
+use Rattle.sets.proofs.Laws.{in-empty, in-with, in-without, in-common, empty-at, first-in}
+use Rattle.table.specs.declared.SiteTable.{SiteTable}
+use Rattle.protocol.specs.RecoveryLaws.{free-pair, free-of}
+use Rattle.calm.specs.Rows.{conflictBy, freeBy, rowsSystem}
+use Rattle.calm.proofs.Change.{count-change}
+
+in-alone : (m j : ℕ) → inSet (withOf emptyOf m) j ≡ eqb j m
+in-alone m j = in-with emptyOf m j ∙ ap (λ (b : Bool). b || eqb j m) (in-empty j)
+
+-- A set without one command.
+pub in-less : (s : Set) (m j : ℕ) → inSet (withoutOf s (withOf emptyOf m)) j ≡ (inSet s j && not (eqb j m))
+in-less s m j = in-without s (withOf emptyOf m) j ∙ ap (λ (b : Bool). inSet s j && not b) (in-alone m j)
+
+pub less-same : (s : Set) (m : ℕ) → inSet (withoutOf s (withOf emptyOf m)) m ≡ false
+less-same s m = in-less s m m ∙ ap (λ (b : Bool). inSet s m && not b) (eq-eqb m m refl) ∙ none (inSet s m)
+  where
+    none : (b : Bool) → (b && false) ≡ false
+    none true = refl
+    none false = refl
+
+pub less-other : (s : Set) (m j : ℕ) → (j ≡ m → ⊥) → inSet (withoutOf s (withOf emptyOf m)) j ≡ inSet s j
+less-other s m j n = in-less s m j ∙ ap (λ (b : Bool). inSet s j && not b) (ne-eqb j m n) ∙ all (inSet s j)
+  where
+    all : (b : Bool) → (b && true) ≡ b
+    all true = refl
+    all false = refl
+
+-- A member taken away leaves one fewer.
+pub less-size : (s : Set) (m : ℕ) → m < capacity → inSet s m ≡ true → sizeOf s ≡ sizeOf (withoutOf s (withOf emptyOf m)) + 1
+less-size s m l h =
+    count-change capacity (inSet (withoutOf s (withOf emptyOf m))) (inSet s) m l (λ j n. less-other s m j n) (less-same s m)
+    ∙ ap (λ (b : Bool). sizeOf (withoutOf s (withOf emptyOf m)) + one b) h
+
+-- No table matters where only conflicts are asked for.
+noTable : SiteTable
+noTable = record { sites = 0; faults = 0; mask = 0 }
+
+module _ (rows : List ℕ) (set : Set) where
+  -- Members that are no longer left to look at have none of the set in their rows.
+  pub record Looked (left : Set) : Type 0 where
+    pub within : (a : ℕ) → inSet left a ≡ true → inSet set a ≡ true
+    pub clear : (a : ℕ) → a < capacity → inSet set a ≡ true → inSet left a ≡ false
+        → isEmptyOf (commonOf (loadSet rows a) set) ≡ true
+
+  pub looked-none : Looked set
+  looked-none = record { within = λ a h. h; clear = λ a l h k. absurd (never (inSet set a) h k) }
+
+  pub looked-more : (s : Set) (m : ℕ) → isEmptyOf (commonOf (loadSet rows m) set) ≡ true → Looked s → Looked (withoutOf s (withOf emptyOf m))
+  looked-more s m t h =
+      record {
+        within = λ a i. h .within a (left (inSet s a) (not (eqb a m)) (sym (in-less s m a) ∙ i));
+        clear = λ a l i k. elim (ℕ-discrete a m) [ yes e ↦ rw e t | no n ↦ h .clear a l i (sym (less-other s m a n) ∙ k) ];
+      }
+
+  pub looked-all : (s : Set) → isEmptyOf s ≡ true → Looked s → freeBy rows (inSet set) ≡ true
+  looked-all s e h =
+      free-of (rowsSystem noTable rows) (inSet set)
+      (λ a b la lb ha hb. go (conflictBy rows a b)
+      (sym (ap (λ (x : Bool). conflictBy rows a b && x) hb)
+      ∙ sym (in-common (loadSet rows a) set b)
+      ∙ empty-at (commonOf (loadSet rows a) set) (h .clear a la ha (empty-at s e a la)) b lb))
+    where
+      go : (c : Bool) → (c && true) ≡ false → c ≡ false
+      go true k = k
+      go false k = refl
+
+  pub looked-bad : (m : ℕ) → m < capacity → inSet set m ≡ true → isEmptyOf (commonOf (loadSet rows m) set) ≡ false
+      → freeBy rows (inSet set) ≡ false
+  looked-bad m l i e = go (freeBy rows (inSet set)) found
+    where
+      found : freeBy rows (inSet set) ≡ true → ⊥
+      found h =
+          let x = commonOf (loadSet rows m) set in
+          let w = first-in x e in
+          let k = sym (in-common (loadSet rows m) set (firstOf x)) ∙ w .1 in
+          never (conflictBy rows m (firstOf x)) (left (conflictBy rows m (firstOf x)) (inSet set (firstOf x)) k)
+          (free-pair (rowsSystem noTable rows) (inSet set) h m (firstOf x) l (w .0) i (right (conflictBy rows m (firstOf x)) (inSet set (firstOf x)) k))
+
+      go : (b : Bool) → (b ≡ true → ⊥) → b ≡ false
+      go true k = absurd (k refl)
+      go false k = refl
+
+  -- One turn of the loop: the member that is looked at, and what is left after it.
+  pub member-in : (s : Set) {m : ℕ} {e : Bool} → e ≡ isEmptyOf s → not e ≡ true → m ≡ firstOf s → (m < capacity) × (inSet s m ≡ true)
+  member-in s he t hm = rw hm (first-in s (sym he ∙ not-true _ t))
+
+  pub looked-turn : (s : Set) (m : ℕ) {row shared alone next none : Set} {e : Bool} → row ≡ loadSet rows m → shared ≡ commonOf row set
+      → e ≡ isEmptyOf shared → not e ≡ false → none ≡ emptyOf → alone ≡ withOf none m → next ≡ withoutOf s alone → Looked s → Looked next
+  looked-turn s m hr hs he t hn ha hx h =
+      rw (hx, ha, hn) (looked-more s m (ap isEmptyOf (sym (hs ∙ ap (λ (x : Set). commonOf x set) hr)) ∙ sym he ∙ not-false _ t) h)
+
+  pub looked-less : (s : Set) {m : ℕ} {alone next none : Set} → none ≡ emptyOf → alone ≡ withOf none m → next ≡ withoutOf s alone
+      → (m < capacity) × (inSet s m ≡ true) → sizeOf next < sizeOf s
+  looked-less s {m} hn ha hx w = rw (hx, ha, hn) (omega (arith, less-size s m (w .0) (w .1)))
+
+  pub looked-found : (s : Set) {m : ℕ} {row shared : Set} {e : Bool} → row ≡ loadSet rows m → shared ≡ commonOf row set → e ≡ isEmptyOf shared
+      → not e ≡ true → (m < capacity) × (inSet s m ≡ true) → Looked s → false ≡ freeBy rows (inSet set)
+  looked-found s {m} hr hs he t w h =
+      sym (looked-bad m (w .0) (h .within m (w .1)) (ap isEmptyOf (sym (hs ∙ ap (λ (x : Set). commonOf x set) hr)) ∙ sym he ∙ not-true _ t))
+
+  pub looked-end : (s : Set) {e : Bool} → e ≡ isEmptyOf s → not e ≡ false → Looked s → true ≡ freeBy rows (inSet set)
+  looked-end s he t h = sym (looked-all s (sym he ∙ not-false _ t) h)
