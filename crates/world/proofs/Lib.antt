@@ -1,3 +1,3 @@
 pub mod Sites
 pub mod Hold
-pub mod Start
+pub mod AllFresh
