@@ -1,0 +1,91 @@
+-- The sets of a site in its bytes: as words and back, and within the book.
+-- Assumes nothing.
+use mathlib.Core.Path.{_≡_, refl, sym, ap, _∙_}
+use mathlib.Core.Bool.{Bool, true, false, _&&_, _||_, not}
+use mathlib.Core.List.{List}
+use mathlib.Core.Logic.{⊎-elim}
+use mathlib.Core.Option.{some}
+use Prim.Native.Nat.{ℕ, zero, suc, _*_, _≤_, _<_}
+use lib.Dec.{ltb}
+use lib.ListN.{length, take, drop, getD}
+use Rattle.theory.specs.Sets as theory
+use Rattle.theory.specs.Counting.{lt-or-le, never, all-at, all-of}
+use Rattle.wire.specs.Wire.{readLe}
+use Rattle.sets.specs.Sets.{capacity, inSet, setOf, withinOf}
+use Rattle.sets.proofs.Laws.{has-above, in-setOf, in-setOf-above}
+use Rattle.table.specs.declared.SiteTable.{SiteTable}
+use Rattle.register.specs.declared.Command.{Command}
+use Rattle.commands.specs.Book.{maxCommands}
+use Rattle.conflicts.specs.Conflicts.{rowsFrom, conflictRows}
+use Rattle.protocol.specs.Site.{undelivered, unacknowledged}
+use Rattle.system.specs.Dash.{dash}
+use Rattle.layout.specs.Layout.{siteSize, roundPlace, positionPlace, headOf, view}
+use Rattle.layout.specs.Good.{Good}
+use Rattle.layout.proofs.Header.{fit}
+use Rattle.world.specs.World.{siteAt, knownTo}
+use Rattle.world.proofs.Sites.{lent-part}
+
+-- A set with nothing beyond its capacity is the word of its members.
+pub word-back : (p : theory.Set) → ((m : ℕ) → capacity ≤ m → p m ≡ false) → inSet (setOf capacity p) ≡ p
+word-back p h =
+    λ i m. ⊎-elim (λ l. in-setOf capacity p m l) (λ l. in-setOf-above capacity p m l ∙ sym (h m l)) (lt-or-le m capacity) i
+
+-- A part of a set that is known is known.
+known-part : (c : ℕ) (p q : theory.Set) → knownTo c (some p) ≡ true → ((m : ℕ) → p m ≡ false → q m ≡ false) → knownTo c (some q) ≡ true
+known-part c p q h k =
+    all-of capacity (λ m. not (q m) || ltb m c) (λ m l. go (p m) (q m) (ltb m c) (all-at capacity (λ n. not (p n) || ltb n c) h m l) (k m))
+  where
+    go : (x y z : Bool) → (not x || z) ≡ true → (x ≡ false → y ≡ false) → (not y || z) ≡ true
+    go x y true a b = or-true y
+      where
+        or-true : (y : Bool) → (not y || true) ≡ true
+        or-true true = refl
+        or-true false = refl
+    go true y false a b = absurd (never false a refl)
+    go false y false a b = ap (λ (x : Bool). not x || false) (b refl)
+
+-- The first of two tests fails, or the second.
+none-left : (x y : Bool) → x ≡ false → (x && y) ≡ false
+none-left x y e = ap (λ (z : Bool). z && y) e
+
+module _ (t : SiteTable) (book : List Command) (b : List ℕ) (good : Good (t .sites) (length book) b) (small : (i : ℕ) → getD b i 0 < 256) where
+  -- Nothing stands beyond the capacity of a word.
+  received-above : (m : ℕ) → capacity ≤ m → view t book b .received m ≡ false
+  received-above m l = has-above 64 (headOf b .received .bits) m (fit b small (good .size) .received) l
+
+  pub undelivered-word : inSet (setOf capacity (undelivered (dash t book) (view t book b))) ≡ undelivered (dash t book) (view t book b)
+  undelivered-word = word-back (undelivered (dash t book) (view t book b)) (λ m l. none-left (view t book b .received m) _ (received-above m l))
+
+  pub unacknowledged-word : inSet (setOf capacity (unacknowledged (dash t book) (view t book b))) ≡ unacknowledged (dash t book) (view t book b)
+  unacknowledged-word = word-back (unacknowledged (dash t book) (view t book b)) (λ m l. none-left (view t book b .received m) _ (received-above m l))
+
+  pub pending-word : inSet (setOf capacity (view t book b .pending)) ≡ view t book b .pending
+  pending-word = word-back (view t book b .pending) (λ m l. has-above 64 (headOf b .pending .bits) m (fit b small (good .size) .pending) l)
+
+  -- What is undelivered is within the book.
+  pub undelivered-known : knownTo (length book) (some (undelivered (dash t book) (view t book b))) ≡ true
+  undelivered-known =
+      known-part (length book) (view t book b .received) (undelivered (dash t book) (view t book b)) (good .head .received)
+      (λ m e. none-left (view t book b .received m) _ e)
+
+-- ---- numbers of a site's header, read from its part
+
+module _ (sites : List ℕ) (i k : ℕ) (e : k ≡ siteSize) {n : ℕ} where
+  pub round-at : n ≡ readLe 1 (take k (drop (i * siteSize) sites)) roundPlace → n ≡ headOf (siteAt sites i) .round
+  unfolding headOf
+  round-at h = h ∙ ap (λ (b : List ℕ). readLe 1 b roundPlace) (lent-part sites i k e)
+
+  pub position-at : n ≡ readLe 2 (take k (drop (i * siteSize) sites)) positionPlace → n ≡ headOf (siteAt sites i) .position
+  unfolding headOf
+  position-at h = h ∙ ap (λ (b : List ℕ). readLe 2 b positionPlace) (lent-part sites i k e)
+
+-- ---- the rows of a book are as many as a set can hold
+
+length-from : (s : List ℕ) (n m : ℕ) → length (rowsFrom s n m) ≡ n
+unfolding rowsFrom
+length-from s zero m = refl
+length-from s (suc n) m = ap suc (length-from s n (suc m))
+
+pub rows-length : (s : List ℕ) → length (conflictRows s) ≡ capacity
+unfolding conflictRows
+rows-length s = length-from s maxCommands 0
