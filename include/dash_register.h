@@ -1,0 +1,125 @@
+/*
+ * The dash register: one site's engine, and whole runs, for a C host.
+ *
+ * Every function is proved to do what its comment says, for every input.
+ *
+ * Memory. The caller owns every buffer and lends it for the length of the call; nothing is kept and nothing is allocated.
+ * A buffer is a pointer and a length; a null pointer goes with length 0 only. Buffers of one call must not overlap.
+ * A buffer may be longer than asked for: what is past the size named here is not looked at and not changed.
+ *
+ * Answers. 0 is success. Any other answer is a refusal: its number is one of DASH_REGISTER_REFUSED_.. below, and the call
+ * has changed no byte of anything lent. Where several causes refuse, the first in the order 9, 2, 1, 3, 4, 6, 7, 8 is answered.
+ * A record of deliveries that is full (9) is a cause only where the step would else be carried out. Nothing is refused for being busy.
+ *
+ * What each call judges. `sites` and `faults` must be a site table: 1 to 11 sites, 0 to 2 faults, sites at least 5 faults + 1 (2).
+ * `book` must be a book of commands (1). `log` must be whole entries of 18 bytes (3). `site` must be the bytes of a site for this table
+ * and book, with a log position within the log and no entry before it that a log read would refuse (4). Numbers and sets must be
+ * in range (4). Whether the site's fields fit each other is not asked: it is stepped as it is.
+ *
+ * The host checks signatures and channel keys, and supplies the atomic broadcast behind the log: the log that every site is lent
+ * is the same, and grows only at its end.
+ *
+ * Formats are described in docs/FORMAT.md. Numbers of several bytes have the least significant byte first.
+ */
+#ifndef DASH_REGISTER_H
+#define DASH_REGISTER_H
+
+#include <stddef.h>
+#include <stdint.h>
+
+#ifdef __cplusplus
+extern "C" {
+#endif
+
+/* Sizes in bytes. */
+#define DASH_REGISTER_SITE_BYTES 3533       /* one site's state */
+#define DASH_REGISTER_ENTRY_BYTES 18        /* one log entry: site, round, NC (8), C (8) */
+#define DASH_REGISTER_TURN_BYTES 27         /* what a turn sends: see dash_register_turn */
+#define DASH_REGISTER_STATUS_BYTES 5        /* see dash_register_status */
+#define DASH_REGISTER_BIKE_BYTES 8          /* reading (4), dash (4) */
+#define DASH_REGISTER_DELIVERY_BYTES 5      /* command (1), answer (4, two's complement) */
+#define DASH_REGISTER_MAX_RUN_BYTES 60000   /* a whole run */
+#define DASH_REGISTER_PRINT_BYTES 640890    /* room for the print of any run */
+
+/* Limits. */
+#define DASH_REGISTER_MAX_SITES 11
+#define DASH_REGISTER_MAX_FAULTS 2
+#define DASH_REGISTER_MAX_COMMANDS 64
+#define DASH_REGISTER_BIKES 32
+#define DASH_REGISTER_MAX_READING 999999
+#define DASH_REGISTER_LAST_LOG_ROUND 32     /* a site's round is at most one more */
+
+/* Refusals. */
+#define DASH_REGISTER_TAKEN 0
+#define DASH_REGISTER_REFUSED_BOOK 1        /* unknown kind, cut operand, bike or start out of range, 65th command */
+#define DASH_REGISTER_REFUSED_TABLE 2       /* site table against its limits */
+#define DASH_REGISTER_REFUSED_FORM 3        /* a log that ends in a cut entry */
+#define DASH_REGISTER_REFUSED_RANGE 4       /* a number or set out of range, a lent site out of range */
+#define DASH_REGISTER_REFUSED_ROLE 5        /* only in runs: a correct site where a faulty one is meant, or the reverse */
+#define DASH_REGISTER_REFUSED_DISABLED 6    /* the step is not enabled */
+#define DASH_REGISTER_REFUSED_THIRD 7       /* a third log entry of a site in a round */
+#define DASH_REGISTER_REFUSED_LAST 8        /* a turn in round 33 that would propose */
+#define DASH_REGISTER_REFUSED_SIZE 9        /* a lent buffer too short, a full record of deliveries */
+
+/* Whether a site table is within its limits: mask marks the faulty sites, at most `faults` of them, none from `sites` on. 0 or 2. */
+uint32_t dash_register_judge_table(size_t sites, size_t faults, uint16_t mask);
+
+/* Whether some bytes are a book of 0 to 64 commands. 0 or 1. */
+uint32_t dash_register_judge_book(const uint8_t *book, size_t book_length);
+
+/* Writes a fresh site: acknowledging in round 1, nothing received, heard or delivered, log position 0, the initial register. 0 or 9. */
+uint32_t dash_register_fresh(uint8_t *site, size_t site_length);
+
+/* A command reached the site: it joins what the site has received. 0, 1, 2, 4 or 9. */
+uint32_t dash_register_receive_command(size_t sites, size_t faults, const uint8_t *book, size_t book_length,
+                                       uint8_t *site, size_t site_length, size_t command);
+
+/* An acknowledgment of `sender` for `round` (1 to 33, past, present or to come) reached the site. It joins what the site has received
+ * and is kept under its sender and its own round, united with what was there. 0, 1, 2, 4 or 9. */
+uint32_t dash_register_receive_acknowledgment(size_t sites, size_t faults, const uint8_t *book, size_t book_length,
+                                              uint8_t *site, size_t site_length, size_t sender, size_t round, uint64_t set);
+
+/* A check message reached the site: its set joins what the site has received. 0, 1, 2, 4 or 9. */
+uint32_t dash_register_receive_check(size_t sites, size_t faults, const uint8_t *book, size_t book_length,
+                                     uint8_t *site, size_t site_length, uint64_t set);
+
+/* The turn of site number `own`. Not enabled (6) while it waits, and where nothing it received is outside what it delivered and has pending.
+ * Where no two undelivered commands conflict, the site acknowledges them: turn[0] is 1 and turn[1..8] is the set to send to all sites
+ * as an acknowledgment of its round; the rest of `turn` is left as it was. Else it proposes and waits: turn[0] is 2, turn[1..8] is the set
+ * to send to all as its check message, and turn[9..26] is the entry to append to the log. Refused as 7 where the log has two entries
+ * of this site and round, and as 8 in round 33. 0, 1, 2, 3, 4, 6, 7, 8 or 9. */
+uint32_t dash_register_turn(size_t sites, size_t faults, const uint8_t *book, size_t book_length,
+                            uint8_t *site, size_t site_length, const uint8_t *log, size_t log_length, size_t own,
+                            uint8_t *turn, size_t turn_length);
+
+/* Delivers `command` fast: it is pending, not yet delivered fast, and sites - faults senders have acknowledged it in the site's round.
+ * It is executed on the site's register and its answer recorded. 0, 1, 2, 4, 6 or 9. */
+uint32_t dash_register_fast_delivery(size_t sites, size_t faults, const uint8_t *book, size_t book_length,
+                                     uint8_t *site, size_t site_length, size_t command);
+
+/* Reads the next log entry. 6 where none is left, 4 for an entry out of range, 7 for a third of its site and round. 0 or 1, 2, 3, 4, 6, 7, 9. */
+uint32_t dash_register_log_read(size_t sites, size_t faults, const uint8_t *book, size_t book_length,
+                                uint8_t *site, size_t site_length, const uint8_t *log, size_t log_length);
+
+/* Ends the round of a waiting site where the entries that it has read decide it: delivers what is decided and not delivered yet,
+ * the non-conflicting commands first, each part in number order, and goes on to the next round. 0, 1, 2, 3, 4, 6 or 9. */
+uint32_t dash_register_round_end(size_t sites, size_t faults, const uint8_t *book, size_t book_length,
+                                 uint8_t *site, size_t site_length, const uint8_t *log, size_t log_length);
+
+/* Writes round (1), phase (1: 0 acknowledging, 1 waiting), number of deliveries (1) and log position (2). 0, 1, 2, 4 or 9. */
+uint32_t dash_register_status(size_t sites, size_t faults, const uint8_t *book, size_t book_length,
+                              const uint8_t *site, size_t site_length, uint8_t *status, size_t status_length);
+
+/* Writes a bike's reading (4) and dash (4). 0, 1, 2, 4 or 9. */
+uint32_t dash_register_bike(size_t sites, size_t faults, const uint8_t *book, size_t book_length,
+                            const uint8_t *site, size_t site_length, size_t bike, uint8_t *out, size_t out_length);
+
+/* Writes the k-th delivery, from 0: command (1) and answer (4). 4 where there is none. 0, 1, 2, 4 or 9. */
+uint32_t dash_register_delivery(size_t sites, size_t faults, const uint8_t *book, size_t book_length,
+                                const uint8_t *site, size_t site_length, size_t k, uint8_t *out, size_t out_length);
+
+#ifdef __cplusplus
+}
+#endif
+
+#endif
