@@ -5,21 +5,21 @@ use mathlib.Core.Bool.{Bool, true, false, not}
 use mathlib.Core.List.{List}
 use mathlib.Core.Logic.{⊎-elim}
 use mathlib.Core.Option.{Option, none, some}
-use Prim.Native.Nat.{ℕ, _*_, _≤_, _<_}
+use Prim.Native.Nat.{ℕ, suc, _*_, _≤_, _<_}
 use native.Mathlib.Omega.{arith}
 use lib.Dec.{leb, ltb}
 use lib.ListN.{length, take, getD}
 use borrow.Author.Tests.{lt-ltb, le-ltb, le-leb, lt-leb, ltb-true}
 use Rattle.refusals.specs.declared.Verdict.{Verdict}
 use Rattle.refusals.specs.declared.Verdict.the-variants.{Taken, Refused}
-use Rattle.refusals.specs.declared.Refusal.the-variants.{Range, Role}
+use Rattle.refusals.specs.declared.Refusal.the-variants.{Range, Role, Disabled, ThirdEntry}
 use Rattle.theory.specs.Sets.{pick}
 use Rattle.theory.specs.Lists.{nth}
 use Rattle.theory.specs.Counting.{lt-or-le, not-true, not-false}
 use Rattle.table.specs.declared.SiteTable.{SiteTable}
 use Rattle.table.specs.Table.{faultyOf}
 use Rattle.register.specs.declared.Command.{Command}
-use Rattle.protocol.specs.System.{_else_⨾_, verdict, correct}
+use Rattle.protocol.specs.System.{granted, _else_⨾_, verdict, correct}
 use Rattle.protocol.specs.Recovery as recovery
 use Rattle.protocol.specs.Site as protocol
 use Rattle.protocol.specs.Site.{isSome, next, nextInRange, noThird, readEntry, forLogRead}
@@ -97,6 +97,11 @@ module _ (t : SiteTable) (book : List Command) (log : List ℕ) (entries k : ℕ
       ∙ sym (ap (noThird (dash t book) (take k (logTo log entries))) (log-end log entries k l)))
       (lt-or-le k entries)
 
+-- A log read that is taken has an entry left.
+first-told : (x y : Bool) → verdict (x else Disabled ⨾ y else ThirdEntry ⨾ granted) ≡ Taken → x ≡ true
+first-told true y e = refl
+first-told false y e = absurd (let z : _≡_ {A = ℕ} 0 1 = cc in omega arith)
+
 -- ---- the step
 
 module _ (t : SiteTable) (commands i : ℕ) (log : List ℕ) (entries : ℕ) (sites : List ℕ) (small : (k : ℕ) → getD sites k 0 < 256) where
@@ -158,9 +163,18 @@ module _ (t : SiteTable) (commands i : ℕ) (log : List ℕ) (entries : ℕ) (si
             carried-site t book b g (logRead i) small i inside p (readEntry (dash t book)) (verdict (forLogRead (dash t book) (view t book s) (logTo log entries)))
             (p .did t book (logTo log entries) (g .site i inside) (next-left t book log entries k ∙ ap (λ (n : ℕ). isSome (nth (logTo log entries) n)) ek)
             (ap not et ∙ next-third t book log entries k ∙ ap (λ (n : ℕ). noThird (dash t book) (take n (logTo log entries)) (nth (logTo log entries) n)) ek))
+            (λ e. read-more book e (g .position i inside))
             (judged book sent q g
             ∙ (λ z. verdict (not (h z) else Role ⨾ forLogRead (dash t book) (seen t book b g i inside z) (logTo log entries))))
             refl refl refl
+          where
+            read-more : (book : List Command) → verdict (forLogRead (dash t book) (view t book (siteAt sites i)) (logTo log entries)) ≡ Taken
+                → headOf (siteAt sites i) .position ≤ entries → suc (headOf (siteAt sites i) .position) ≤ entries
+            read-more book e l =
+                let n = headOf (siteAt sites i) .position in
+                ltb-true n entries
+                (next-left t book log entries n
+                ∙ first-told (isSome (nth (logTo log entries) n)) (noThird (dash t book) (take n (logTo log entries)) (nth (logTo log entries) n)) e)
 
 -- The position of a site that has an entry left to read has room for one more.
 pub position-room : (log : List ℕ) (entries : ℕ) {k n : ℕ} → entries * entrySize ≤ length log → length log ≤ maxLog → k ≡ n → ltb k entries ≡ true → n < 65535

@@ -1,23 +1,23 @@
 -- A turn on lent buffers: what is sent and appended, from what the site answers.
 -- Assumes nothing.
 use mathlib.Core.Path.{_≡_, refl, sym, ap, subst, _∙_}
-use mathlib.Core.Bool.{Bool, true, false, _&&_, not}
+use mathlib.Core.Bool.{Bool, true, false, _&&_, _||_, not}
 use mathlib.Core.List.{List, [], _∷_, _++_}
 use mathlib.Core.Option.{some}
 use Prim.Native.Nat.{ℕ, _+_, _*_, _≤_, _<_}
 use native.Mathlib.Omega.{arith}
-use lib.Dec.{eqb, ltb}
+use lib.Dec.{eqb, leb, ltb}
 use lib.ListN.{length, getD, length-append}
-use borrow.Author.Tests.{lt-ltb, le-ltb, eq-eqb}
+use borrow.Author.Tests.{lt-ltb, le-ltb, le-leb, eq-eqb}
 use Rattle.refusals.specs.declared.Refusal.{Refusal}
 use Rattle.refusals.specs.declared.Verdict.{Verdict}
 use Rattle.refusals.specs.declared.Verdict.the-variants.{Taken, Refused}
-use Rattle.refusals.specs.declared.Refusal.the-variants.{Range, Role}
+use Rattle.refusals.specs.declared.Refusal.the-variants.{Range, Role, Disabled, ThirdEntry, LastRound}
 use Rattle.theory.specs.Sets as theory
-use Rattle.theory.specs.Sets.{pick}
-use Rattle.theory.specs.Counting.{both}
+use Rattle.theory.specs.Sets.{pick, any}
+use Rattle.theory.specs.Counting.{both, never}
 use Rattle.sets.specs.declared.Set.{Set}
-use Rattle.sets.specs.Sets.{capacity, inSet, setOf, withoutOf}
+use Rattle.sets.specs.Sets.{capacity, inSet, setOf, withoutOf, withinOf}
 use Rattle.sets.proofs.Laws.{in-without, word-lt}
 use Rattle.table.specs.declared.SiteTable.{SiteTable}
 use Rattle.table.specs.Table.{maxSites, faultyOf}
@@ -25,13 +25,13 @@ use Rattle.table.proofs.Laws.{good-limits}
 use Rattle.commands.specs.Book.{commandsOf}
 use Rattle.calm.specs.Rows.{freeBy}
 use Rattle.calm.proofs.Same.{free-rows}
-use Rattle.protocol.specs.System.{_else_⨾_, verdict, correct, free}
+use Rattle.protocol.specs.System.{granted, _else_⨾_, verdict, correct, free}
 use Rattle.protocol.specs.Recovery as recovery
 use Rattle.protocol.specs.Site as protocol
 use Rattle.protocol.specs.Site.{undelivered, unacknowledged, acknowledges, acknowledge, propose, forTurn}
 use Rattle.protocol.specs.World.{World, turn, judge, step, settle, put, append, sendCheck, entryOf, acknowledgingTurn, proposingTurn}
 use Rattle.register.specs.declared.Command.{Command}
-use Rattle.system.specs.Dash.{dash}
+use Rattle.system.specs.Dash.{dash, lastRound}
 use Rattle.layout.specs.declared.Proposal.{Proposal}
 use Rattle.layout.specs.declared.Site.{Site}
 use Rattle.layout.specs.Layout.{siteRounds, headOf, view}
@@ -41,17 +41,17 @@ use Rattle.site.specs.declared.Turn.{Turn}
 use Rattle.site.specs.declared.Turn.the-variants as turns
 use Rattle.site.specs.Steps.{TookTurn, Turned, answerTo}
 use Rattle.entries.specs.declared.Entry.{Entry}
-use Rattle.entries.specs.Entries.{entrySize, logTo, writeEntry, viewEntry}
+use Rattle.entries.specs.Entries.{entrySize, logTo, writeEntry, viewEntry, inRangeOf}
 use Rattle.entries.proofs.Bytes.{Fits}
 use Rattle.sent.specs.Sent as sent
 use Rattle.sent.specs.Sent.{maxAcknowledgments, cellOf, acksOf, checksOf, acknowledgedIn, checkedIn, oneMore, checked}
 use Rattle.world.specs.World.{Buffers, siteAt, knownTo, entryFor, worldOf, HoldsWorld, Outcome}
 use Rattle.world.specs.Parts.{lent, AtSite}
 use Rattle.world.proofs.Sites.{small-site}
-use Rattle.world.proofs.Hold.{putSite, seen, put-holds, refused, taken, refused-site}
+use Rattle.world.proofs.Hold.{seen, position-seen, put-holds, refused, taken, refused-site}
 use Rattle.world.proofs.Growing.{entry-holds, acknowledgment-holds, check-holds}
 use Rattle.moves.specs.Moves.{Ready, TurnedBy}
-use Rattle.moves.proofs.Words.{undelivered-word, unacknowledged-word, pending-word, undelivered-known}
+use Rattle.moves.proofs.Words.{undelivered-word, unacknowledged-word, pending-word, undelivered-known, unacknowledged-known}
 
 -- ---- the site's part
 
@@ -91,6 +91,15 @@ module _ (t : SiteTable) (book : List Command) (s : protocol.Site (dash t book))
   told-proposed x p Taken false e =
       (refl, refl, (let q : x ≡ setOf capacity (undelivered (dash t book) s) = cc in q), (let q : p ≡ proposedWords = cc in q))
   told-proposed x p (Refused y) a e = absurd (let z : _≡_ {A = ℕ} 0 1 = cc in omega arith)
+
+-- A turn that is taken and does not acknowledge is of a round that the log takes.
+told-round : (p q x c d : Bool) → verdict (p else Disabled ⨾ q else Disabled ⨾ x || c else ThirdEntry ⨾ x || d else LastRound ⨾ granted) ≡ Taken → x ≡ false → d ≡ true
+told-round false q x c d h e = absurd (let z : _≡_ {A = ℕ} 0 1 = cc in omega arith)
+told-round true false x c d h e = absurd (let z : _≡_ {A = ℕ} 0 1 = cc in omega arith)
+told-round true true true c d h e = absurd (never true refl e)
+told-round true true false false d h e = absurd (let z : _≡_ {A = ℕ} 0 1 = cc in omega arith)
+told-round true true false true false h e = absurd (let z : _≡_ {A = ℕ} 0 1 = cc in omega arith)
+told-round true true false true true h e = refl
 
 -- ---- the step
 
@@ -164,7 +173,12 @@ module _ (t : SiteTable) (bytes rows : List ℕ) (b : Buffers) (i : ℕ) (ready 
           (sym (h .bytes))
           (put-holds t book b (ready .world) small i inside
           (subst (λ (y : protocol.Site (dash t book)). Holds t book (h .new) y)
-          (λ k. settled (ev k) (pick (ea k) (acknowledge (dash t book) (world .site i)) (propose (dash t book) (world .site i))) (world .site i)) (turned .site)))
+          (λ k. settled (ev k) (pick (ea k) (acknowledge (dash t book) (world .site i)) (propose (dash t book) (world .site i))) (world .site i)) (turned .site))
+          (unread a))
+        where
+          unread : (y : Bool) → pick y (acknowledge (dash t book) (world .site i)) (propose (dash t book) (world .site i)) .position ≤ b .entries
+          unread true = position-seen t book b (ready .world) i inside
+          unread false = position-seen t book b (ready .world) i inside
 
       module _ (x : Set) (e : r ≡ turns.Acknowledged x) where
         told : (verdict (forTurn (dash t book) i (world .site i) (world .log)) ≡ Taken) × (acknowledges (dash t book) (world .site i) ≡ true)
@@ -234,6 +248,26 @@ module _ (t : SiteTable) (bytes rows : List ℕ) (b : Buffers) (i : ℕ) (ready 
               c = unacknowledged-word t book (siteAt (b .sites) i) part-good part-small k;
             })
 
+        entry-range : inRangeOf (t .sites) (length book) (entryFor (entryOf (dash t book) i (world .site i))) ≡ true
+        entry-range =
+            let s = world .site i in
+            let q : s .round ≡ headOf (siteAt (b .sites) i) .round = λ z. at z .round in
+            let l = part-good .head .first in
+            let n : knownTo (length book) (some (s .pending)) ≡ true =
+            subst (λ (y : protocol.Site (dash t book)). knownTo (length book) (some (y .pending)) ≡ true) (sym at) (part-good .head .pending) in
+            let m : knownTo (length book) (some (unacknowledged (dash t book) s)) ≡ true =
+            subst (λ (y : protocol.Site (dash t book)). knownTo (length book) (some (unacknowledged (dash t book) y)) ≡ true) (sym at)
+            (unacknowledged-known t book (siteAt (b .sites) i) part-good part-small) in
+            all-five (ltb i (t .sites)) (leb 1 (s .round)) (leb (s .round) lastRound) (withinOf (setOf capacity (s .pending)) (length book))
+            (withinOf (setOf capacity (unacknowledged (dash t book) s)) (length book)) (lt-ltb i (t .sites) inside) (le-leb 1 (s .round) (omega arith))
+            (told-round (protocol.isAcknowledging (s .phase)) (any (length book) (unacknowledged (dash t book) s)) (acknowledges (dash t book) s)
+            (ltb (recovery.entries i (s .round) (world .log)) 2) (leb (s .round) lastRound) (proposal-told .0) (proposal-told .1))
+            (ap (λ (y : recovery.Entry). knownTo (length book) (some (y .nc))) entry-seen ∙ n)
+            (ap (λ (y : recovery.Entry). knownTo (length book) (some (y .c))) entry-seen ∙ m)
+          where
+            all-five : (x y z u v : Bool) → x ≡ true → y ≡ true → z ≡ true → u ≡ true → v ≡ true → (x && y && z && u && v) ≡ true
+            all-five x y z u v ex ey ez eu ev = λ k. ex k && ey k && ez k && eu k && ev k
+
         pub proposed : (k : ℕ) → k ≡ headOf (siteAt (b .sites) i) .round → {after log : List ℕ}
             → sent.Holds after (checkedIn (b .sent) (cellOf i k) x) (acksOf (b .sent)) (checked i k (inSet x) (checksOf (b .sent)))
             → log ≡ writeEntry (b .log) (b .entries) (record { site = i; round = k; nc = p .nc; c = p .c })
@@ -264,7 +298,7 @@ module _ (t : SiteTable) (bytes rows : List ℕ) (b : Buffers) (i : ℕ) (ready 
             (entry-holds t book (lent sites (b .log) (b .entries) after)
             (check-holds t book (lent sites (b .log) (b .entries) (b .sent)) (put-turned false (proposal-told .0) (proposal-told .1)) i (world .site i .round)
             (undelivered (dash t book) (world .site i)) known new)
-            (entryFor (entryOf (dash t book) i (world .site i))) entry-fits (ready .room)))))
+            (entryFor (entryOf (dash t book) i (world .site i))) entry-fits entry-range (ready .room)))))
             (written
             ∙ sym (ap (λ (y : Bool). pick y (b .log) (writeEntry (b .log) (b .entries) (entryFor (entryOf (dash t book) i (world .site i))))) (proposal-told .1)))
             (new .bytes

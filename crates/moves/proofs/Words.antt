@@ -5,12 +5,11 @@ use mathlib.Core.Bool.{Bool, true, false, _&&_, _||_, not}
 use mathlib.Core.List.{List}
 use mathlib.Core.Logic.{⊎-elim}
 use mathlib.Core.Option.{some}
-use Prim.Native.Nat.{ℕ, zero, suc, _*_, _≤_, _<_}
+use Prim.Native.Nat.{ℕ, zero, suc, _≤_, _<_}
 use lib.Dec.{ltb}
-use lib.ListN.{length, take, drop, getD}
+use lib.ListN.{length, getD}
 use Rattle.theory.specs.Sets as theory
 use Rattle.theory.specs.Counting.{lt-or-le, never, all-at, all-of}
-use Rattle.wire.specs.Wire.{readLe}
 use Rattle.sets.specs.Sets.{capacity, inSet, setOf, withinOf}
 use Rattle.sets.proofs.Laws.{has-above, in-setOf, in-setOf-above}
 use Rattle.table.specs.declared.SiteTable.{SiteTable}
@@ -19,11 +18,10 @@ use Rattle.commands.specs.Book.{maxCommands}
 use Rattle.conflicts.specs.Conflicts.{rowsFrom, conflictRows}
 use Rattle.protocol.specs.Site.{undelivered, unacknowledged}
 use Rattle.system.specs.Dash.{dash}
-use Rattle.layout.specs.Layout.{siteSize, roundPlace, positionPlace, headOf, view}
+use Rattle.layout.specs.Layout.{headOf, view}
 use Rattle.layout.specs.Good.{Good}
 use Rattle.layout.proofs.Header.{fit}
-use Rattle.world.specs.World.{siteAt, knownTo}
-use Rattle.world.proofs.Sites.{lent-part}
+use Rattle.world.specs.World.{knownTo}
 
 -- A set with nothing beyond its capacity is the word of its members.
 pub word-back : (p : theory.Set) → ((m : ℕ) → capacity ≤ m → p m ≡ false) → inSet (setOf capacity p) ≡ p
@@ -68,16 +66,10 @@ module _ (t : SiteTable) (book : List Command) (b : List ℕ) (good : Good (t .s
       known-part (length book) (view t book b .received) (undelivered (dash t book) (view t book b)) (good .head .received)
       (λ m e. none-left (view t book b .received m) _ e)
 
--- ---- numbers of a site's header, read from its part
-
-module _ (sites : List ℕ) (i k : ℕ) (e : k ≡ siteSize) {n : ℕ} where
-  pub round-at : n ≡ readLe 1 (take k (drop (i * siteSize) sites)) roundPlace → n ≡ headOf (siteAt sites i) .round
-  unfolding headOf
-  round-at h = h ∙ ap (λ (b : List ℕ). readLe 1 b roundPlace) (lent-part sites i k e)
-
-  pub position-at : n ≡ readLe 2 (take k (drop (i * siteSize) sites)) positionPlace → n ≡ headOf (siteAt sites i) .position
-  unfolding headOf
-  position-at h = h ∙ ap (λ (b : List ℕ). readLe 2 b positionPlace) (lent-part sites i k e)
+  pub unacknowledged-known : knownTo (length book) (some (unacknowledged (dash t book) (view t book b))) ≡ true
+  unacknowledged-known =
+      known-part (length book) (view t book b .received) (unacknowledged (dash t book) (view t book b)) (good .head .received)
+      (λ m e. none-left (view t book b .received m) _ e)
 
 -- ---- the rows of a book are as many as a set can hold
 

@@ -22,28 +22,6 @@ use site::Turn;
 use table::SiteTable;
 use world::Stepped;
 
-// The round of site i.
-fn round_of(sites: &[u8], i: usize) -> usize
-    requires { ⌜ i * siteSize + siteSize ≤ length (now sites) ⌝ }
-    ensures { λ r. ⌜ r ≡ headOf (siteAt (now (sites .entry)) i) .round ⌝ }
-{
-    let from = i * Site::SIZE;
-    let to = from + Site::SIZE;
-    let round = wire::get1(&sites[from..to], Site::ROUND);
-    round as usize
-}
-
-// The log position of site i.
-fn position_of(sites: &[u8], i: usize) -> usize
-    requires { ⌜ i * siteSize + siteSize ≤ length (now sites) ⌝ }
-    ensures { λ r. ⌜ r ≡ headOf (siteAt (now (sites .entry)) i) .position ⌝ }
-{
-    let from = i * Site::SIZE;
-    let to = from + Site::SIZE;
-    let position = wire::get2(&sites[from..to], Site::POSITION);
-    position as usize
-}
-
 // Site i takes its turn, by the rows of conflicts and the first entries of the log.
 fn turn_at(sites: &mut [u8], log: &[u8], entries: usize, rows: &[u64], i: usize) -> Turn
     requires { ⌜ (i * siteSize + siteSize ≤ length (now sites)) × (entries * entrySize ≤ length (now log)) × (length (now rows) ≡ capacity) ⌝ }
@@ -85,7 +63,7 @@ pub fn turn(
             entries: entries,
         };
     }
-    let round = round_of(&sites[..], i);
+    let round = world::round_of(&sites[..], i);
     let answer = turn_at(sites, &log[..], entries, rows, i);
     match answer {
         Turn::Refused(refusal) => Stepped {
@@ -169,7 +147,7 @@ pub fn log_read(
     if i >= table.sites {
         return Verdict::Refused(Refusal::Range);
     }
-    let position = position_of(&sites[..], i);
+    let position = world::position_of(&sites[..], i);
     if !next_in_range(log, entries, position, table.sites, commands) {
         return Verdict::Refused(Refusal::Range);
     }

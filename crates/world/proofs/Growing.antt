@@ -3,7 +3,8 @@
 use mathlib.Core.Path.{_≡_, refl, ap, _∙_}
 use mathlib.Core.Bool.{Bool, true, false, _&&_}
 use mathlib.Core.List.{List, [], _∷_, _++_}
-use mathlib.Core.Option.{Option, some}
+use mathlib.Core.Option.{some}
+use mathlib.Core.Logic.{⊎-elim}
 use Prim.Native.Nat.{ℕ, zero, suc, _+_, _*_, _^_, _≤_, _<_}
 use native.Mathlib.Omega.{arith}
 use lib.Dec.{eqb}
@@ -11,6 +12,7 @@ use lib.ListN.{length}
 use Rattle.theory.specs.Sets as theory
 use Rattle.theory.specs.Sets.{pick}
 use Rattle.theory.specs.Lists.{nth}
+use Rattle.theory.specs.Counting.{last-or-below}
 use Rattle.wire.proofs.Laws.{length-splice}
 use Rattle.sets.proofs.Laws.{set-of-members}
 use Rattle.table.specs.declared.SiteTable.{SiteTable}
@@ -19,8 +21,8 @@ use Rattle.protocol.specs.Recovery as recovery
 use Rattle.protocol.specs.World.{World, append, sendAcknowledgment, sendCheck}
 use Rattle.system.specs.Dash.{dash}
 use Rattle.entries.specs.declared.Entry.{Entry}
-use Rattle.entries.specs.Entries.{entrySize, writeEntry, viewEntry}
-use Rattle.entries.proofs.Bytes.{Fits, length-entry}
+use Rattle.entries.specs.Entries.{entrySize, entryOf, writeEntry, viewEntry, inRangeOf}
+use Rattle.entries.proofs.Bytes.{Fits, length-entry, entry-written, entry-other}
 use Rattle.entries.proofs.Logs.{log-written}
 use Rattle.sent.specs.Sent as sent
 use Rattle.sent.specs.Sent.{acksOf, checksOf, oneMore, checked}
@@ -45,9 +47,9 @@ known-more c (y ∷ l) x h k zero = h zero
 known-more c (y ∷ l) x h k (suc n) = known-more c l x (λ m. h (suc m)) k n
 
 module _ (t : SiteTable) (book : List Command) (b : Buffers) {w : World (dash t book)} (h : HoldsWorld t book b w) where
-  pub entry-holds : (e : Entry) → Fits e → (b .entries + 1) * entrySize ≤ length (b .log)
+  pub entry-holds : (e : Entry) → Fits e → inRangeOf (t .sites) (length book) e ≡ true → (b .entries + 1) * entrySize ≤ length (b .log)
       → HoldsWorld t book (lent (b .sites) (writeEntry (b .log) (b .entries) e) (b .entries + 1) (b .sent)) (append (dash t book) (viewEntry e) w)
-  entry-holds e f room =
+  entry-holds e f range room =
       let z = length-written (b .log) (b .entries) e room in
       record {
         site = h .site;
@@ -63,8 +65,17 @@ module _ (t : SiteTable) (book : List Command) (b : Buffers) {w : World (dash t 
             record {
               size = h .good .size;
               site = h .good .site;
+              position = λ i l. let p = h .good .position i l in omega arith;
               room = omega arith;
               short = let s = h .good .short in omega arith;
+              logged =
+                  λ k l.
+                  ⊎-elim
+                  (λ q. ap (inRangeOf (t .sites) (length book)) (ap (entryOf (writeEntry (b .log) (b .entries) e)) q ∙ entry-written (b .log) (b .entries) e (omega arith) f) ∙ range)
+                  (λ q.
+                  ap (inRangeOf (t .sites) (length book)) (entry-other (b .log) (b .entries) e k (omega arith) (λ z. omega arith))
+                  ∙ h .good .logged k q)
+                  (last-or-below k (b .entries) (omega arith));
               sent = h .good .sent;
               acks = h .good .acks;
               checks = h .good .checks;
@@ -89,8 +100,10 @@ module _ (t : SiteTable) (book : List Command) (b : Buffers) {w : World (dash t 
               record {
                 size = h .good .size;
                 site = h .good .site;
+                position = h .good .position;
                 room = h .good .room;
                 short = h .good .short;
+                logged = h .good .logged;
                 sent = s .good;
                 acks = λ j r n. (λ z. knownTo (length book) (nth (s .acks z j r) n)) ∙ grown j r (eqb j i && eqb r k) n;
                 checks = λ j r. (λ z. knownTo (length book) (s .checks z j r)) ∙ h .good .checks j r;
@@ -118,8 +131,10 @@ module _ (t : SiteTable) (book : List Command) (b : Buffers) {w : World (dash t 
               record {
                 size = h .good .size;
                 site = h .good .site;
+                position = h .good .position;
                 room = h .good .room;
                 short = h .good .short;
+                logged = h .good .logged;
                 sent = s .good;
                 acks = λ j r n. (λ z. knownTo (length book) (nth (s .acks z j r) n)) ∙ h .good .acks j r n;
                 checks = λ j r. (λ z. knownTo (length book) (s .checks z j r)) ∙ there j r (eqb j i && eqb r k);
