@@ -5,7 +5,7 @@ use mathlib.Core.Bool.{Bool, true, false, _&&_, _||_, not}
 use mathlib.Core.List.{List}
 use mathlib.Core.Logic.{⊎-elim}
 use mathlib.Core.Option.{some}
-use Prim.Native.Nat.{ℕ, zero, suc, _≤_, _<_}
+use Prim.Native.Nat.{ℕ, _≤_, _<_}
 use lib.Dec.{ltb}
 use lib.ListN.{length, getD}
 use Rattle.theory.specs.Sets as theory
@@ -14,8 +14,6 @@ use Rattle.sets.specs.Sets.{capacity, inSet, setOf, withinOf}
 use Rattle.sets.proofs.Laws.{has-above, in-setOf, in-setOf-above}
 use Rattle.table.specs.declared.SiteTable.{SiteTable}
 use Rattle.register.specs.declared.Command.{Command}
-use Rattle.commands.specs.Book.{maxCommands}
-use Rattle.conflicts.specs.Conflicts.{rowsFrom, conflictRows}
 use Rattle.protocol.specs.Site.{undelivered, unacknowledged}
 use Rattle.system.specs.Dash.{dash}
 use Rattle.layout.specs.Layout.{headOf, view}
@@ -70,14 +68,3 @@ module _ (t : SiteTable) (book : List Command) (b : List ℕ) (good : Good (t .s
   unacknowledged-known =
       known-part (length book) (view t book b .received) (unacknowledged (dash t book) (view t book b)) (good .head .received)
       (λ m e. none-left (view t book b .received m) _ e)
-
--- ---- the rows of a book are as many as a set can hold
-
-length-from : (s : List ℕ) (n m : ℕ) → length (rowsFrom s n m) ≡ n
-unfolding rowsFrom
-length-from s zero m = refl
-length-from s (suc n) m = ap suc (length-from s n (suc m))
-
-pub rows-length : (s : List ℕ) → length (conflictRows s) ≡ capacity
-unfolding conflictRows
-rows-length s = length-from s maxCommands 0

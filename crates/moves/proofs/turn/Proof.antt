@@ -9,7 +9,7 @@ use Prim.Native.Nat.{ℕ}
 use lib.ListN.{length}
 use Rattle.world.specs.Parts.{lent}
 use Rattle.moves.proofs.Turns.{turn-range, turn-role, round-told, turn-refused, room-told, acknowledged, proposed}
-use Rattle.moves.proofs.Words.{rows-length}
+use Rattle.conflicts.proofs.Laws.{rows-size}
 use Rattle.moves.proofs.turn.Statement.{statement}
 use Rattle.moves.proofs.turn.Tie as tie
 
@@ -35,7 +35,7 @@ turn-at-requires c κs =
     let w = o .pre .1 .world in
     let z = w .size in
     let l = w .room in
-    (omega arith, omega arith, ap length (o .pre .1 .conflicts) ∙ rows-length (o .pre .0))
+    (omega arith, omega arith, ap length (o .pre .1 .conflicts) ∙ rows-size (o .pre .0))
 
 enum-known-answer : tie.Need-enum-known-answer
 enum-known-answer c = search needs
