@@ -8,6 +8,9 @@ use lib.ListN.{length, getD}
 use Rattle.wire.specs.Wire.{value, bytes, readLe, splice}
 use Rattle.wire.proofs.Laws.{length-splice, value-bytes}
 use Rattle.sets.specs.Sets.{capacity}
+use Rattle.refusals.specs.declared.Refusal.{Refusal}
+use Rattle.refusals.specs.declared.Verdict.{Verdict}
+use Rattle.refusals.specs.declared.Verdict.the-variants.{Taken, Refused}
 use Rattle.table.specs.declared.SiteTable.{SiteTable}
 use Rattle.register.specs.declared.Command.{Command}
 use Rattle.protocol.specs.Site as protocol
@@ -17,6 +20,7 @@ use Rattle.layout.specs.declared.Phase.the-variants.{Acknowledging, Wait
 use Rattle.layout.specs.declared.Site.{Site}
 use Rattle.layout.specs.Layout.{siteSize, phasePlace, countPlace, ncPlace, cPlace, heardPlace, registerPlace, deliveriesPlace, slot, tagOf, proposalOf, headOf, headBytes, numbersBytes, setsBytes, heardOf, siteOf, ledgerOf, view, encode}
 use Rattle.layout.specs.Good.{Fit, GoodHead, GoodTables, Good, Holds}
+use Rattle.layout.specs.Step.{settled, Carried}
 use Rattle.layout.proofs.Header.{head-back, length-head}
 use Rattle.layout.proofs.Agree.{Agree, agree-after, agree-part, heard-agree, register-agree, deliveries-agree}
 use Rattle.layout.proofs.Encode.{encode-view}
@@ -97,3 +101,12 @@ module _ (t : SiteTable) (book : List Command) where
   finish b h {b′} size e small f g tables law =
       holds (subst (Good (t .sites) (length book)) (sym e) (good-head b h size f g tables)) small
       (ap (view t book) e ∙ view-head b h size f (g .room) ∙ law)
+
+  -- A refused step, and one that is taken.
+  pub refused : (v : Verdict) (x : Refusal) {b : List ℕ} {new : protocol.Site (dash t book)} → v ≡ Refused x → Good (t .sites) (length book) b
+      → ((i : ℕ) → getD b i 0 < 256) → Carried t book v new (view t book b) (Refused x) b
+  refused v x {b} {new} e g small =
+      record { answer = sym e; site = subst (λ (w : Verdict). Holds t book b (settled w new (view t book b))) (sym e) (unchanged g small) }
+
+  pub taken : (v : Verdict) {b : List ℕ} {new old : protocol.Site (dash t book)} → v ≡ Taken → Holds t book b new → Carried t book v new old Taken b
+  taken v {b} {new} {old} e h = record { answer = sym e; site = subst (λ (w : Verdict). Holds t book b (settled w new old)) (sym e) h }

@@ -143,9 +143,10 @@ module _ (b : List ℕ) (small : (i : ℕ) → getD b i 0 < 256) (size : length 
   word-of : {a c : Set} → a ≡ c → a .bits ≡ c .bits
   word-of e = λ i. e i .bits
 
-  after : Agree b (heardMore b j r x) registerPlace siteSize
+  -- Nothing after the table of sets heard changes.
+  pub heard-apart : Agree b (heardMore b j r x) registerPlace siteSize
   unfolding writeSet
-  after =
+  heard-apart =
       let q = length-bytes 8 (unionOf (readSet b (cell j r)) x .bits) in
       agree-after b (cell j r) (bytes 8 (unionOf (readSet b (cell j r)) x .bits)) registerPlace siteSize (omega arith) (omega arith)
 
@@ -163,11 +164,11 @@ module _ (b : List ℕ) (small : (i : ℕ) → getD b i 0 < 256) (size : length 
               | no e ↦ ap (λ (s : Set). withinOf s commands) (other k m e) ∙ old .heard k m
             ];
         silent = λ k m o. word-of (other k m (λ e. omega arith)) ∙ old .silent k m o;
-        readings = subst Within (sym (register-agree (agree-part registerPlace deliveriesPlace after (omega arith) (omega arith)))) (old .readings);
-        recorded = λ k m. subst (λ (y : ℕ). y < commands) (sym (after .reads 1 (slot k) (omega arith) (omega arith))) (old .recorded k m);
+        readings = subst Within (sym (register-agree (agree-part registerPlace deliveriesPlace heard-apart (omega arith) (omega arith)))) (old .readings);
+        recorded = λ k m. subst (λ (y : ℕ). y < commands) (sym (heard-apart .reads 1 (slot k) (omega arith) (omega arith))) (old .recorded k m);
         rest =
             λ k m o. (
-              after .reads 1 (slot k) (omega arith) (omega arith) ∙ old .rest k m o .0,
-              after .reads 4 (slot k + 1) (omega arith) (omega arith) ∙ old .rest k m o .1,
+              heard-apart .reads 1 (slot k) (omega arith) (omega arith) ∙ old .rest k m o .0,
+              heard-apart .reads 4 (slot k + 1) (omega arith) (omega arith) ∙ old .rest k m o .1,
             );
       }

@@ -1,0 +1,77 @@
+-- A log entry read: the position is raised where the protocol takes the step.
+-- Assumes nothing.
+use mathlib.Core.Path.{_≡_, sym, ap, _∙_}
+use mathlib.Core.Bool.{Bool, true, false, not}
+use mathlib.Core.List.{List}
+use Prim.Native.Nat.{ℕ, _+_, _<_}
+use native.Mathlib.Numerals.{add-one}
+use lib.ListN.{getD, take}
+use Rattle.refusals.specs.declared.Refusal.the-variants.{Disabled, ThirdEntry}
+use Rattle.refusals.specs.declared.Verdict.the-variants.{Taken, Refused}
+use Rattle.wire.specs.Wire.{splice}
+use Rattle.sets.specs.Sets.{inSet}
+use Rattle.protocol.specs.System.{granted, _else_⨾_, verdict}
+use Rattle.protocol.specs.Site as protocol
+use Rattle.system.specs.Dash.{dash}
+use Rattle.layout.specs.declared.Site.{Site}
+use Rattle.layout.specs.Layout.{headOf, headBytes, heardOf, phaseSeen, view}
+use Rattle.layout.proofs.Header.{fit}
+use Rattle.layout.proofs.Finish.{finish, refused, taken}
+use Rattle.site.specs.Steps.{withPosition, ReadEntry}
+
+module _ (b : List ℕ) (small : (i : ℕ) → getD b i 0 < 256) (left third : Bool) where
+  pub nothing-left : left ≡ false → ReadEntry left third b (Refused Disabled) b
+  nothing-left e t book log g el et =
+      refused t book _ Disabled
+      (λ i. verdict ((sym el ∙ e) i else Disabled ⨾ protocol.noThird (dash t book) (take (view t book b .position) log) (protocol.next (dash t book) (view t book b) log) else ThirdEntry ⨾ granted))
+      g small
+
+  pub third-left : left ≡ true → third ≡ true → ReadEntry left third b (Refused ThirdEntry) b
+  third-left e h t book log g el et =
+      refused t book _ ThirdEntry (λ i. verdict ((sym el ∙ e) i else Disabled ⨾ (sym et ∙ ap not h) i else ThirdEntry ⨾ granted)) g small
+
+  pub entry-read : {h h′ : Site} {n : ℕ} {b′ : List ℕ} → left ≡ true → third ≡ false → h ≡ headOf b → n ≡ headOf b .position + 1 → n < 65536 → h′ ≡ withPosition h n
+      → b′ ≡ splice b 0 (headBytes h′) → ((i : ℕ) → getD b′ i 0 < 256) → ReadEntry left third b Taken b′
+  unfolding headOf
+  entry-read {n = n} e h eh en l er eb small′ t book log g el et =
+      let f = fit b small (g .size) in
+      let o = g .head in
+      let k = headOf b in
+      taken t book _ (λ i. verdict ((sym el ∙ e) i else Disabled ⨾ (sym et ∙ ap not h) i else ThirdEntry ⨾ granted))
+      (finish t book b (withPosition k n) (g .size) (eb ∙ ap (λ (x : Site). splice b 0 (headBytes x)) (er ∙ ap (λ (x : Site). withPosition x n) eh)) small′
+      (record {
+        round = f .round;
+        deliveries = f .deliveries;
+        position = l;
+        received = f .received;
+        delivered = f .delivered;
+        pending = f .pending;
+        fast = f .fast;
+        nc = f .nc;
+        c = f .c;
+      })
+      (record {
+        first = o .first;
+        last = o .last;
+        few = o .few;
+        room = o .room;
+        received = o .received;
+        delivered = o .delivered;
+        pending = o .pending;
+        fast = o .fast;
+        nc = o .nc;
+        c = o .c;
+      })
+      (g .tables)
+      (λ i.
+      record {
+        received = inSet (k .received);
+        delivered = inSet (k .delivered);
+        pending = inSet (k .pending);
+        fast = inSet (k .fast);
+        round = k .round;
+        phase = phaseSeen (k .phase);
+        position = (en ∙ add-one (k .position)) i;
+        heard = heardOf b;
+        ledger = view t book b .ledger;
+      }))
