@@ -72,3 +72,19 @@ answered-taken later before e = λ i. answered (sym e i) later before
 
 pub answered-refused : {A : Type 0} {v : Verdict} (r : Refusal) (later before : A) → v ≡ Refused r → outcome (numberOf r) before ≡ answered v later before
 answered-refused r later before e = λ i. answered (sym e i) later before
+
+-- The outcome of a call by the number of its verdict.
+pub code-refused : {A : Type 0} (v : Verdict) (later before : A) {code : ℕ} → code ≡ codeOf v → (code ≡ 0 → ⊥) → outcome code before ≡ answered v later before
+code-refused Taken later before q n = absurd (n q)
+code-refused (Refused r) later before q n = λ i. outcome (q i) before
+
+pub code-taken : {A : Type 0} (v : Verdict) (later before : A) {code : ℕ} → code ≡ codeOf v → code ≡ 0 → outcome 0 later ≡ answered v later before
+code-taken v later before q z = answered-taken later before (taken-zero v (sym q ∙ z))
+
+-- A demand after those that were met: it refuses, or is the last that is met.
+module _ (d : Demands) (t : Bool) (r : Refusal) {A : Type 0} (later before : A) {code : ℕ} (q : code ≡ codeOf (verdict d)) (z : code ≡ 0) where
+  pub last-refused : t ≡ false → outcome (numberOf r) before ≡ answered (verdict (d then t else r ⨾ granted)) later before
+  last-refused e = answered-refused r later before (then-taken d (t else r ⨾ granted) q z ∙ (λ i. verdict (e i else r ⨾ granted)))
+
+  pub last-taken : t ≡ true → outcome 0 later ≡ answered (verdict (d then t else r ⨾ granted)) later before
+  last-taken e = answered-taken later before (then-taken d (t else r ⨾ granted) q z ∙ (λ i. verdict (e i else r ⨾ granted)))
