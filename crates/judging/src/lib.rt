@@ -102,7 +102,7 @@ pub fn judge_site_and_log(
 }
 
 // The log position of a site.
-fn position_of(site: &[u8]) -> usize
+pub fn position_of(site: &[u8]) -> usize
     requires { ⌜ length (now site) ≡ siteSize ⌝ }
     ensures { λ r. ⌜ r ≡ headOf (now (site .entry)) .position ⌝ }
 {
