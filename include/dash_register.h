@@ -5,7 +5,8 @@
  *
  * Memory. The caller owns every buffer and lends it for the length of the call; nothing is kept and nothing is allocated.
  * A buffer is a pointer and a length; a null pointer goes with length 0 only. Buffers of one call must not overlap.
- * A buffer may be longer than asked for: what is past the size named here is not looked at and not changed.
+ * A buffer of a fixed size may be longer than that: what is past the size named here is not looked at and not changed.
+ * `book` and `log` are taken whole.
  *
  * Answers. 0 is success. Any other answer is a refusal: its number is one of DASH_REGISTER_REFUSED_.. below, and the call
  * has changed no byte of anything lent. Where several causes refuse, the first in the order 9, 2, 1, 3, 4, 6, 7, 8 is answered.
@@ -13,8 +14,8 @@
  *
  * What each call judges. `sites` and `faults` must be a site table: 1 to 11 sites, 0 to 2 faults, sites at least 5 faults + 1 (2).
  * `book` must be a book of commands (1). `log` must be whole entries of 18 bytes (3). `site` must be the bytes of a site for this table
- * and book, with a log position within the log and no entry before it that a log read would refuse (4). Numbers and sets must be
- * in range (4). Whether the site's fields fit each other is not asked: it is stepped as it is.
+ * and book; where a log is lent, the site's log position must be within it, and no entry before that position may be one that a log read
+ * would refuse (4). Numbers and sets must be in range (4). Whether the site's fields fit each other is not asked: it is stepped as it is.
  *
  * The host checks signatures and channel keys, and supplies the atomic broadcast behind the log: the log that every site is lent
  * is the same, and grows only at its end.

@@ -1,0 +1,154 @@
+-- What the calls that deliver answer: one law an answer.
+-- Assumes nothing.
+use mathlib.Core.Path.{_≡_, refl, sym, ap, _∙_}
+use mathlib.Core.Bool.{Bool, true, false}
+use mathlib.Core.List.{List, _++_}
+use Prim.Native.Nat.{ℕ, _*_, _/_, _≤_, _<_}
+use native.Mathlib.Omega.{arith}
+use lib.Dec.{ltb}
+use lib.ListN.{length, take, drop, getD}
+use borrow.Author.Tests.{lt-ltb, le-ltb}
+use Rattle.theory.specs.Counting.{left, never, all-at}
+use Rattle.refusals.specs.declared.Refusal.the-variants.{Range}
+use Rattle.refusals.specs.declared.Verdict.{Verdict}
+use Rattle.refusals.specs.Refusals.{codeOf}
+use Rattle.sets.specs.declared.Set.{Set}
+use Rattle.sets.specs.Sets.{inSet, withinOf, emptyOf}
+use Rattle.sets.proofs.Laws.{in-empty, within-of}
+use Rattle.table.specs.declared.SiteTable.{SiteTable}
+use Rattle.table.specs.Table.{isGood}
+use Rattle.commands.specs.Book.{commandsOf}
+use Rattle.conflicts.specs.Conflicts.{conflictRows}
+use Rattle.protocol.specs.System.{_else_⨾_, verdict}
+use Rattle.protocol.specs.Recovery as recovery
+use Rattle.protocol.specs.Site as protocol
+use Rattle.system.specs.Dash.{dash}
+use Rattle.calm.specs.Rows.{rowsSystem}
+use Rattle.entries.specs.Entries.{entrySize, entryOf, inRangeOf, goodAt, goodTo, logTo, logOf}
+use Rattle.protocol.specs.Recovery.{entries}
+use Rattle.entries.proofs.Logs.{log-of-take}
+use Rattle.recovery.specs.declared.Sets.{Sets}
+use Rattle.recovery.specs.declared.Decision.{Decision}
+use Rattle.recovery.specs.declared.Decision.the-variants.{Undecided, Decided}
+use Rattle.recovery.specs.Decisions.{decisionOf}
+use Rattle.layout.specs.Layout.{siteSize, headOf, view}
+use Rattle.layout.specs.Good.{Good}
+use Rattle.ending.specs.Ending.{Told, RoundEnded}
+use Rattle.closings.proofs.Decisions.{sets-within, told-none, told-decided}
+use Rattle.judging.specs.Outcomes.{outcome, answered, _then_}
+use Rattle.judging.specs.Judging.{tableOf, systemOf, siteIn, withSite, forSite, forSiteAndLog}
+use Rattle.judging.proofs.Demands.{then-taken, then-refused, answered-refused}
+use Rattle.judging.proofs.Laws.{Judged, JudgedLog, site-judged, log-judged}
+use Rattle.judging.proofs.Steps.{carried}
+use Rattle.delivering.specs.Delivering.{FastDelivered, Ended, fastDeliveryCall, roundEndCall}
+
+-- ---- a fast delivery
+
+module _ (n f : ℕ) (book site : List ℕ) (m : ℕ) {k : ℕ} (q : k ≡ codeOf (verdict (forSite n f book true site))) where
+  pub fast-refused : (k ≡ 0 → ⊥) → outcome k site ≡ fastDeliveryCall n f book site m
+  unfolding fastDeliveryCall
+  fast-refused z =
+      then-refused (forSite n f book true site)
+      (ltb m (length (commandsOf book)) else Range ⨾ protocol.forFastDelivery (systemOf n f book) m (siteIn n f book site)) _ site q z
+
+  module _ (z : k ≡ 0) where
+    judged : Judged n f book site
+    judged = site-judged n f book true site q z .1
+
+    pub fast-sized : siteSize ≤ length site
+    fast-sized = judged .sized
+
+    first : (t : Bool) → ltb m (length (commandsOf book)) ≡ t
+        → verdict (forSite n f book true site then ltb m (length (commandsOf book)) else Range ⨾ protocol.forFastDelivery (systemOf n f book) m (siteIn n f book site))
+        ≡ verdict (t else Range ⨾ protocol.forFastDelivery (systemOf n f book) m (siteIn n f book site))
+    first t e =
+        then-taken (forSite n f book true site)
+        (ltb m (length (commandsOf book)) else Range ⨾ protocol.forFastDelivery (systemOf n f book) m (siteIn n f book site)) q z
+        ∙ (λ i. verdict (e i else Range ⨾ protocol.forFastDelivery (systemOf n f book) m (siteIn n f book site)))
+
+    module _ {commands : ℕ} (e : commands ≡ length (commandsOf book)) where
+      pub fast-range : commands ≤ m → outcome 4 site ≡ fastDeliveryCall n f book site m
+      unfolding fastDeliveryCall
+      fast-range h = answered-refused Range _ site (first false (le-ltb m (length (commandsOf book)) (omega arith)))
+
+      pub fast-ready : m < commands → Good n (length (commandsOf book)) (take siteSize site) × (isGood (tableOf n f) ≡ true) × (m < length (commandsOf book))
+      fast-ready h = (judged .good, judged .table, omega arith)
+
+      pub fast-done : m < commands → ((i : ℕ) → getD site i 0 < 256) → {r : Verdict} {b : List ℕ} {code : ℕ}
+          → FastDelivered (tableOf n f) (commandsOf book) m (take siteSize site) r b → code ≡ codeOf r → outcome code (b ++ drop siteSize site) ≡ fastDeliveryCall n f book site m
+      unfolding fastDeliveryCall
+      fast-done h small o ek =
+          carried n f book site (judged .good) small (verdict (protocol.forFastDelivery (systemOf n f book) m (siteIn n f book site)))
+          (protocol.deliverFast (systemOf n f book) m (siteIn n f book site)) o ek
+          ∙ (λ i. answered (sym (first true (lt-ltb m (length (commandsOf book)) (omega arith))) i)
+          (withSite n f book site (protocol.deliverFast (systemOf n f book) m (siteIn n f book site))) site)
+
+-- ---- a round that ends
+
+-- The empty set is within every book.
+pub empty-within : (n : ℕ) → withinOf emptyOf n ≡ true
+empty-within n = within-of emptyOf n (λ m l h. absurd (never (inSet emptyOf m) h (in-empty m)))
+
+-- The decision by the rows of the book that were written.
+pub decided-by : (t : SiteTable) (book rows log : List ℕ) {p r : ℕ} (b : List ℕ) {d : Decision} → rows ≡ conflictRows book → p ≡ headOf b .position → r ≡ headOf b .round
+    → d ≡ decisionOf (rowsSystem t rows) (recovery.decide (rowsSystem t rows) r (logTo log p))
+    → d ≡ decisionOf (rowsSystem t (conflictRows book)) (recovery.decide (rowsSystem t (conflictRows book)) (headOf b .round) (logTo log (headOf b .position)))
+decided-by t book rows log b e ep er ed = ed ∙ (λ i. decisionOf (rowsSystem t (e i)) (recovery.decide (rowsSystem t (e i)) (er i) (logTo log (ep i))))
+
+module _ (t : SiteTable) (table : isGood t ≡ true) (book log b : List ℕ) (small : (i : ℕ) → getD log i 0 < 256)
+    (position : headOf b .position ≤ length log / entrySize) (before : goodTo log (t .sites) (length (commandsOf book)) (headOf b .position) ≡ true)
+    {d : Decision}
+    (ed : d ≡ decisionOf (rowsSystem t (conflictRows book)) (recovery.decide (rowsSystem t (conflictRows book)) (headOf b .round) (logTo log (headOf b .position)))) where
+  room : headOf b .position * entrySize ≤ length log
+  room = omega arith
+
+  logged : (p : ℕ) → p < headOf b .position → inRangeOf (t .sites) (length (commandsOf book)) (entryOf log p) ≡ true
+  logged p l =
+      left (inRangeOf (t .sites) (length (commandsOf book)) (entryOf log p)) (ltb (entries (entryOf log p .site) (entryOf log p .round) (logTo log p)) 2)
+      (all-at (headOf b .position) (goodAt log (t .sites) (length (commandsOf book))) before p l)
+
+  read : protocol.decision (dash t (commandsOf book)) (view t (commandsOf book) b) (logOf log) ≡ recovery.decide (dash t (commandsOf book)) (headOf b .round) (logTo log (headOf b .position))
+  read = ap (recovery.decide (dash t (commandsOf book)) (headOf b .round)) (log-of-take log (headOf b .position) position)
+
+  pub within-sets : (s : Sets) → d ≡ Decided s → (withinOf (s .nc) (length (commandsOf book)) ≡ true) × (withinOf (s .c) (length (commandsOf book)) ≡ true)
+  within-sets s h = sets-within t table book (conflictRows book) log small (headOf b .position) (headOf b .round) room logged refl ed s h
+
+  module _ (good : Good (t .sites) (length (commandsOf book)) b) where
+    pub ended-undecided : {nc c : Set} {r : Verdict} {b′ : List ℕ} → d ≡ Undecided → RoundEnded (commandsOf book) false nc c b r b′ → Ended t (commandsOf book) (logOf log) b r b′
+    ended-undecided {nc} {c} h o =
+        o t (logOf log) good
+        (told-none t table book (conflictRows book) log small (headOf b .position) (headOf b .round) room logged refl ed (view t (commandsOf book) b) (logOf log) read refl nc c h)
+
+    pub ended-decided : (s : Sets) {r : Verdict} {b′ : List ℕ} → d ≡ Decided s → RoundEnded (commandsOf book) true (s .nc) (s .c) b r b′ → Ended t (commandsOf book) (logOf log) b r b′
+    ended-decided s h o =
+        o t (logOf log) good
+        (told-decided t table book (conflictRows book) log small (headOf b .position) (headOf b .round) room logged refl ed (view t (commandsOf book) b) (logOf log) read refl s h)
+
+module _ (n f : ℕ) (book site log : List ℕ) {k : ℕ} (q : k ≡ codeOf (verdict (forSiteAndLog n f book true site log))) where
+  pub end-refused : (k ≡ 0 → ⊥) → outcome k site ≡ roundEndCall n f book site log
+  unfolding roundEndCall
+  end-refused z =
+      then-refused (forSiteAndLog n f book true site log) (protocol.forRoundEnd (systemOf n f book) (siteIn n f book site) (logOf log)) _ site q z
+
+  module _ (z : k ≡ 0) where
+    judged-log : Judged n f book site × JudgedLog n f book site log
+    judged-log = let j = log-judged n f book true site log q z in (j .1, j .2)
+
+    pub end-sized : siteSize ≤ length site
+    end-sized = judged-log .0 .sized
+
+    pub end-ready : Good n (length (commandsOf book)) (take siteSize site) × (isGood (tableOf n f) ≡ true)
+        × (headOf (take siteSize site) .position ≤ length log / entrySize)
+        × (goodTo log n (length (commandsOf book)) (headOf (take siteSize site) .position) ≡ true)
+    end-ready = (judged-log .0 .good, judged-log .0 .table, judged-log .1 .position, judged-log .1 .before)
+
+    pub end-done : ((i : ℕ) → getD site i 0 < 256) → {r : Verdict} {b : List ℕ} {code : ℕ}
+        → Ended (tableOf n f) (commandsOf book) (logOf log) (take siteSize site) r b → code ≡ codeOf r → outcome code (b ++ drop siteSize site) ≡ roundEndCall n f book site log
+    unfolding roundEndCall
+    end-done small o ek =
+        carried n f book site (judged-log .0 .good) small (verdict (protocol.forRoundEnd (systemOf n f book) (siteIn n f book site) (logOf log)))
+        (protocol.finish (systemOf n f book) (protocol.tallyOr (protocol.decision (systemOf n f book) (siteIn n f book site) (logOf log))) (siteIn n f book site)) o ek
+        ∙ (λ i. answered
+        (sym (then-taken (forSiteAndLog n f book true site log) (protocol.forRoundEnd (systemOf n f book) (siteIn n f book site) (logOf log)) q z) i)
+        (withSite n f book site
+        (protocol.finish (systemOf n f book) (protocol.tallyOr (protocol.decision (systemOf n f book) (siteIn n f book site) (logOf log))) (siteIn n f book site))) site)

@@ -1,0 +1,52 @@
+-- `delivering::round_end`: a law for each answer.
+-- Assumes nothing.
+use mathlib.Core.Path.{refl}
+use lib.Seq.{length-front}
+use denote.Ref.{now}
+use Rattle.layout.specs.Layout.{siteSize}
+use Rattle.judging.proofs.Laws.{first-length}
+use Rattle.delivering.proofs.Laws.{end-refused, end-sized, end-ready, end-done}
+use borrow.Author.Needs.{needs}
+use Rattle.delivering.proofs.round_end.Statement.{statement}
+use Rattle.delivering.proofs.round_end.Tie as tie
+
+judge-site-and-log-requires : tie.Need-judge-site-and-log-requires
+judge-site-and-log-requires c κs = search needs
+
+same-length : tie.Need-same-length
+same-length c = refl
+
+returns : tie.Need-returns
+returns c = let a = c .before .before .before .before .before .before .args in end-refused (a .sites) (a .faults) (now (a .book)) (now (a .site)) (now (a .log)) (c .before .judge-site-and-log .ensures) (c .if1 .taken)
+
+slice-relend-prefix-end-round : tie.Need-slice-relend-prefix-end-round
+slice-relend-prefix-end-round c = let a = c .before .before .before .before .before .before .args in end-sized (a .sites) (a .faults) (now (a .book)) (now (a .site)) (now (a .log)) (c .before .judge-site-and-log .ensures) (c .if1 .left)
+
+slice-aggregate-end-round : tie.Need-slice-aggregate-end-round
+slice-aggregate-end-round c = let a = c .before .before .before .before .before .before .before .args in first-length siteSize (now (a .site)) (end-sized (a .sites) (a .faults) (now (a .book)) (now (a .site)) (now (a .log)) (c .before .before .judge-site-and-log .ensures) (c .before .if1 .left))
+
+end-round-requires : tie.Need-end-round-requires
+end-round-requires c κs = let a = c .before .before .before .before .before .before .before .args in end-ready (a .sites) (a .faults) (now (a .book)) (now (a .site)) (now (a .log)) (c .before .before .judge-site-and-log .ensures) (c .before .if1 .left)
+
+code-requires : tie.Need-code-requires
+code-requires c κs = search needs
+
+same-length-2 : tie.Need-same-length-2
+same-length-2 c = let a = c .before .before .before .before .before .before .before .before .before .before .before .args in length-front (now (a .site)) (c .before .before .before .end-round .last .0) siteSize (c .before .before .before .end-round .kept .0)
+
+returns-2 : tie.Need-returns-2
+returns-2 c = let a = c .before .before .before .before .before .before .before .before .before .before .before .args in end-done (a .sites) (a .faults) (now (a .book)) (now (a .site)) (now (a .log)) (c .before .before .before .before .before .before .judge-site-and-log .ensures) (c .before .before .before .before .before .if1 .left) (λ i. c .before .before .before .before .before .before .before .before .before .slice-known .given i .fits) (c .before .before .before .end-round .ensures) (c .code .ensures)
+
+pub round-end-spec : {M : Type 1} → statement M
+round-end-spec =
+    tie.close
+    (tie.spec
+    judge-site-and-log-requires
+    same-length
+    returns
+    slice-relend-prefix-end-round
+    slice-aggregate-end-round
+    end-round-requires
+    code-requires
+    same-length-2
+    returns-2)

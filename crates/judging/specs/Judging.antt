@@ -1,0 +1,78 @@
+-- What every call judges of what it is lent, in document 01's order 9, 2, 1, 3, 4, and how a lent site is seen and written.
+-- Assumes nothing.
+use mathlib.Core.Bool.{Bool, _&&_}
+use mathlib.Core.List.{List, _++_}
+use Prim.Native.Nat.{ℕ, _/_, _%_}
+use lib.Dec.{eqb, leb}
+use lib.ListN.{length, take, drop}
+use Rattle.refusals.specs.declared.Refusal.the-variants.{Book, Table, Form, Range, Size}
+use Rattle.table.specs.declared.SiteTable.{SiteTable}
+use Rattle.table.specs.Table.{goodTable}
+use Rattle.commands.specs.Book.{commandsOf, judgeBook}
+use Rattle.protocol.specs.System.{System, Demands, granted, _else_⨾_}
+use Rattle.protocol.specs.Site as protocol
+use Rattle.system.specs.Dash.{dash}
+use Rattle.entries.specs.Entries.{entrySize, goodTo}
+use Rattle.layout.specs.Layout.{siteSize, view, encode}
+use Rattle.layout.specs.Good.{goodSite}
+use Rattle.judging.specs.Outcomes.{isTaken}
+
+-- The site table of one site's engine, which does not know who is faulty.
+abbrev pub tableOf : ℕ → ℕ → SiteTable
+tableOf sites faults = record { sites = sites; faults = faults; mask = 0 }
+
+-- Every log position that a site's bytes can hold is at most this: where no log is lent the position is not judged.
+abbrev pub anyPosition : ℕ
+anyPosition = 65535
+
+-- The entries of a lent log.
+abbrev pub entriesIn : List ℕ → ℕ
+entriesIn log = length log / entrySize
+
+-- The log does not end in a cut entry.
+abbrev pub isWhole : List ℕ → Bool
+isWhole log = eqb (length log % entrySize) 0
+
+-- The site table and the book.
+abbrev pub forTable : ℕ → ℕ → ℕ → Demands
+forTable sites faults mask = goodTable sites faults mask else Table ⨾ granted
+
+abbrev pub forBook : List ℕ → Demands
+forBook book = isTaken (judgeBook book) else Book ⨾ granted
+
+module _ (sites faults : ℕ) (book : List ℕ) where
+  -- The system that a site belongs to.
+  abbrev pub systemOf : System
+  systemOf = dash (tableOf sites faults) (commandsOf book)
+
+  -- The site that lent bytes are seen as: their first 3,533 bytes.
+  abbrev pub siteIn : List ℕ → protocol.Site systemOf
+  siteIn site = view (tableOf sites faults) (commandsOf book) (take siteSize site)
+
+  -- The lent bytes with another site in them; what is past the site stays.
+  abbrev pub withSite : List ℕ → protocol.Site systemOf → List ℕ
+  withSite site s = encode (tableOf sites faults) (commandsOf book) s ++ drop siteSize site
+
+  -- What every call judges first.
+  abbrev pub forCall : Bool → Demands
+  forCall sized = sized else Size ⨾ goodTable sites faults 0 else Table ⨾ isTaken (judgeBook book) else Book ⨾ granted
+
+  -- What a call that is lent a site judges. The other buffers that it is lent are long enough or not.
+  abbrev pub forSite : Bool → List ℕ → Demands
+  forSite enough site =
+      enough && leb siteSize (length site) else Size
+      ⨾ goodTable sites faults 0 else Table
+      ⨾ isTaken (judgeBook book) else Book
+      ⨾ goodSite sites (length (commandsOf book)) anyPosition (take siteSize site) else Range
+      ⨾ granted
+
+  -- What a call that is lent a site and the log judges: also the log's form, the site's position in it, and the entries before that.
+  abbrev pub forSiteAndLog : Bool → List ℕ → List ℕ → Demands
+  forSiteAndLog enough site log =
+      enough && leb siteSize (length site) else Size
+      ⨾ goodTable sites faults 0 else Table
+      ⨾ isTaken (judgeBook book) else Book
+      ⨾ isWhole log else Form
+      ⨾ goodSite sites (length (commandsOf book)) (entriesIn log) (take siteSize site) else Range
+      ⨾ goodTo log sites (length (commandsOf book)) (siteIn site .position) else Range
+      ⨾ granted

@@ -1,0 +1,174 @@
+-- What a turn writes, and what its call answers: one law an answer.
+-- Assumes nothing.
+use mathlib.Core.Path.{_≡_, refl, sym, ap, _∙_}
+use mathlib.Core.Bool.{Bool, true, false}
+use mathlib.Core.List.{List, _++_, append-nil}
+use Prim.Native.Nat.{ℕ, _+_, _*_, _/_, _≤_, _<_}
+use native.Mathlib.Omega.{arith}
+use lib.Dec.{leb, ltb}
+use lib.ListN.{length, take, drop, getD, length-take, length-drop, drop-of-length-le}
+use borrow.Author.Tests.{lt-ltb, le-ltb, leb-true}
+use borrow.Rule.Slice.PartMut.{putMid}
+use Rattle.theory.specs.Sets.{pick}
+use Rattle.wire.specs.Wire.{bytes, splice}
+use Rattle.wire.proofs.Laws.{mid-splice}
+use Rattle.refusals.specs.declared.Refusal.{Refusal}
+use Rattle.refusals.specs.declared.Refusal.the-variants.{Range}
+use Rattle.refusals.specs.declared.Verdict.{Verdict}
+use Rattle.refusals.specs.declared.Verdict.the-variants.{Taken, Refused}
+use Rattle.refusals.specs.Refusals.{numberOf, codeOf}
+use Rattle.sets.specs.declared.Set.{Set}
+use Rattle.sets.specs.Sets.{capacity, inSet, setOf, setBytes, withoutOf, readSet, writeSet}
+use Rattle.sets.proofs.Laws.{in-without}
+use Rattle.table.specs.declared.SiteTable.{SiteTable}
+use Rattle.commands.specs.Book.{commandsOf}
+use Rattle.conflicts.specs.Conflicts.{conflictRows}
+use Rattle.protocol.specs.System.{_else_⨾_, verdict, free}
+use Rattle.protocol.specs.Recovery.{entries}
+use Rattle.protocol.specs.Site as protocol
+use Rattle.system.specs.Dash.{dash}
+use Rattle.calm.specs.Rows.{freeBy}
+use Rattle.calm.proofs.Same.{free-rows}
+use Rattle.entries.specs.declared.Entry.{Entry}
+use Rattle.entries.specs.Entries.{entrySize, entryBytes, writeEntry, logTo, logOf}
+use Rattle.entries.proofs.Bytes.{length-entry}
+use Rattle.layout.specs.declared.Proposal.{Proposal}
+use Rattle.layout.specs.Layout.{siteSize, receivedPlace, deliveredPlace, headOf, view}
+use Rattle.layout.specs.Good.{Holds}
+use Rattle.layout.specs.Step.{settled}
+use Rattle.layout.proofs.Header.{next}
+use Rattle.site.specs.declared.Turn.{Turn}
+use Rattle.site.specs.declared.Turn.the-variants as turn
+use Rattle.site.specs.Steps.{answerTo, Turned, TookTurn}
+use Rattle.judging.specs.Outcomes.{Outcome, outcome, answered, _then_}
+use Rattle.judging.specs.Judging.{tableOf, systemOf, siteIn, withSite, forSiteAndLog}
+use Rattle.judging.proofs.Demands.{then-taken, then-refused, answered-refused}
+use Rattle.judging.proofs.Laws.{Judged, log-judged}
+use Rattle.judging.proofs.Steps.{written, as-before}
+use Rattle.turning.specs.Turning.{turnSize, buffers, acknowledgmentBytes, proposalBytes, entryFor, entryOf, sentBytes, turned, sent, turnCall}
+
+-- ---- the conflict test
+
+pub calm : (book site rows : List ℕ) {received delivered x : Set} {r : Bool} → rows ≡ conflictRows book → received ≡ readSet site receivedPlace
+    → delivered ≡ readSet site deliveredPlace → x ≡ withoutOf received delivered → r ≡ freeBy rows (inSet x)
+    → (t : SiteTable) → r ≡ protocol.acknowledges (dash t (commandsOf book)) (view t (commandsOf book) site)
+unfolding headOf
+calm book site rows er ea ed ex e t =
+    e
+    ∙ (λ i. freeBy (er i) (inSet ((ex ∙ (λ j. withoutOf (ea j) (ed j))) i)))
+    ∙ free-rows book t (inSet (withoutOf (readSet site receivedPlace) (readSet site deliveredPlace)))
+    ∙ ap (free (dash t (commandsOf book))) (λ i m. in-without (readSet site receivedPlace) (readSet site deliveredPlace) m i)
+
+-- ---- what is written
+
+module _ (o : List ℕ) (x : Set) where
+  pub acknowledgment-written : {l₁ l₂ : List ℕ} → l₁ ≡ splice o 0 (bytes 1 1) → l₂ ≡ writeSet l₁ 1 x → l₂ ≡ splice o 0 (acknowledgmentBytes x)
+  unfolding bytes writeSet acknowledgmentBytes
+  acknowledgment-written e₁ e₂ = next o 0 (bytes 1 1) (bytes 8 (x .bits)) 1 refl (omega arith) e₁ e₂
+
+  -- The bytes of an entry over as many bytes.
+  whole : (p : List ℕ) (e : Entry) {w : List ℕ} → length p ≡ entrySize → w ≡ writeEntry p 0 e → w ≡ entryBytes e
+  unfolding writeEntry splice entryBytes bytes
+  whole p e h q =
+      let l = length-entry e in
+      q ∙ ap (λ (d : List ℕ). entryBytes e ++ d) (drop-of-length-le p {i = length (entryBytes e)} (omega arith)) ∙ append-nil (entryBytes e)
+
+  pub proposal-written : (e : Entry) {l₁ l₂ w : List ℕ} → turnSize ≤ length l₂ → length (take 18 (drop 9 l₂)) ≡ entrySize → l₁ ≡ splice o 0 (bytes 1 2) → l₂ ≡ writeSet l₁ 1 x
+      → w ≡ writeEntry (take 18 (drop 9 l₂)) 0 e → putMid 9 18 l₂ w ≡ splice o 0 (proposalBytes x e)
+  unfolding bytes writeSet proposalBytes
+  proposal-written e {l₂ = l₂} {w} h p e₁ e₂ ew =
+      let f = whole (take 18 (drop 9 l₂)) e p ew in
+      next o 0 (bytes 1 2 ++ bytes 8 (x .bits)) (entryBytes e) 9 refl (omega arith)
+      (next o 0 (bytes 1 2) (bytes 8 (x .bits)) 1 refl (omega arith) e₁ e₂)
+      (ap (putMid 9 18 l₂) f ∙ mid-splice 9 18 l₂ (entryBytes e) (length-entry e))
+
+-- The part of a buffer for an entry.
+pub entry-part : (l : List ℕ) → turnSize ≤ length l → length (take 18 (drop 9 l)) ≡ entrySize
+entry-part l h = simp (length-take, length-drop) (omega arith)
+
+-- ---- what is sent, by the step's answer
+
+module _ (own round : ℕ) (o : List ℕ) where
+  pub sent-acknowledged : (x : Set) {a : Turn} {l : List ℕ} → a ≡ turn.Acknowledged x → l ≡ splice o 0 (acknowledgmentBytes x) → outcome 0 l ≡ sent own round a o
+  unfolding sent
+  sent-acknowledged x {a} ea e = (λ i. outcome 0 (e i)) ∙ ap (λ (y : Turn). sent own round y o) (sym ea)
+
+  pub sent-proposed : (x : Set) (p : Proposal) {a : Turn} {e : Entry} {l : List ℕ} → a ≡ turn.Proposed x p → e ≡ entryOf own round p → l ≡ splice o 0 (proposalBytes x e)
+      → outcome 0 l ≡ sent own round a o
+  unfolding sent
+  sent-proposed x p ea ee e = (λ i. outcome 0 ((e ∙ ap (λ (y : Entry). splice o 0 (proposalBytes x y)) ee) i)) ∙ ap (λ (y : Turn). sent own round y o) (sym ea)
+
+  pub sent-refused : (r : Refusal) {a : Turn} {k : ℕ} → a ≡ turn.Refused r → k ≡ numberOf r → outcome k o ≡ sent own round a o
+  unfolding sent
+  sent-refused r ea e = (λ i. outcome (e i) o) ∙ ap (λ (y : Turn). sent own round y o) (sym ea)
+
+-- ---- the call
+
+module _ (n f : ℕ) (book site log : List ℕ) (own : ℕ) (o : List ℕ) {k : ℕ}
+    (q : k ≡ codeOf (verdict (forSiteAndLog n f book (leb turnSize (length o)) site log))) where
+  pub turn-refused : (k ≡ 0 → ⊥) → outcome k (buffers site o) ≡ turnCall n f book site log own o
+  unfolding turnCall
+  turn-refused z =
+      then-refused (forSiteAndLog n f book (leb turnSize (length o)) site log)
+      (ltb own n else Range ⨾ protocol.forTurn (systemOf n f book) own (siteIn n f book site) (logOf log)) _ (buffers site o) q z
+
+  module _ (z : k ≡ 0) where
+    judged : Judged n f book site
+    judged = log-judged n f book (leb turnSize (length o)) site log q z .1
+
+    pub turn-sized : siteSize ≤ length site
+    turn-sized = judged .sized
+
+    pub turn-room : turnSize ≤ length o
+    turn-room = leb-true turnSize (length o) (log-judged n f book (leb turnSize (length o)) site log q z .0)
+
+    first : (t : Bool) → ltb own n ≡ t
+        → verdict (forSiteAndLog n f book (leb turnSize (length o)) site log then ltb own n else Range ⨾ protocol.forTurn (systemOf n f book) own (siteIn n f book site) (logOf log))
+        ≡ verdict (t else Range ⨾ protocol.forTurn (systemOf n f book) own (siteIn n f book site) (logOf log))
+    first t e =
+        then-taken (forSiteAndLog n f book (leb turnSize (length o)) site log)
+        (ltb own n else Range ⨾ protocol.forTurn (systemOf n f book) own (siteIn n f book site) (logOf log)) q z
+        ∙ (λ i. verdict (e i else Range ⨾ protocol.forTurn (systemOf n f book) own (siteIn n f book site) (logOf log)))
+
+    pub turn-range : n ≤ own → outcome 4 (buffers site o) ≡ turnCall n f book site log own o
+    unfolding turnCall
+    turn-range h = answered-refused Range _ (buffers site o) (first false (le-ltb own n h))
+
+    module _ (h : own < n) where
+      pub turn-own : own < 256
+      turn-own = let l = judged .few in omega arith
+
+      module _ (small : (i : ℕ) → getD site i 0 < 256) {round code : ℕ} {b l : List ℕ} (er : round ≡ headOf (take siteSize site) .round) where
+        -- By the verdict and by what the turn does.
+        done : (v : Verdict) (a : Bool) → outcome code l ≡ sent own round (answerTo (tableOf n f) (commandsOf book) v a (siteIn n f book site)) o
+            → Holds (tableOf n f) (commandsOf book) b
+            (settled v (pick a (protocol.acknowledge (systemOf n f book) (siteIn n f book site)) (protocol.propose (systemOf n f book) (siteIn n f book site))) (siteIn n f book site))
+            → outcome code (buffers (b ++ drop siteSize site) l)
+            ≡ answered v
+            (buffers
+            (withSite n f book site (pick a (protocol.acknowledge (systemOf n f book) (siteIn n f book site)) (protocol.propose (systemOf n f book) (siteIn n f book site))))
+            (splice o 0
+            (pick a (acknowledgmentBytes (setOf capacity (protocol.undelivered (systemOf n f book) (siteIn n f book site))))
+            (proposalBytes (setOf capacity (protocol.undelivered (systemOf n f book) (siteIn n f book site))) (entryFor (systemOf n f book) own (siteIn n f book site))))))
+            (buffers site o)
+        unfolding sent
+        done Taken true e w = λ i. outcome (e i .code) (buffers (written n f book site w i) (e i .left))
+        done Taken false e w =
+            (λ i. outcome (e i .code) (buffers (written n f book site w i) (e i .left)))
+            ∙ (λ i. outcome 0
+            (buffers (withSite n f book site (protocol.propose (systemOf n f book) (siteIn n f book site)))
+            (splice o 0 (proposalBytes (setOf capacity (protocol.undelivered (systemOf n f book) (siteIn n f book site)))
+            (record { site = own; round = er i; nc = setOf capacity (siteIn n f book site .pending); c = setOf capacity (protocol.unacknowledged (systemOf n f book) (siteIn n f book site)) })))))
+        done (Refused r) a e w = λ i. outcome (e i .code) (buffers (as-before n f book site (judged .good) small w i) (e i .left))
+
+        pub turn-done : {free : Bool} {appended : ℕ} {answer : Turn} → ((t : SiteTable) → free ≡ protocol.acknowledges (dash t (commandsOf book)) (view t (commandsOf book) (take siteSize site)))
+            → appended ≡ entries own round (logTo log (length log / entrySize)) → TookTurn free appended (take siteSize site) answer b
+            → outcome code l ≡ sent own round answer o → outcome code (buffers (b ++ drop siteSize site) l) ≡ turnCall n f book site log own o
+        unfolding turnCall logOf
+        turn-done {answer = answer} ef ea took e =
+            let w = took (tableOf n f) (commandsOf book) own (logOf log) (judged .good) (ef (tableOf n f)) (ea ∙ ap (λ (r : ℕ). entries own r (logTo log (length log / entrySize))) er) in
+            done (verdict (protocol.forTurn (systemOf n f book) own (siteIn n f book site) (logOf log))) (protocol.acknowledges (systemOf n f book) (siteIn n f book site))
+            (e ∙ ap (λ (y : Turn). sent own round y o) (w .answer)) (w .site)
+            ∙ (λ i. answered (sym (first true (lt-ltb own n h)) i)
+            (buffers (withSite n f book site (turned (systemOf n f book) (siteIn n f book site))) (splice o 0 (sentBytes (systemOf n f book) own (siteIn n f book site))))
+            (buffers site o))
