@@ -3,12 +3,23 @@
 //! `cargo test --offline` plays 20,000 runs and checks demand 3 of each. BEURILMA_RUNS and BEURILMA_SEED change
 //! their number and their seed, BEURILMA_FUZZ_SECONDS the time spent on damaged bytes. With `--features archive`
 //! and BEURILMA_ARCHIVE, the path of the proved program's static archive, every print is compared with its print.
+//!
+//! It also makes 100,000 calls of the one-site engine (BEURILMA_CALLS): with `--features host` and BEURILMA_HOST_ARCHIVE,
+//! the path of the engine's static archive, in the archive, else in a stand-in. Each is compared with the reference.
 
 pub mod books;
 pub mod damage;
 pub mod draw;
 pub mod driver;
+#[cfg(feature = "host")]
+pub mod engine;
+pub mod expected;
 pub mod generator;
+pub mod lent_calls;
+pub mod lent_check;
+pub mod lent_damage;
+pub mod lent_draw;
+pub mod lent_scenes;
 pub mod noise;
 pub mod parts;
 pub mod program;
@@ -16,4 +27,6 @@ pub mod program;
 pub mod proved;
 pub mod settings;
 pub mod shrink;
+pub mod site_bytes;
+pub mod stand_in;
 pub mod statistics;
