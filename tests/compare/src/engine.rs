@@ -168,9 +168,7 @@ fn look(call: &Call, lent: &mut Lent) -> u32 {
     let ((book, book_length), (site, length)) = (lend(&mut lent.book), lend(&mut lent.site));
     let (out, out_length) = lend(&mut lent.out);
     match *call {
-        Call::Status => unsafe {
-            header::dash_register_status(n, f, book, book_length, site, length, out, out_length)
-        },
+        Call::Status => unsafe { header::dash_register_status(n, f, book, book_length, site, length, out, out_length) },
         Call::Bike { bike } => unsafe {
             header::dash_register_bike(n, f, book, book_length, site, length, bike, out, out_length)
         },
@@ -185,9 +183,7 @@ impl Engine for Host {
     fn call(&mut self, call: &Call, lent: &mut Lent) -> u32 {
         let ((book, book_length), (site, length)) = (lend(&mut lent.book), lend(&mut lent.site));
         match *call {
-            Call::JudgeTable { mask } => unsafe {
-                header::dash_register_judge_table(lent.sites, lent.faults, mask)
-            },
+            Call::JudgeTable { mask } => unsafe { header::dash_register_judge_table(lent.sites, lent.faults, mask) },
             Call::JudgeBook => unsafe { header::dash_register_judge_book(book, book_length) },
             Call::Fresh => unsafe { header::dash_register_fresh(site, length) },
             Call::ReceiveCommand { .. } | Call::ReceiveAcknowledgment { .. } | Call::ReceiveCheck { .. } => {

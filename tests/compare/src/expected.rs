@@ -49,7 +49,9 @@ pub fn rules(lent: &Lent) -> Result<Rules, u32> {
 pub fn expected(call: &Call, lent: &Lent) -> Outcome {
     let is_short = lent.site.length() < SITE_BYTES || lent.out.length() < call.out_bytes();
     let verdict = match call {
-        Call::JudgeTable { mask } => SiteTable::new(lent.sites, lent.faults).and_then(|table| table.faulty(*mask)).err(),
+        Call::JudgeTable { mask } => {
+            SiteTable::new(lent.sites, lent.faults).and_then(|table| table.faulty(*mask)).err()
+        }
         Call::JudgeBook => Book::read(lent.book.lent()).err(),
         _ if is_short => return Outcome::alone(refusal::ROOM, SHORT),
         Call::Fresh => return Outcome::taken(PLAIN, Some(Site::start()), Vec::new()),

@@ -63,7 +63,8 @@ impl Met {
     pub fn missing(&self) -> Vec<String> {
         let mut missing = Vec::new();
         for (function, answers) in DOCUMENTED {
-            let unmet = answers.iter().filter(|each| self.count(|name, answer, _| name == function && answer == **each) == 0);
+            let unmet =
+                answers.iter().filter(|each| self.count(|name, answer, _| name == function && answer == **each) == 0);
             missing.extend(unmet.map(|answer| format!("{function} never answered {answer}")));
         }
         let causes = [
