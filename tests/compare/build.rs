@@ -1,4 +1,5 @@
-//! With the features `archive` and `host`, links the static archives that BEURILMA_ARCHIVE and BEURILMA_HOST_ARCHIVE name.
+//! With the features `archive` and `host`, links the static archives that the variables BEURILMA_ARCHIVE
+//! and BEURILMA_HOST_ARCHIVE name.
 
 use std::env;
 use std::path::Path;

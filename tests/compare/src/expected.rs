@@ -1,4 +1,5 @@
-//! What the header promises of a call, worked out by the reference on the site that the lent bytes are.
+//! What the header promises of a call, worked out by the reference on the site that the lent bytes are
+//! (document 01, "What a site does" and "When a sheet or step is turned down").
 
 use crate::lent_calls::{Call, Lent};
 use crate::site_bytes::{decode, without_empty, SITE_BYTES};

@@ -6,7 +6,8 @@ use std::fmt;
 /// Bytes before and after each lent buffer, in which a call must not write.
 const GUARD: usize = 32;
 
-/// A lent buffer within its guard bytes. It may be lent shorter than what it holds, or as a null pointer where it is empty.
+/// A lent buffer within its guard bytes. It may be lent shorter than what it holds, and as a null pointer
+/// where it is lent with length 0.
 #[derive(Clone, PartialEq, Eq)]
 pub struct Buffer {
     bytes: Vec<u8>,

@@ -107,10 +107,11 @@ fn scene_of_any(draw: &mut Draw) -> Scene {
     site.register.dashes = site.register.dashes.map(|_| draw.bits() as u32);
     let own = draw.below(rules.table.sites());
     let mut scene = Scene { rules, book: book_of(&opening), site, log, own };
-    match draw.below(4) {
-        0 => aim_at_round_end(draw, &mut scene),
-        1 => aim_at_fast_delivery(draw, &mut scene),
-        2 => aim_at_third_entry(draw, &mut scene),
+    match draw.below(100) {
+        0..=24 => aim_at_round_end(draw, &mut scene),
+        25..=49 => aim_at_fast_delivery(draw, &mut scene),
+        50..=74 => aim_at_third_entry(draw, &mut scene),
+        75 => aim_at_long_log(draw, &mut scene),
         _ => {}
     }
     if draw.percent(10) {
@@ -159,7 +160,11 @@ fn aim_at_third_entry(draw: &mut Draw, scene: &mut Scene) {
     log.truncate(18 * (log.len() / 18));
     let round = if draw.percent(90) { site.round } else { 1 };
     for _ in 0..draw.pick(&[1, 2, 2, 3]) {
-        log.extend(Entry { site: *own, round, nc: set(draw, rules), c: set(draw, rules) }.bytes());
+        let (nc, mut c) = (set(draw, rules), set(draw, rules));
+        if draw.percent(20) {
+            c.insert(draw.within(rules.book.count(), 63));
+        }
+        log.extend(Entry { site: *own, round, nc, c }.bytes());
     }
     site.log_position = (log.len() / 18).saturating_sub(draw.below(4));
 }
@@ -174,6 +179,20 @@ fn scene_of_run(draw: &mut Draw) -> Scene {
     let own = draw.pick(&world.correct());
     let log = world.log.iter().flat_map(Entry::bytes).collect();
     Scene { rules: world.rules, book: book_of(&run), site: world.sites[own].clone(), log, own }
+}
+
+/// A log with nearly two entries of every source in every round, most of them read.
+fn aim_at_long_log(draw: &mut Draw, scene: &mut Scene) {
+    let Scene { rules, site, log, .. } = scene;
+    let mut order: Vec<(usize, usize)> = (0..rules.table.sites()).flat_map(|i| (1..=32).map(move |r| (i, r))).collect();
+    order.extend(order.clone());
+    draw.shuffle(&mut order);
+    order.truncate(order.len() - draw.below(3));
+    let sets: Vec<Set> = (0..8).map(|_| set(draw, rules)).filter(|set| rules.book.holds(set)).collect();
+    let any = |draw: &mut Draw| sets.get(draw.below(sets.len())).cloned().unwrap_or_default();
+    let entries = order.iter().map(|(site, round)| Entry { site: *site, round: *round, nc: any(draw), c: any(draw) });
+    *log = entries.flat_map(|entry| entry.bytes()).collect();
+    site.log_position = log.len() / 18 - draw.below(3);
 }
 
 /// A buffer at least as long as asked for, with bytes of any kind past its content.

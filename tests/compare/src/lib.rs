@@ -4,8 +4,9 @@
 //! their number and their seed, BEURILMA_FUZZ_SECONDS the time spent on damaged bytes. With `--features archive`
 //! and BEURILMA_ARCHIVE, the path of the proved program's static archive, every print is compared with its print.
 //!
-//! It also makes 100,000 calls of the one-site engine (BEURILMA_CALLS): with `--features host` and BEURILMA_HOST_ARCHIVE,
-//! the path of the engine's static archive, in the archive, else in a stand-in. Each is compared with the reference.
+//! It also makes 100,000 calls of the one-site engine (BEURILMA_CALLS changes their number) and compares each with
+//! the reference: calls of the engine's static archive with `--features host` and BEURILMA_HOST_ARCHIVE, its path,
+//! else of a stand-in.
 
 pub mod books;
 pub mod damage;

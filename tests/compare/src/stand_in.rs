@@ -291,7 +291,7 @@ impl Engine for StandIn {
         let Ok(book) = book else { return 1 };
         let (log, out) = (lent.log.lent(), lent.out.lent_mut());
         let frame = Frame { sites: lent.sites, faults: lent.faults, book };
-        if call.has_log() && log.len() % 18 != 0 {
+        if call.has_log() && !log.len().is_multiple_of(18) {
             return 3;
         }
         if !frame.is_site(site) || call.has_log() && !frame.has_read_well(site, log) {

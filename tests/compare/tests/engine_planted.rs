@@ -242,13 +242,13 @@ fn with_log(call: &Call, lent: &mut Lent, log: &[u8]) -> u32 {
 
 fn third_entry_of_the_entries_read(call: &Call, lent: &mut Lent) -> u32 {
     match (call, lent.log.lent().get(..18 * position(lent)).map(<[u8]>::to_vec)) {
-        (Call::Turn { .. }, Some(log)) if lent.log.length() % 18 == 0 => with_log(call, lent, &log),
+        (Call::Turn { .. }, Some(log)) if lent.log.length().is_multiple_of(18) => with_log(call, lent, &log),
         _ => right(call, lent),
     }
 }
 
 fn third_entry_only_in_range(call: &Call, lent: &mut Lent) -> u32 {
-    if !matches!(call, Call::Turn { .. }) || lent.log.length() % 18 != 0 {
+    if !matches!(call, Call::Turn { .. }) || !lent.log.length().is_multiple_of(18) {
         return right(call, lent);
     }
     let (count, read) = (commands(lent), position(lent));
@@ -262,7 +262,7 @@ fn third_entry_only_in_range(call: &Call, lent: &mut Lent) -> u32 {
 fn log_read_takes_round_33(call: &Call, lent: &mut Lent) -> u32 {
     let log: Vec<u8> = lent.log.lent().to_vec();
     let at = 18 * position(lent);
-    if *call == Call::LogRead && log.get(at + 1) == Some(&33) && log.len() % 18 == 0 {
+    if *call == Call::LogRead && log.get(at + 1) == Some(&33) && log.len().is_multiple_of(18) {
         let mut other = log;
         other[at + 1] = 32;
         return with_log(call, lent, &other);
