@@ -110,7 +110,7 @@ impl Frame {
             if valid.iter().flatten().count() >= self.enough() {
                 let all = valid.iter().flatten().fold(0, |all, (nc, c)| all | nc | c);
                 let votes = |m: &usize| valid.iter().flatten().filter(|(nc, _)| nc >> m & 1 == 1).count();
-                let is_chosen = |m: &usize| 2 * votes(m) >= self.enough() + 1;
+                let is_chosen = |m: &usize| 2 * votes(m) > self.enough();
                 let nc = members(all).filter(is_chosen).fold(0, |nc, m| nc | 1 << m);
                 return Some((nc, all & !nc));
             }
