@@ -3,12 +3,24 @@
 //! `cargo test --offline` plays 20,000 runs and checks demand 3 of each. BEURILMA_RUNS and BEURILMA_SEED change
 //! their number and their seed, BEURILMA_FUZZ_SECONDS the time spent on damaged bytes. With `--features archive`
 //! and BEURILMA_ARCHIVE, the path of the proved program's static archive, every print is compared with its print.
+//!
+//! It also makes 100,000 calls of the one-site engine (BEURILMA_CALLS changes their number) and compares each with
+//! the reference: calls of the engine's static archive with `--features host` and BEURILMA_HOST_ARCHIVE, its path,
+//! else of a stand-in.
 
 pub mod books;
 pub mod damage;
 pub mod draw;
 pub mod driver;
+#[cfg(feature = "host")]
+pub mod engine;
+pub mod expected;
 pub mod generator;
+pub mod lent_calls;
+pub mod lent_check;
+pub mod lent_damage;
+pub mod lent_draw;
+pub mod lent_scenes;
 pub mod noise;
 pub mod parts;
 pub mod program;
@@ -16,4 +28,6 @@ pub mod program;
 pub mod proved;
 pub mod settings;
 pub mod shrink;
+pub mod site_bytes;
+pub mod stand_in;
 pub mod statistics;

@@ -1,0 +1,302 @@
+//! A stand-in for the engine of the archive: the header's calls carried out on the lent bytes themselves, with sets
+//! as words. It shares no code with `site_bytes` and `expected`, so that each of them checks the other;
+//! only books and what a command does to a bike are the reference's.
+
+use crate::lent_calls::{Call, Engine, Lent};
+use reference::{Book, Register};
+
+const SITE: usize = 3533;
+const DELIVERED: usize = 13;
+const PENDING: usize = 21;
+const FAST: usize = 29;
+const NC: usize = 37;
+const C: usize = 45;
+const HEARD: usize = 53;
+const BIKES: usize = 2957;
+const DELIVERIES: usize = 3213;
+
+pub struct StandIn;
+
+/// The table and book of a call.
+struct Frame {
+    sites: usize,
+    faults: usize,
+    book: Book,
+}
+
+fn word(bytes: &[u8], at: usize) -> u64 {
+    let mut eight = [0; 8];
+    eight.copy_from_slice(&bytes[at..at + 8]);
+    u64::from_le_bytes(eight)
+}
+
+fn put_word(bytes: &mut [u8], at: usize, word: u64) {
+    bytes[at..at + 8].copy_from_slice(&word.to_le_bytes());
+}
+
+fn number(bytes: &[u8], at: usize) -> u32 {
+    u32::from_le_bytes([bytes[at], bytes[at + 1], bytes[at + 2], bytes[at + 3]])
+}
+
+fn log_position(site: &[u8]) -> usize {
+    usize::from(site[3]) + 256 * usize::from(site[4])
+}
+
+fn heard_at(sender: usize, round: usize) -> usize {
+    HEARD + (sender * 33 + round - 1) * 8
+}
+
+/// The commands of a set in rising order.
+fn members(set: u64) -> impl Iterator<Item = usize> {
+    (0..64).filter(move |m| set >> m & 1 == 1)
+}
+
+impl Frame {
+    fn count(&self) -> usize {
+        self.book.count()
+    }
+
+    fn holds(&self, set: u64) -> bool {
+        set.checked_shr(self.count() as u32).unwrap_or(0) == 0
+    }
+
+    fn is_free_of_conflict(&self, set: u64) -> bool {
+        members(set).all(|a| members(set).all(|b| !self.book.conflict(a, b)))
+    }
+
+    fn enough(&self) -> usize {
+        self.sites - self.faults
+    }
+
+    /// Whether the bytes are a site, its log position apart.
+    fn is_site(&self, site: &[u8]) -> bool {
+        let recorded = usize::from(site[2]);
+        let is_zero = |part: &[u8]| part.iter().all(|byte| *byte == 0);
+        (1..=33).contains(&site[0])
+            && site[1] <= 1
+            && recorded <= self.count()
+            && (5..BIKES).step_by(8).all(|at| self.holds(word(site, at)))
+            && (site[1] == 1 || is_zero(&site[NC..HEARD]))
+            && is_zero(&site[heard_at(self.sites, 1)..BIKES])
+            && (BIKES..DELIVERIES).step_by(8).all(|at| number(site, at) <= 999_999)
+            && (0..recorded).all(|k| usize::from(site[DELIVERIES + 5 * k]) < self.count())
+            && is_zero(&site[DELIVERIES + 5 * recorded..])
+    }
+
+    /// What a log read answers for the entry at this place.
+    fn judge_entry(&self, log: &[u8], place: usize) -> u32 {
+        let entry = &log[18 * place..18 * place + 18];
+        let fits = usize::from(entry[0]) < self.sites && (1..=32).contains(&entry[1]);
+        if !fits || !self.holds(word(entry, 2)) || !self.holds(word(entry, 10)) {
+            return 4;
+        }
+        7 * u32::from(entries_of(&log[..18 * place], entry[0], entry[1]) >= 2)
+    }
+
+    fn has_read_well(&self, site: &[u8], log: &[u8]) -> bool {
+        let position = log_position(site);
+        18 * position <= log.len() && (0..position).all(|place| self.judge_entry(log, place) == 0)
+    }
+
+    /// The sets NC and C of a decided round.
+    fn decision(&self, site: &[u8], log: &[u8]) -> Option<(u64, u64)> {
+        let mut seen = [0; 11];
+        let mut valid: [Option<(u64, u64)>; 11] = [None; 11];
+        for entry in log[..18 * log_position(site)].chunks(18).filter(|entry| entry[1] == site[0]) {
+            let source = usize::from(entry[0]);
+            seen[source] += 1;
+            let stands = seen[source] == 1 && self.is_free_of_conflict(word(entry, 2));
+            valid[source] = stands.then_some((word(entry, 2), word(entry, 10)));
+            if valid.iter().flatten().count() >= self.enough() {
+                let all = valid.iter().flatten().fold(0, |all, (nc, c)| all | nc | c);
+                let votes = |m: &usize| valid.iter().flatten().filter(|(nc, _)| nc >> m & 1 == 1).count();
+                let is_chosen = |m: &usize| 2 * votes(m) > self.enough();
+                let nc = members(all).filter(is_chosen).fold(0, |nc, m| nc | 1 << m);
+                return Some((nc, all & !nc));
+            }
+        }
+        None
+    }
+
+    /// Executes commands and records their answers; 9 where the record has no room for all of them.
+    fn deliver(&self, site: &mut [u8], commands: &[usize]) -> u32 {
+        if usize::from(site[2]) + commands.len() > self.count() {
+            return 9;
+        }
+        for m in commands {
+            let Some(command) = self.book.command(*m) else { continue };
+            let mut register = Register::default();
+            let at = BIKES + 8 * command.bike;
+            register.readings[command.bike] = number(site, at);
+            register.dashes[command.bike] = number(site, at + 4);
+            let answer = register.execute(command);
+            site[at..at + 4].copy_from_slice(&register.readings[command.bike].to_le_bytes());
+            site[at + 4..at + 8].copy_from_slice(&register.dashes[command.bike].to_le_bytes());
+            let at = DELIVERIES + 5 * usize::from(site[2]);
+            site[at] = *m as u8;
+            site[at + 1..at + 5].copy_from_slice(&answer.to_le_bytes());
+            site[2] += 1;
+        }
+        0
+    }
+}
+
+/// How many entries of a site and round are in the log.
+fn entries_of(log: &[u8], site: u8, round: u8) -> usize {
+    log.chunks(18).filter(|entry| entry[0] == site && entry[1] == round).count()
+}
+
+fn receive(site: &mut [u8], set: u64) -> u32 {
+    let received = word(site, 5);
+    put_word(site, 5, received | set);
+    0
+}
+
+fn turn(frame: &Frame, site: &mut [u8], log: &[u8], own: usize, out: &mut [u8]) -> u32 {
+    let (open, pending) = (word(site, 5) & !word(site, DELIVERED), word(site, PENDING));
+    if own >= frame.sites {
+        return 4;
+    }
+    if site[1] == 1 || open & !pending == 0 {
+        return 6;
+    }
+    if frame.is_free_of_conflict(open) {
+        put_word(site, PENDING, open);
+        out[0] = 1;
+        put_word(out, 1, open);
+        return 0;
+    }
+    if entries_of(log, own as u8, site[0]) >= 2 {
+        return 7;
+    }
+    if site[0] == 33 {
+        return 8;
+    }
+    site[1] = 1;
+    put_word(site, NC, pending);
+    put_word(site, C, open & !pending);
+    out[0] = 2;
+    put_word(out, 1, open);
+    (out[9], out[10]) = (own as u8, site[0]);
+    put_word(out, 11, pending);
+    put_word(out, 19, open & !pending);
+    0
+}
+
+fn fast_delivery(frame: &Frame, site: &mut [u8], command: usize) -> u32 {
+    if command >= frame.count() {
+        return 4;
+    }
+    let (bit, round) = (1 << command, usize::from(site[0]));
+    let senders = (0..frame.sites).filter(|sender| word(site, heard_at(*sender, round)) & bit != 0).count();
+    if word(site, PENDING) & !word(site, FAST) & bit == 0 || senders < frame.enough() {
+        return 6;
+    }
+    let answer = frame.deliver(site, &[command]);
+    if answer == 0 {
+        let fast = word(site, FAST);
+        put_word(site, FAST, fast | bit);
+    }
+    answer
+}
+
+fn log_read(frame: &Frame, site: &mut [u8], log: &[u8]) -> u32 {
+    let position = log_position(site);
+    if 18 * position == log.len() {
+        return 6;
+    }
+    let answer = frame.judge_entry(log, position);
+    if answer == 0 {
+        site[3..5].copy_from_slice(&(position as u16 + 1).to_le_bytes());
+    }
+    answer
+}
+
+fn round_end(frame: &Frame, site: &mut [u8], log: &[u8]) -> u32 {
+    if site[1] == 0 {
+        return 6;
+    }
+    let Some((nc, c)) = frame.decision(site, log) else { return 6 };
+    let delivered = word(site, DELIVERED);
+    let new = !delivered & !word(site, FAST);
+    let commands: Vec<usize> = members(nc & new).chain(members(c & new)).collect();
+    let answer = frame.deliver(site, &commands);
+    if answer == 0 {
+        put_word(site, DELIVERED, delivered | nc | c);
+        (site[0], site[1]) = (site[0] + 1, 0);
+        site[PENDING..HEARD].fill(0);
+    }
+    answer
+}
+
+/// Copies a part of the site out.
+fn copy(out: &mut [u8], part: &[u8]) -> u32 {
+    out[..part.len()].copy_from_slice(part);
+    0
+}
+
+/// The call on bytes that are a site, with entries read that are well.
+fn step(call: &Call, frame: &Frame, site: &mut [u8], log: &[u8], out: &mut [u8]) -> u32 {
+    match *call {
+        Call::ReceiveCommand { command } if command < frame.count() => receive(site, 1 << command),
+        Call::ReceiveCheck { set } if frame.holds(set) => receive(site, set),
+        Call::ReceiveAcknowledgment { sender, round, set }
+            if sender < frame.sites && (1..=33).contains(&round) && frame.holds(set) =>
+        {
+            let at = heard_at(sender, round);
+            let heard = word(site, at);
+            put_word(site, at, heard | set);
+            receive(site, set)
+        }
+        Call::Turn { own } => turn(frame, site, log, own, out),
+        Call::FastDelivery { command } => fast_delivery(frame, site, command),
+        Call::LogRead => log_read(frame, site, log),
+        Call::RoundEnd => round_end(frame, site, log),
+        Call::Status => copy(out, &[site[0], site[1], site[2], site[3], site[4]]),
+        Call::Bike { bike } if bike < 32 => copy(out, &site[BIKES + 8 * bike..BIKES + 8 * bike + 8]),
+        Call::Delivery { place } if place < usize::from(site[2]) => {
+            copy(out, &site[DELIVERIES + 5 * place..DELIVERIES + 5 * place + 5])
+        }
+        _ => 4,
+    }
+}
+
+fn is_table(sites: usize, faults: usize) -> bool {
+    faults <= 2 && sites <= 11 && sites > 5 * faults
+}
+
+impl Engine for StandIn {
+    fn call(&mut self, call: &Call, lent: &mut Lent) -> u32 {
+        let book = Book::read(lent.book.lent());
+        let is_table = is_table(lent.sites, lent.faults);
+        if let Call::JudgeTable { mask } = call {
+            let fits = is_table && mask >> lent.sites == 0 && mask.count_ones() as usize <= lent.faults;
+            return 2 * u32::from(!fits);
+        }
+        if *call == Call::JudgeBook {
+            return u32::from(book.is_err());
+        }
+        if lent.site.length() < SITE || lent.out.length() < call.out_bytes() {
+            return 9;
+        }
+        let site = &mut lent.site.lent_mut()[..SITE];
+        if *call == Call::Fresh {
+            site.fill(0);
+            site[0] = 1;
+            return 0;
+        }
+        if !is_table {
+            return 2;
+        }
+        let Ok(book) = book else { return 1 };
+        let (log, out) = (lent.log.lent(), lent.out.lent_mut());
+        let frame = Frame { sites: lent.sites, faults: lent.faults, book };
+        if call.has_log() && !log.len().is_multiple_of(18) {
+            return 3;
+        }
+        if !frame.is_site(site) || call.has_log() && !frame.has_read_well(site, log) {
+            return 4;
+        }
+        step(call, &frame, site, log, out)
+    }
+}
