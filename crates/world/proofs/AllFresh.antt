@@ -1,0 +1,91 @@
+-- All sites fresh and nothing sent: the start of a run.
+-- Assumes nothing.
+use mathlib.Core.Path.{_≡_, refl, sym, ap, subst, _∙_}
+use mathlib.Core.Bool.{Bool, true, false}
+use mathlib.Core.List.{List, []}
+use mathlib.Core.Option.{none}
+use mathlib.Core.Logic.{⊎-elim}
+use Prim.Native.Nat.{ℕ, _+_, _*_, _≤_, _<_}
+use native.Mathlib.Omega.{arith}
+use native.Mathlib.Decide.{ℕ-discrete}
+use lib.Dec.{ltb}
+use lib.ListN.{length, take, drop}
+use borrow.Author.Tests.{ltb-true}
+use borrow.Rule.Slice.PartMut.{putMid}
+use Rattle.theory.specs.Sets.{pick}
+use Rattle.theory.specs.Lists.{nth}
+use Rattle.wire.specs.Wire.{splice}
+use Rattle.table.specs.declared.SiteTable.{SiteTable}
+use Rattle.register.specs.declared.Command.{Command}
+use Rattle.protocol.specs.Site as protocol
+use Rattle.protocol.specs.World.{start}
+use Rattle.system.specs.Dash.{dash}
+use Rattle.layout.specs.Layout.{siteSize, view}
+use Rattle.layout.specs.Good.{Holds}
+use Rattle.entries.specs.Entries.{logTo}
+use Rattle.entries.proofs.Logs.{log-none}
+use Rattle.sent.specs.Sent as sent
+use Rattle.sent.specs.Sent.{cells, clearedTo}
+use Rattle.world.specs.World.{Buffers, maxLog, siteAt, knownTo, HoldsWorld}
+use Rattle.world.specs.Started.{Started}
+use Rattle.world.proofs.Sites.{site-same, site-other, given-back}
+
+-- The first n sites are fresh, whatever the table and the book.
+pub record FreshTo (n : ℕ) (sites : List ℕ) : Type 0 where
+  pub site : (i : ℕ) → i < n → (t : SiteTable) (book : List Command) → Holds t book (siteAt sites i) (protocol.fresh (dash t book))
+
+pub fresh-none : (sites : List ℕ) → FreshTo 0 sites
+fresh-none sites = record { site = λ i l. absurd (omega arith) }
+
+-- One site more, written by way of its part.
+pub fresh-more : (sites : List ℕ) (n k : ℕ) (ys : List ℕ) → k ≡ siteSize → n * siteSize + siteSize ≤ length sites → length ys ≡ siteSize → FreshTo n sites
+    → ((t : SiteTable) (book : List Command) → Holds t book ys (protocol.fresh (dash t book)))
+    → FreshTo (n + 1) (putMid (n * siteSize) k sites ys)
+fresh-more sites n k ys e room size f h =
+    subst (FreshTo (n + 1)) (sym (given-back sites n k e ys size))
+    (record {
+      site =
+          λ i l t book.
+          elim (ℕ-discrete i n) [
+            | yes q ↦
+                subst (λ (y : List ℕ). Holds t book y (protocol.fresh (dash t book)))
+                (sym (ap (siteAt (splice sites (n * siteSize) ys)) q ∙ site-same sites n ys room size)) (h t book)
+            | no m ↦
+                subst (λ (y : List ℕ). Holds t book y (protocol.fresh (dash t book))) (sym (site-other sites n ys room size i m)) (f .site i (omega arith) t book)
+          ];
+    })
+
+-- All sites are fresh and nothing is sent.
+pub started : (t : SiteTable) (n : ℕ) {sites now before : List ℕ} → n ≡ t .sites → length sites ≡ t .sites * siteSize → FreshTo n sites
+    → sent.Holds now (clearedTo cells before) (λ j r. []) (λ j r. none) → Started t sites now before
+started t n {sites} {now} {before} e size f h =
+    record {
+      holds =
+          λ book log short.
+          record {
+            site = λ i l. f .site i (omega arith) t book;
+            says =
+                λ k.
+                record {
+                  site = λ i. point book i (ltb i (t .sites)) refl k;
+                  log = log-none log k;
+                  acks = h .acks k;
+                  checks = h .checks k;
+                };
+            good =
+                record {
+                  size = size;
+                  site = λ i l. f .site i (omega arith) t book .good;
+                  room = omega arith;
+                  short = short;
+                  sent = h .good;
+                  acks = λ j r k. ap (λ (a : ℕ → ℕ → List (ℕ → Bool)). knownTo (length book) (nth (a j r) k)) (h .acks);
+                  checks = λ j r. λ k. knownTo (length book) (h .checks k j r);
+                };
+          };
+      bytes = h .bytes;
+    }
+  where
+    point : (book : List Command) (i : ℕ) (x : Bool) → ltb i (t .sites) ≡ x → pick x (view t book (siteAt sites i)) (protocol.fresh (dash t book)) ≡ protocol.fresh (dash t book)
+    point book i true q = f .site i (let l = ltb-true i (t .sites) q in omega arith) t book .says
+    point book i false q = refl

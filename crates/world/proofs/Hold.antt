@@ -1,0 +1,131 @@
+-- What the buffers hold after a step: nothing changed, or one site did.
+-- Assumes nothing.
+use mathlib.Core.Path.{_≡_, refl, sym, ap, subst, _∙_}
+use mathlib.Core.Bool.{Bool}
+use mathlib.Core.List.{List}
+use Prim.Native.Nat.{ℕ, _+_, _*_, _≤_, _<_}
+use native.Mathlib.Omega.{arith}
+use native.Mathlib.Decide.{ℕ-discrete}
+use lib.Dec.{eqb, ltb}
+use lib.ListN.{length, getD}
+use borrow.Author.Tests.{lt-ltb, eq-eqb, ne-eqb}
+use Rattle.refusals.specs.declared.Refusal.{Refusal}
+use Rattle.refusals.specs.declared.Verdict.{Verdict}
+use Rattle.refusals.specs.declared.Verdict.the-variants.{Taken, Refused}
+use Rattle.theory.specs.Sets.{pick}
+use Rattle.wire.specs.Wire.{splice}
+use Rattle.wire.proofs.Laws.{length-splice}
+use Rattle.table.specs.declared.SiteTable.{SiteTable}
+use Rattle.register.specs.declared.Command.{Command}
+use Rattle.protocol.specs.Site as protocol
+use Rattle.protocol.specs.World.{World, Step, put, judge, change, step, settle}
+use Rattle.protocol.specs.CommonSequence.{isTaken}
+use Rattle.system.specs.Dash.{dash}
+use Rattle.layout.specs.Layout.{siteSize, view}
+use Rattle.layout.specs.Good.{Good, Holds}
+use Rattle.layout.proofs.Finish.{unchanged}
+use Rattle.world.specs.World.{Buffers, siteAt, GoodWorld, worldOf, HoldsWorld, logWritten, sentWritten, Outcome}
+use Rattle.world.proofs.Sites.{site-same, site-other, small-site}
+
+-- The buffers with other bytes of site i.
+abbrev pub putSite : Buffers → ℕ → List ℕ → Buffers
+putSite b i ys = record { sites = splice (b .sites) (i * siteSize) ys; log = b .log; entries = b .entries; sent = b .sent }
+
+module _ (t : SiteTable) (book : List Command) (b : Buffers) (good : GoodWorld t (length book) b) where
+  pub site-room : (i : ℕ) → i < t .sites → i * siteSize + siteSize ≤ length (b .sites)
+  site-room i l = omega (arith, good .size)
+
+  -- A site that there is is seen in its bytes.
+  pub seen : (i : ℕ) → i < t .sites → worldOf t book b .site i ≡ view t book (siteAt (b .sites) i)
+  seen i l = ap (λ (x : Bool). pick x (view t book (siteAt (b .sites) i)) (protocol.fresh (dash t book))) (lt-ltb i (t .sites) l)
+
+  module _ (small : (k : ℕ) → getD (b .sites) k 0 < 256) where
+    pub kept : HoldsWorld t book b (worldOf t book b)
+    kept =
+        record {
+          site =
+              λ i l.
+              subst (Holds t book (siteAt (b .sites) i)) (sym (seen i l)) (unchanged t book (good .site i l) (small-site (b .sites) small i));
+          says = refl;
+          good = good;
+        }
+
+    -- Site i has another state.
+    module _ (i : ℕ) (inside : i < t .sites) {ys : List ℕ} {s : protocol.Site (dash t book)} (h : Holds t book ys s) where
+      room : i * siteSize + siteSize ≤ length (b .sites)
+      room = site-room i inside
+
+      this : siteAt (putSite b i ys .sites) i ≡ ys
+      this = site-same (b .sites) i ys room (h .good .size)
+
+      other : (j : ℕ) → (j ≡ i → ⊥) → siteAt (putSite b i ys .sites) j ≡ siteAt (b .sites) j
+      other j n = site-other (b .sites) i ys room (h .good .size) j n
+
+      site-after : (j : ℕ) → j < t .sites → Holds t book (siteAt (putSite b i ys .sites) j) (put (dash t book) i s (worldOf t book b) .site j)
+      site-after j l =
+          elim (ℕ-discrete j i) [
+            | yes e ↦
+                subst (λ (y : List ℕ). Holds t book y (put (dash t book) i s (worldOf t book b) .site j)) (sym (ap (siteAt (putSite b i ys .sites)) e ∙ this))
+                (subst (Holds t book ys) (sym (ap (λ (x : Bool). pick x s (worldOf t book b .site j)) (eq-eqb j i e))) h)
+            | no n ↦
+                subst (λ (y : List ℕ). Holds t book y (put (dash t book) i s (worldOf t book b) .site j)) (sym (other j n))
+                (subst (Holds t book (siteAt (b .sites) j)) (sym (ap (λ (x : Bool). pick x s (worldOf t book b .site j)) (ne-eqb j i n))) (kept .site j l))
+          ]
+
+      point : (j : ℕ) → worldOf t book (putSite b i ys) .site j ≡ put (dash t book) i s (worldOf t book b) .site j
+      point j =
+          elim (ℕ-discrete j i) [
+            | yes e ↦
+                ap (λ (x : Bool). pick x (view t book (siteAt (putSite b i ys .sites) j)) (protocol.fresh (dash t book))) (lt-ltb j (t .sites) (omega arith))
+                ∙ ap (λ (y : List ℕ). view t book y) (ap (siteAt (putSite b i ys .sites)) e ∙ this)
+                ∙ h .says
+                ∙ sym (ap (λ (x : Bool). pick x s (worldOf t book b .site j)) (eq-eqb j i e))
+            | no n ↦
+                ap (λ (y : List ℕ). pick (ltb j (t .sites)) (view t book y) (protocol.fresh (dash t book))) (other j n)
+                ∙ sym (ap (λ (x : Bool). pick x s (worldOf t book b .site j)) (ne-eqb j i n))
+          ]
+
+      pub put-holds : HoldsWorld t book (putSite b i ys) (put (dash t book) i s (worldOf t book b))
+      put-holds =
+          record {
+            site = site-after;
+            says =
+                λ k. record { site = λ j. point j k; log = worldOf t book b .log; acks = worldOf t book b .acks; checks = worldOf t book b .checks };
+            good =
+                record {
+                  size = let r = room in let z = h .good .size in length-splice (b .sites) (i * siteSize) ys (omega arith) ∙ good .size;
+                  site = λ j l. site-after j l .good;
+                  room = good .room;
+                  short = good .short;
+                  sent = good .sent;
+                  acks = good .acks;
+                  checks = good .checks;
+                };
+          }
+
+  -- ---- how a step ends
+
+  module _ (u : Step) where
+    pub refused : (r : Refusal) → judge (dash t book) (worldOf t book b) u ≡ Refused r → ((k : ℕ) → getD (b .sites) k 0 < 256) → Outcome t book u b (Refused r) b
+    refused r e small =
+        record {
+          verdict = sym e;
+          holds =
+              subst (λ (v : Verdict). HoldsWorld t book b (settle (dash t book) v (change (dash t book) (worldOf t book b) u) (worldOf t book b))) (sym e)
+              (kept small);
+          log = sym (ap (λ (v : Verdict). pick (isTaken v) (logWritten t book (worldOf t book b) u b) (b .log)) e);
+          sent = sym (ap (λ (v : Verdict). pick (isTaken v) (sentWritten t book (worldOf t book b) u b) (b .sent)) e);
+        }
+
+    pub taken : {after : Buffers} → judge (dash t book) (worldOf t book b) u ≡ Taken
+        → HoldsWorld t book after (change (dash t book) (worldOf t book b) u)
+        → after .log ≡ logWritten t book (worldOf t book b) u b → after .sent ≡ sentWritten t book (worldOf t book b) u b
+        → Outcome t book u b Taken after
+    taken {after} e h el es =
+        record {
+          verdict = sym e;
+          holds =
+              subst (λ (v : Verdict). HoldsWorld t book after (settle (dash t book) v (change (dash t book) (worldOf t book b) u) (worldOf t book b))) (sym e) h;
+          log = el ∙ sym (ap (λ (v : Verdict). pick (isTaken v) (logWritten t book (worldOf t book b) u b) (b .log)) e);
+          sent = es ∙ sym (ap (λ (v : Verdict). pick (isTaken v) (sentWritten t book (worldOf t book b) u b) (b .sent)) e);
+        }
