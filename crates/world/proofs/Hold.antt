@@ -25,6 +25,7 @@ use Rattle.layout.specs.Layout.{siteSize, view}
 use Rattle.layout.specs.Good.{Good, Holds}
 use Rattle.layout.proofs.Finish.{unchanged}
 use Rattle.world.specs.World.{Buffers, siteAt, GoodWorld, worldOf, HoldsWorld, logWritten, sentWritten, Outcome}
+use Rattle.world.specs.Parts.{lent, AtSite}
 use Rattle.world.proofs.Sites.{site-same, site-other, small-site}
 
 -- The buffers with other bytes of site i.
@@ -129,3 +130,18 @@ module _ (t : SiteTable) (book : List Command) (b : Buffers) (good : GoodWorld t
           log = el ∙ sym (ap (λ (v : Verdict). pick (isTaken v) (logWritten t book (worldOf t book b) u b) (b .log)) e);
           sent = es ∙ sym (ap (λ (v : Verdict). pick (isTaken v) (sentWritten t book (worldOf t book b) u b) (b .sent)) e);
         }
+
+    -- A step that changes one site and is taken.
+    pub one-site : ((k : ℕ) → getD (b .sites) k 0 < 256) → (i : ℕ) → i < t .sites → {promise : List ℕ → List ℕ → Type 0} {sites : List ℕ}
+        → (h : AtSite i promise (b .sites) sites) → (f : protocol.Site (dash t book) → protocol.Site (dash t book))
+        → Holds t book (h .new) (f (view t book (siteAt (b .sites) i)))
+        → judge (dash t book) (worldOf t book b) u ≡ Taken
+        → change (dash t book) (worldOf t book b) u ≡ put (dash t book) i (f (worldOf t book b .site i)) (worldOf t book b)
+        → b .log ≡ logWritten t book (worldOf t book b) u b → b .sent ≡ sentWritten t book (worldOf t book b) u b
+        → Outcome t book u b Taken (lent sites (b .log) (b .entries) (b .sent))
+    one-site small i inside h f holds e ec el es =
+        subst (λ (y : List ℕ). Outcome t book u b Taken (lent y (b .log) (b .entries) (b .sent))) (sym (h .bytes))
+        (taken e
+        (subst (HoldsWorld t book (putSite b i (h .new))) (sym ec)
+        (put-holds small i inside (subst (λ (s : protocol.Site (dash t book)). Holds t book (h .new) (f s)) (sym (seen i inside)) holds)))
+        el es)

@@ -50,8 +50,7 @@ loop-again c =
     let l = c .before .before .before .before .before .loop in
     let k = c .before .before in
     let e : (l .i * siteSize + siteSize) - l .i * siteSize ≡ siteSize = omega arith in
-    let room : l .i * siteSize + siteSize ≤ length (l .sites) = omega arith in
-    (
+    let room : l .i * siteSize + siteSize ≤ length (l .sites) = omega arith in (
       omega arith,
       search needs,
       fresh-more (l .sites) (l .i) ((l .i * siteSize + siteSize) - l .i * siteSize) _ e room

@@ -1,0 +1,60 @@
+-- `arrivals::false_check`: one law for each answer.
+-- Assumes nothing.
+use borrow.Author.Needs.{needs}
+use denote.Ref.{now}
+use native.Mathlib.Omega.{arith}
+use mathlib.Core.Path.{sym, _∙_}
+use Rattle.arrivals.proofs.Arriving.{false-check-refused, false-checked}
+use Rattle.arrivals.proofs.Judging.{passed}
+use Rattle.arrivals.proofs.false_check.Statement.{statement}
+use Rattle.arrivals.proofs.false_check.Tie as tie
+
+within-requires : tie.Need-within-requires
+within-requires c κs = search needs
+
+is-faulty-requires : tie.Need-is-faulty-requires
+is-faulty-requires c κs = search needs
+
+judge-message-requires : tie.Need-judge-message-requires
+judge-message-requires c κs = search needs
+
+enum-known-verdict : tie.Need-enum-known-verdict
+enum-known-verdict c = search needs
+
+returns : tie.Need-returns
+returns c =
+    let o = c .before .before .before .before .before .before .before in
+    λ sent. false-check-refused (o .args .table) (o .args .commands) sent (now (o .args .sites)) (λ k. c .before .before .before .before .before .before .slice-known .given k .fits) (o .args .i) (o .args .j) (o .args .r) (o .args .set) (c .before .before .before .before .before .within .ensures) (c .before .before .before .before .is-faulty .ensures) (c .before .before .before .judge-message .ensures) _ (c .before .verdict .given .1)
+
+enum-told : tie.Need-enum-told
+enum-told c = search needs
+
+receive-requires : tie.Need-receive-requires
+receive-requires c κs =
+    let o = c .before .before .before .before .before .before .before in
+    let p = passed (o .args .table) (o .args .i) (o .args .j) (o .args .r) (c .before .before .before .before .before .within .result) (c .before .before .before .before .is-faulty .result) (sym (c .before .before .before .judge-message .ensures) ∙ c .before .enum-told .given .1) in
+    let q = p .receiver in
+    omega (arith, o .pre)
+
+same-length : tie.Need-same-length
+same-length c = search needs
+
+returns-2 : tie.Need-returns-2
+returns-2 c =
+    let o = c .before .before .before .before .before .before .before .before .before .before in
+    λ sent. false-checked (o .args .table) (o .args .commands) sent (now (o .args .sites)) (λ k. c .before .before .before .before .before .before .before .before .before .slice-known .given k .fits) (o .args .i) (o .args .j) (o .args .r) (o .args .set) (c .before .before .before .before .before .before .before .before .within .ensures) (c .before .before .before .before .before .before .before .is-faulty .ensures) (c .before .before .before .before .before .before .judge-message .ensures) (c .before .before .before .before .enum-told .given .1)
+    (passed (o .args .table) (o .args .i) (o .args .j) (o .args .r) (c .before .before .before .before .before .before .before .before .within .result) (c .before .before .before .before .before .before .before .is-faulty .result) (sym (c .before .before .before .before .before .before .judge-message .ensures) ∙ c .before .before .before .before .enum-told .given .1)) (c .before .before .receive .ensures)
+
+pub false-check-spec : {M : Type 1} → statement M
+false-check-spec =
+    tie.close
+    (tie.spec
+    within-requires
+    is-faulty-requires
+    judge-message-requires
+    enum-known-verdict
+    returns
+    enum-told
+    receive-requires
+    same-length
+    returns-2)

@@ -1,0 +1,223 @@
+// Steps 01 to 06: a command or a message reaches a site, and a faulty site's entry reaches the log.
+ghost use mathlib.Core.Path.{_≡_};
+ghost use mathlib.Core.Bool.{true};
+ghost use mathlib.Core.List.{List};
+ghost use Prim.Native.Nat.{_+_, _*_, _≤_, _<_, ℕ};
+ghost use lib.ListN.{length};
+ghost use Rattle.sets.specs.Sets.{capacity, inSet};
+ghost use Rattle.table.specs.Table.{maxSites, isGood};
+ghost use Rattle.protocol.specs.World as protocol;
+ghost use Rattle.layout.specs.Layout.{siteSize, siteRounds};
+ghost use Rattle.site.specs.Steps.{Received, Heard};
+ghost use Rattle.entries.specs.Entries.{entrySize};
+ghost use Rattle.sent.specs.Sent.{GoodSent};
+ghost use Rattle.world.specs.Parts.{AtSite, Arrived, Entered};
+ghost use Rattle.arrivals.specs.Messages.{messageVerdict};
+use entries::Entry;
+use layout::Site;
+use refusals::Refusal;
+use refusals::Verdict;
+use sent::Message;
+use sets::Set;
+use table::SiteTable;
+use world::Stepped;
+
+// A set joins what site i received.
+fn receive(sites: &mut [u8], i: usize, set: Set)
+    requires { ⌜ i * siteSize + siteSize ≤ length (now sites) ⌝ }
+    ensures { λ _. ⌜ AtSite i (Received set) (now (sites .entry)) (now (sites .exit)) ⌝ }
+{
+    let from = i * Site::SIZE;
+    let to = from + Site::SIZE;
+    site::receive(&mut sites[from..to], set);
+}
+
+// Site i hears an acknowledgment of site j in round r.
+fn hear(sites: &mut [u8], i: usize, j: usize, r: usize, set: Set)
+    requires { ⌜ (i * siteSize + siteSize ≤ length (now sites)) × (j < maxSites) × (1 ≤ r) × (r ≤ siteRounds) ⌝ }
+    ensures { λ _. ⌜ AtSite i (Heard j r set) (now (sites .entry)) (now (sites .exit)) ⌝ }
+{
+    let from = i * Site::SIZE;
+    let to = from + Site::SIZE;
+    site::hear(&mut sites[from..to], j, r, set);
+}
+
+// The verdict on a message from j to i, by whether its other operands are in range and whether its sender has the role that it is to have.
+fn judge_message(table: SiteTable, i: usize, j: usize, r: usize, other: bool, role: bool) -> Verdict
+    ensures { λ v. ⌜ v ≡ messageVerdict table i j r other role ⌝ }
+{
+    let in_range = (i < table.sites) & (j < table.sites) & (1 <= r) & (r <= Site::ROUNDS) & other;
+    if !in_range {
+        return Verdict::Refused(Refusal::Range);
+    }
+    if table.is_faulty(i) {
+        return Verdict::Refused(Refusal::Role);
+    }
+    if !role {
+        return Verdict::Refused(Refusal::Role);
+    }
+    Verdict::Taken
+}
+
+// 01: command m reaches site i.
+pub fn command(sites: &mut [u8], table: SiteTable, commands: usize, i: usize, m: usize) -> Verdict
+    requires { ⌜ (length (now sites) ≡ table .sites * siteSize) × (commands ≤ capacity) ⌝ }
+    ensures { λ v. ⌜ ((sent : List ℕ) → Arrived table commands (protocol.command i m) sent (now (sites .entry)) v (now (sites .exit))) ⌝ }
+{
+    if i >= table.sites {
+        return Verdict::Refused(Refusal::Range);
+    }
+    if m >= commands {
+        return Verdict::Refused(Refusal::Range);
+    }
+    if table.is_faulty(i) {
+        return Verdict::Refused(Refusal::Role);
+    }
+    let from = i * Site::SIZE;
+    let to = from + Site::SIZE;
+    site::receive_command(&mut sites[from..to], m);
+    Verdict::Taken
+}
+
+// 02: the a-th acknowledgment that correct site j sent in round r reaches site i.
+pub fn acknowledgment(
+    sites: &mut [u8],
+    sent: &[u8],
+    table: SiteTable,
+    i: usize,
+    j: usize,
+    r: usize,
+    a: usize,
+) -> Verdict
+    requires { ⌜ (length (now sites) ≡ table .sites * siteSize) × (isGood table ≡ true) × GoodSent (now sent) ⌝ }
+    ensures { λ v. ⌜ ((commands : ℕ) → Arrived table commands (protocol.acknowledgment i j r a) (now (sent .entry)) (now (sites .entry)) v (now (sites .exit))) ⌝ }
+{
+    let number = (1 <= a) & (a <= Set::CAPACITY);
+    let faulty = table.is_faulty(j);
+    let verdict = judge_message(table, i, j, r, number, !faulty);
+    if let Verdict::Refused(refusal) = verdict {
+        return Verdict::Refused(refusal);
+    }
+    let message = sent::acknowledgment(sent, j, r, a);
+    let Message::Sent(set) = message else {
+        return Verdict::Refused(Refusal::Disabled);
+    };
+    hear(sites, i, j, r, set);
+    Verdict::Taken
+}
+
+// 03: the check message that correct site j sent in round r reaches site i.
+pub fn check(
+    sites: &mut [u8],
+    sent: &[u8],
+    table: SiteTable,
+    i: usize,
+    j: usize,
+    r: usize,
+) -> Verdict
+    requires { ⌜ (length (now sites) ≡ table .sites * siteSize) × (isGood table ≡ true) × GoodSent (now sent) ⌝ }
+    ensures { λ v. ⌜ ((commands : ℕ) → Arrived table commands (protocol.check i j r) (now (sent .entry)) (now (sites .entry)) v (now (sites .exit))) ⌝ }
+{
+    let faulty = table.is_faulty(j);
+    let verdict = judge_message(table, i, j, r, true, !faulty);
+    if let Verdict::Refused(refusal) = verdict {
+        return Verdict::Refused(refusal);
+    }
+    let message = sent::check(sent, j, r);
+    let Message::Sent(set) = message else {
+        return Verdict::Refused(Refusal::Disabled);
+    };
+    receive(sites, i, set);
+    Verdict::Taken
+}
+
+// 04: an acknowledgment of faulty site j reaches site i.
+pub fn false_acknowledgment(
+    sites: &mut [u8],
+    table: SiteTable,
+    commands: usize,
+    i: usize,
+    j: usize,
+    r: usize,
+    set: Set,
+) -> Verdict
+    requires { ⌜ (length (now sites) ≡ table .sites * siteSize) × (isGood table ≡ true) ⌝ }
+    ensures { λ v. ⌜ ((sent : List ℕ) → Arrived table commands (protocol.falseAcknowledgment i j r (inSet set)) sent (now (sites .entry)) v (now (sites .exit))) ⌝ }
+{
+    let within = set.within(commands);
+    let faulty = table.is_faulty(j);
+    let verdict = judge_message(table, i, j, r, within, faulty);
+    if let Verdict::Refused(refusal) = verdict {
+        return Verdict::Refused(refusal);
+    }
+    hear(sites, i, j, r, set);
+    Verdict::Taken
+}
+
+// 05: a check message of faulty site j reaches site i.
+pub fn false_check(
+    sites: &mut [u8],
+    table: SiteTable,
+    commands: usize,
+    i: usize,
+    j: usize,
+    r: usize,
+    set: Set,
+) -> Verdict
+    requires { ⌜ length (now sites) ≡ table .sites * siteSize ⌝ }
+    ensures { λ v. ⌜ ((sent : List ℕ) → Arrived table commands (protocol.falseCheck i j r (inSet set)) sent (now (sites .entry)) v (now (sites .exit))) ⌝ }
+{
+    let within = set.within(commands);
+    let faulty = table.is_faulty(j);
+    let verdict = judge_message(table, i, j, r, within, faulty);
+    if let Verdict::Refused(refusal) = verdict {
+        return Verdict::Refused(refusal);
+    }
+    receive(sites, i, set);
+    Verdict::Taken
+}
+
+// 06: an entry of faulty site j for round r reaches the log.
+pub fn false_entry(
+    log: &mut [u8],
+    entries: usize,
+    table: SiteTable,
+    commands: usize,
+    j: usize,
+    r: usize,
+    nc: Set,
+    c: Set,
+) -> Stepped
+    requires { ⌜ ((entries + 1) * entrySize ≤ length (now log)) × (j < 256) ⌝ }
+    ensures { λ s. ⌜ Entered table commands (protocol.falseEntry j r (inSet nc) (inSet c)) (now (log .entry)) entries s (now (log .exit)) ⌝ }
+{
+    let entry = Entry {
+        site: j,
+        round: r,
+        nc: nc,
+        c: c,
+    };
+    if !entries::in_range(entry, table.sites, commands) {
+        return Stepped {
+            verdict: Verdict::Refused(Refusal::Range),
+            entries: entries,
+        };
+    }
+    if !table.is_faulty(j) {
+        return Stepped {
+            verdict: Verdict::Refused(Refusal::Role),
+            entries: entries,
+        };
+    }
+    if entries::entries_of(&log[..], entries, j, r) > 1 {
+        return Stepped {
+            verdict: Verdict::Refused(Refusal::ThirdEntry),
+            entries: entries,
+        };
+    }
+    entries::write_entry(log, entries, entry);
+    Stepped {
+        verdict: Verdict::Taken,
+        entries: entries + 1,
+    }
+}
