@@ -8,7 +8,7 @@ use native.Mathlib.Decide.{ℕ-discrete}
 use native.Mathlib.Omega.{arith}
 use lib.Dec.{eqb}
 use borrow.Author.Tests.{eq-eqb, ne-eqb}
-use Rattle.theory.specs.Sets.{one, count}
+use Rattle.theory.specs.Sets.{one}
 use Rattle.theory.specs.Counting.{left, right, not-true, not-false, never}
 use Rattle.sets.specs.declared.Set.{Set}
 use Rattle.sets.specs.Sets.{capacity, inSet, emptyOf, withOf, withoutOf, commonOf, loadSet, isEmptyOf, sizeOf, firstOf}

@@ -3,7 +3,7 @@
 use mathlib.Core.Path.{_≡_, refl, sym, ap, _∙_}
 use mathlib.Core.Bool.{Bool, true, false, _&&_}
 use mathlib.Core.List.{List, [], _∷_}
-use mathlib.Core.Option.{Option, none, some}
+use mathlib.Core.Option.{some}
 use mathlib.Core.Logic.{_⊎_, inl, inr}
 use Prim.Native.Nat.{ℕ, _≤_, _<_}
 use native.Mathlib.Omega.{arith}
@@ -19,7 +19,7 @@ use Rattle.commands.specs.Book.{commandsOf, commandOf}
 use Rattle.commands.proofs.Walk.{few-commands}
 use Rattle.conflicts.specs.Conflicts.{conflictIn, conflictRows}
 use Rattle.conflicts.proofs.Laws.{in-book, out-left, out-right, in-row, rows-at}
-use Rattle.protocol.specs.System.{System, free}
+use Rattle.protocol.specs.System.{free}
 use Rattle.protocol.specs.Recovery.{Entry, Log, Standing, absent, valid, excluded, Tally, nobody, afterEntry, add, validCount, decideFrom, decide}
 use Rattle.protocol.specs.RecoveryLaws.{free-pair, free-of}
 use Rattle.system.specs.Dash.{dash, commandAt}

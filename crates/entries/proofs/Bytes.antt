@@ -1,7 +1,7 @@
 -- Entries in bytes: an entry that is written reads back, one that is read writes back the same bytes, and other entries stay.
 -- Assumes nothing.
-use mathlib.Core.Path.{_≡_, refl, sym, ap, _∙_}
-use mathlib.Core.List.{List, [], _∷_, _++_, append-assoc, append-nil}
+use mathlib.Core.Path.{_≡_, sym, ap, _∙_}
+use mathlib.Core.List.{List, [], _++_, append-assoc, append-nil}
 use mathlib.Core.Logic.{_⊎_, inl, inr}
 use Prim.Native.Nat.{ℕ, _+_, _*_, _^_, _≤_, _<_}
 use native.Mathlib.Nat.{eq-or-lt-of-le}
@@ -149,7 +149,7 @@ entry-first b more k h =
     same-entry (read-first 1 b more (k * entrySize) (omega arith)) (read-first 1 b more (k * entrySize + 1) (omega arith))
     (same-set (read-first 8 b more (k * entrySize + 2) (omega arith))) (same-set (read-first 8 b more (k * entrySize + 10) (omega arith)))
 
--- An entry that stands at the end of bytes.
+-- An entry appended to bytes.
 pub entry-appended : (b : List ℕ) (k : ℕ) (e : Entry) → length b ≡ k * entrySize → Fits e → entryOf (b ++ entryBytes e) k ≡ e
 unfolding writeEntry splice
 entry-appended b k e h f =
@@ -190,7 +190,7 @@ module _ (b : List ℕ) (small : (i : ℕ) → getD b i 0 < 256) (k : ℕ) (h : 
       ap (λ (p : ℕ). bytes 8 (readLe 8 b (at + 10)) ++ drop p b) (sym q4) ∙ peel b small 8 (at + 10) (omega arith) in
       simp append-assoc (rw (p4, p3, p2) p1)
 
-  -- The bytes of an entry that was read are those that stand there,
+  -- The bytes of an entry that was read are those that were there,
   pub entry-bytes : entryBytes (entryOf b k) ≡ take entrySize (drop (k * entrySize) b)
   entry-bytes =
       sym (take-at (entryBytes (entryOf b k)) (drop (k * entrySize + entrySize) b) entrySize (length-entry (entryOf b k)))

@@ -2,19 +2,17 @@
 -- Assumes nothing.
 use mathlib.Core.Path.{_≡_, refl, sym, ap, _∙_}
 use mathlib.Core.Bool.{Bool, true, false, _&&_, not}
-use mathlib.Core.List.{List, [], _∷_, _++_}
-use mathlib.Core.Option.{some}
-use Prim.Native.Nat.{ℕ, suc, _+_, _-_, _*_, _≤_, _<_}
+use mathlib.Core.List.{List}
+use Prim.Native.Nat.{ℕ, suc, _+_, _-_, _*_, _/_, _≤_, _<_}
 use native.Mathlib.Decide.{ℕ-discrete}
 use native.Mathlib.Omega.{arith}
 use lib.Dec.{eqb, leb, ltb}
 use lib.ListN.{length, take, getD, set, replicate, length-set, length-replicate, getD-replicate}
 use lib.Seq.{getD-set-same, getD-set-other}
-use borrow.Author.Tests.{lt-ltb, le-ltb, le-leb, lt-leb, ltb-true, leb-true, eq-eqb, ne-eqb, eqb-true}
+use borrow.Author.Tests.{lt-ltb, le-ltb, le-leb, lt-leb, ltb-true, leb-true, eq-eqb, ne-eqb}
 use Rattle.theory.specs.Sets.{one, all}
 use Rattle.theory.specs.Lists.{nth}
-use Rattle.theory.specs.Counting.{both, left, right, not-true, not-false, never, all-none, all-more, all-not, all-ext}
-use Rattle.sets.specs.declared.Set.{Set}
+use Rattle.theory.specs.Counting.{both, left, right, not-true, not-false, all-none, all-more, all-not, all-ext}
 use Rattle.sets.specs.Sets.{withinOf}
 use Rattle.table.specs.declared.SiteTable.{SiteTable}
 use Rattle.table.specs.Table.{maxSites}
@@ -25,7 +23,7 @@ use Rattle.protocol.specs.StandingLaws.{entries-more}
 use Rattle.protocol.specs.Site.{entryInRange, nextInRange, noThird}
 use Rattle.system.specs.Dash.{dash, lastRound}
 use Rattle.entries.specs.declared.Entry.{Entry}
-use Rattle.entries.specs.Entries.{entrySize, entryOf, viewEntry, logTo, oneOf, inRangeOf, goodAt, goodTo}
+use Rattle.entries.specs.Entries.{entrySize, entryOf, viewEntry, logTo, logOf, oneOf, inRangeOf, goodAt, goodTo}
 use Rattle.entries.proofs.Logs.{log-none, log-more, log-take, log-nth}
 
 -- ---- how many entries a site has in a round
@@ -121,6 +119,13 @@ good-protocol t book b k n h =
     (λ i. nextInRange (dash t book) (nth (logTo b n) i) && noThird (dash t book) (take i (logTo b n)) (nth (logTo b n) i))
     (λ i l. λ d. nextInRange (dash t book) (sym (log-nth b n i (omega arith)) d)
     && noThird (dash t book) (sym (log-take b i n (omega arith)) d) (sym (log-nth b n i (omega arith)) d))
+
+-- The same of the whole entries of bytes.
+pub good-log : (t : SiteTable) (book : List Command) (b : List ℕ) (k : ℕ) → k ≤ length b / entrySize
+    → goodTo b (t .sites) (length book) k
+    ≡ all k (λ i. nextInRange (dash t book) (nth (logOf b) i) && noThird (dash t book) (take i (logOf b)) (nth (logOf b) i))
+unfolding logOf
+good-log t book b k h = good-protocol t book b k (length b / entrySize) h
 
 -- ---- the counts of a judge, one a site and round
 

@@ -22,6 +22,9 @@ impl Entry {
     pub const ROUNDS: usize = 32;
 }
 
+// One count for each site and round: 11 times 32.
+const CELLS: usize = 352;
+
 fn wide(x: u8) -> usize
     ensures { λ r. ⌜ (r ≡ x) × (r < 256) ⌝ }
 {
@@ -148,7 +151,7 @@ pub fn judge_prefix(log: &[u8], k: usize, sites: usize, commands: usize) -> bool
     requires { ⌜ (k * entrySize ≤ length (now log)) × (sites ≤ maxSites) ⌝ }
     ensures { λ r. ⌜ r ≡ goodTo (now (log .entry)) sites commands k ⌝ }
 {
-    let mut counts = [0u8; 352];
+    let mut counts = [0u8; CELLS];
     let mut i: usize = 0;
     while i < k {
         let entry = read_entry(log, i);

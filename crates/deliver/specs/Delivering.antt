@@ -1,0 +1,34 @@
+-- What delivering leaves of a lent site's bytes, its header aside.
+-- Assumes nothing.
+use mathlib.Core.Path.{_≡_}
+use mathlib.Core.List.{List, foldl}
+use Prim.Native.Nat.{ℕ, _+_}
+use lib.ListN.{length, take}
+use Rattle.theory.specs.Sets.{members}
+use Rattle.sets.specs.declared.Set.{Set}
+use Rattle.sets.specs.Sets.{capacity, inSet}
+use Rattle.table.specs.declared.SiteTable.{SiteTable}
+use Rattle.register.specs.declared.Command.{Command}
+use Rattle.register.specs.Register.{Within}
+use Rattle.register.specs.Lent.{registerOf}
+use Rattle.commands.specs.Book.{commandsOf, placesOf}
+use Rattle.protocol.specs.Site as protocol
+use Rattle.system.specs.Dash.{dash}
+use Rattle.layout.specs.Layout.{siteSize, registerPlace, heardOf, ledgerOf}
+use Rattle.layout.specs.Good.{GoodTables}
+
+-- The places of a book's commands are noted.
+abbrev pub Noted : List ℕ → List ℕ → Type 0
+Noted book places = take (length (commandsOf book)) places ≡ placesOf book
+
+-- The commands l were delivered in their order, after k others.
+pub record Delivered (book : List Command) (k : ℕ) (l : List ℕ) (b b′ : List ℕ) : Type 0 where
+  pub ledger : (t : SiteTable) → ledgerOf t book (k + length l) b′ ≡ foldl (protocol.deliver (dash t book)) (ledgerOf t book k b) l
+  pub heard : heardOf b′ ≡ heardOf b
+  pub tables : (sites : ℕ) → GoodTables sites (length book) k b → GoodTables sites (length book) (k + length l) b′
+  pub size : length b′ ≡ siteSize
+  pub readings : Within (registerOf b′ registerPlace)
+
+-- The commands of a set in number order.
+abbrev pub inOrder : Set → List ℕ
+inOrder x = members capacity (inSet x)

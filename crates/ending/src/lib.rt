@@ -1,0 +1,89 @@
+// The end of a round: the commands that the log decided are delivered, and the site acknowledges again, in the next round.
+ghost use mathlib.Core.Bool.{true};
+ghost use mathlib.Core.Path.{_≡_};
+ghost use Prim.Native.Nat.{ℕ, _≤_, _<_};
+ghost use lib.ListN.{length};
+ghost use Rattle.sets.specs.Sets.{capacity, withinOf};
+ghost use Rattle.commands.specs.Book.{commandsOf};
+ghost use Rattle.layout.specs.Layout.{siteRounds};
+ghost use Rattle.layout.specs.Good.{Good};
+ghost use Rattle.deliver.specs.Delivering.{Noted};
+ghost use Rattle.ending.specs.Ending.{dueOf, ended, judgedEnd, RoundEnded};
+use layout::Phase;
+use layout::Site;
+use refusals::Refusal;
+use refusals::Verdict;
+use sets::Set;
+
+// What of a set is not yet delivered.
+fn due(header: Site, set: Set) -> Set
+    ensures { λ r. ⌜ r ≡ dueOf header set ⌝ }
+{
+    set.without(header.delivered.union(header.fast))
+}
+
+// Whether the round ends with so many more deliveries, and else the refusal.
+fn judge(header: Site, commands: usize, decided: bool, more: usize) -> Verdict
+    requires { ⌜ more ≤ 128 ⌝ }
+    ensures { λ r. ⌜ r ≡ judgedEnd header commands decided more ⌝ }
+{
+    let phase = header.phase;
+    if let Phase::Acknowledging = phase {
+        return Verdict::Refused(Refusal::Disabled);
+    }
+    if !decided {
+        return Verdict::Refused(Refusal::Disabled);
+    }
+    let recorded = header.deliveries as usize;
+    if recorded + more > commands {
+        return Verdict::Refused(Refusal::Size);
+    }
+    Verdict::Taken
+}
+
+// The header in the next round.
+fn next_round(header: Site, nc: Set, c: Set, deliveries: u8) -> Site
+    requires { ⌜ header .round ≤ siteRounds ⌝ }
+    ensures { λ r. ⌜ r ≡ ended header nc c deliveries ⌝ }
+{
+    let received = header.received;
+    let delivered = header.delivered.union(nc.union(c));
+    Site {
+        round: header.round + 1,
+        phase: Phase::Acknowledging,
+        position: header.position,
+        deliveries,
+        received,
+        delivered,
+        pending: Set { bits: 0 },
+        fast: Set { bits: 0 },
+    }
+}
+
+// The round ends with the decided sets, or the step is refused: NC in number order, then C, without what was delivered.
+pub fn round_end(
+    site: &mut [u8],
+    book: &[u8],
+    places: &[u16],
+    commands: usize,
+    decided: bool,
+    nc: Set,
+    c: Set,
+) -> Verdict
+    requires { ⌜ ((sites : ℕ) × Good sites commands (now site)) × Noted (now book) (now places)
+        × (length (commandsOf (now book)) ≡ commands) × (withinOf nc commands ≡ true) × (withinOf c commands ≡ true) ⌝ }
+    ensures { λ r. ⌜ RoundEnded (commandsOf (now (book .entry))) decided nc c (now (site .entry)) r (now (site .exit)) ⌝ }
+{
+    let header = Site::read(&site[..]);
+    let first = due(header, nc);
+    let second = due(header, c);
+    let judged = judge(header, commands, decided, first.size() + second.size());
+    if let Verdict::Refused(_) = judged {
+        return judged;
+    }
+    let recorded = header.deliveries as usize;
+    let between = deliver::deliver_all(site, book, places, recorded, first);
+    let total = deliver::deliver_all(site, book, places, between, second);
+    next_round(header, nc, c, total as u8).write(site);
+    Verdict::Taken
+}

@@ -1,0 +1,129 @@
+-- The verdict on a fast delivery: the senders counted, and the code's tests in the protocol's order.
+-- Assumes nothing.
+use mathlib.Core.Path.{_≡_, refl, sym, ap, _∙_}
+use mathlib.Core.Bool.{Bool, true, false, _&&_, not}
+use mathlib.Core.List.{List}
+use Prim.Native.Nat.{ℕ, _+_, _≤_, _<_}
+use native.Mathlib.Omega.{arith}
+use lib.Dec.{leb}
+use lib.ListN.{length}
+use borrow.Author.Tests.{le-leb, lt-leb, leb-true}
+use Rattle.refusals.specs.declared.Refusal.the-variants.{Disabled, Size}
+use Rattle.refusals.specs.declared.Verdict.{Verdict}
+use Rattle.refusals.specs.declared.Verdict.the-variants.{Taken, Refused}
+use Rattle.theory.specs.Sets.{one, count}
+use Rattle.theory.specs.Counting.{count-more, count-le}
+use Rattle.wire.specs.Wire.{readLe}
+use Rattle.sets.specs.declared.Set.{Set}
+use Rattle.sets.specs.Sets.{has, inSet, readSet}
+use Rattle.table.specs.declared.SiteTable.{SiteTable}
+use Rattle.table.specs.Table.{maxSites, nAckOf}
+use Rattle.register.specs.declared.Command.{Command}
+use Rattle.protocol.specs.System.{granted, _else_⨾_, verdict}
+use Rattle.protocol.specs.Site as protocol
+use Rattle.system.specs.Dash.{dash}
+use Rattle.layout.specs.declared.Site.{Site}
+use Rattle.layout.specs.Layout.{siteRounds, countPlace, cell, headOf, heardOf, deliveriesOf, view}
+use Rattle.layout.proofs.Senders.{in-table}
+use Rattle.layout.proofs.Deliveries.{length-deliveries}
+
+-- ---- senders
+
+heard-at : (b : List ℕ) (j r m : ℕ) → j < maxSites → 1 ≤ r → r ≤ siteRounds → heardOf b j r m ≡ inSet (readSet b (cell j r)) m
+unfolding heardOf readSet
+heard-at b j r m hj h1 h33 = λ i. in-table j r hj h1 h33 i && has (readLe 8 b (cell j r)) m
+
+-- One sender more.
+pub sender-more : (b : List ℕ) (r m j : ℕ) {n o : ℕ} {set : Set} {t : Bool} → j < maxSites → 1 ≤ r → r ≤ siteRounds → n ≡ count j (λ k. heardOf b k r m)
+    → set ≡ readSet b (cell j r) → t ≡ inSet set m → o ≡ one t → n + o ≡ count (j + 1) (λ k. heardOf b k r m)
+sender-more b r m j hj h1 h33 en es et eo =
+    (λ i. en i + (eo ∙ ap one (et ∙ ap (λ (s : Set). inSet s m) es ∙ sym (heard-at b j r m hj h1 h33))) i) ∙ sym (count-more j (λ k. heardOf b k r m))
+
+pub sender-few : (b : List ℕ) (r m j : ℕ) {n : ℕ} → n ≡ count j (λ k. heardOf b k r m) → n ≤ j
+sender-few b r m j e = let l = count-le j (λ k. heardOf b k r m) in omega arith
+
+-- ---- the verdict, by its tests
+
+abbrev fastVerdict : Bool → Bool → Bool → Bool → Verdict
+fastVerdict pending fast enough room = verdict (pending else Disabled ⨾ not fast else Disabled ⨾ enough else Disabled ⨾ room else Size ⨾ granted)
+
+never-taken : {r : Verdict} → r ≡ Refused Size → r ≡ Taken → ⊥
+never-taken e h = let z : _≡_ {A = ℕ} 0 1 = cc (sym e ∙ h) in omega arith
+
+-- A delivery that is taken has room.
+has-room : (a f n r : Bool) → fastVerdict a f n r ≡ Taken → r ≡ true
+has-room true true n r h = absurd (let z : _≡_ {A = ℕ} 0 1 = cc h in omega arith)
+has-room true false true true h = refl
+has-room true false true false h = absurd (never-taken refl h)
+has-room true false false r h = absurd (let z : _≡_ {A = ℕ} 0 1 = cc h in omega arith)
+has-room false f n r h = absurd (let z : _≡_ {A = ℕ} 0 1 = cc h in omega arith)
+
+module _ (t : SiteTable) (book : List Command) (b : List ℕ) (m : ℕ) where
+  pending : Bool
+  pending = inSet (headOf b .pending) m
+
+  fast : Bool
+  fast = inSet (headOf b .fast) m
+
+  enough : Bool
+  enough = leb (nAckOf t) (count (t .sites) (λ j. heardOf b j (headOf b .round) m))
+
+  room : Bool
+  room = leb (length (deliveriesOf (readLe 1 b countPlace) b) + 1) (length book)
+
+  same-verdict : fastVerdict pending fast enough room ≡ verdict (protocol.forFastDelivery (dash t book) m (view t book b))
+  unfolding pending fast enough room
+  same-verdict = refl
+
+  counted : readLe 1 b countPlace ≡ headOf b .deliveries
+  unfolding headOf
+  counted = refl
+
+  recorded : length (deliveriesOf (readLe 1 b countPlace) b) ≡ headOf b .deliveries
+  recorded = length-deliveries (readLe 1 b countPlace) b ∙ counted
+
+  -- The room that a taken delivery has.
+  pub taken-room : verdict (protocol.forFastDelivery (dash t book) m (view t book b)) ≡ Taken → headOf b .deliveries + 1 ≤ length book
+  unfolding room
+  taken-room h =
+      let e = recorded in
+      let l = leb-true (length (deliveriesOf (readLe 1 b countPlace) b) + 1) (length book) (has-room pending fast enough room (same-verdict ∙ h)) in
+      omega arith
+
+  module _ {h : Site} (eh : h ≡ headOf b) where
+    is-pending : {x y : Bool} → x ≡ inSet (h .pending) m → x ≡ y → y ≡ pending
+    unfolding pending
+    is-pending ex ey = sym ey ∙ ex ∙ ap (λ (k : Site). inSet (k .pending) m) eh
+
+    is-fast : {x y : Bool} → x ≡ inSet (h .fast) m → x ≡ y → y ≡ fast
+    unfolding fast
+    is-fast ex ey = sym ey ∙ ex ∙ ap (λ (k : Site). inSet (k .fast) m) eh
+
+    pub not-pending : {x : Bool} → x ≡ inSet (h .pending) m → x ≡ false → Refused Disabled ≡ verdict (protocol.forFastDelivery (dash t book) m (view t book b))
+    not-pending ex hx = (λ i. fastVerdict (is-pending ex hx i) fast enough room) ∙ same-verdict
+
+    module _ {x : Bool} (ex : x ≡ inSet (h .pending) m) (hx : x ≡ true) where
+      pub already-fast : {y : Bool} → y ≡ inSet (h .fast) m → y ≡ true → Refused Disabled ≡ verdict (protocol.forFastDelivery (dash t book) m (view t book b))
+      already-fast ey hy = (λ i. fastVerdict (is-pending ex hx i) (is-fast ey hy i) enough room) ∙ same-verdict
+
+      module _ {y : Bool} (ey : y ≡ inSet (h .fast) m) (hy : y ≡ false) {n k : ℕ} (en : n ≡ count (t .sites) (λ j. heardOf b j (h .round) m)) (ek : k ≡ nAckOf t) where
+        is-enough : {v : Bool} → leb k n ≡ v → v ≡ enough
+        unfolding enough
+        is-enough e = sym e ∙ (λ i. leb (ek i) ((en ∙ ap (λ (s : Site). count (t .sites) (λ j. heardOf b j (s .round) m)) eh) i))
+
+        is-room : {v : Bool} → leb (h .deliveries + 1) (length book) ≡ v → v ≡ room
+        unfolding room
+        is-room e = sym e ∙ (λ i. leb ((ap (λ (s : Site). s .deliveries) eh ∙ sym recorded) i + 1) (length book))
+
+        pub too-few : n < k → Refused Disabled ≡ verdict (protocol.forFastDelivery (dash t book) m (view t book b))
+        too-few l = (λ i. fastVerdict (is-pending ex hx i) (is-fast ey hy i) (is-enough (lt-leb k n l) i) room) ∙ same-verdict
+
+        pub no-room : k ≤ n → length book ≤ h .deliveries → Refused Size ≡ verdict (protocol.forFastDelivery (dash t book) m (view t book b))
+        no-room l o =
+            (λ i. fastVerdict (is-pending ex hx i) (is-fast ey hy i) (is-enough (le-leb k n l) i) (is-room (lt-leb (h .deliveries + 1) (length book) (omega arith)) i))
+            ∙ same-verdict
+
+        pub all-met : k ≤ n → h .deliveries < length book → Taken ≡ verdict (protocol.forFastDelivery (dash t book) m (view t book b))
+        all-met l o =
+            (λ i. fastVerdict (is-pending ex hx i) (is-fast ey hy i) (is-enough (le-leb k n l) i) (is-room (le-leb (h .deliveries + 1) (length book) (omega arith)) i))
+            ∙ same-verdict

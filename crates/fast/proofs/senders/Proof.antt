@@ -1,0 +1,62 @@
+-- `fast::senders`: the invariant is that the senders so far are counted.
+-- Assumes nothing.
+use mathlib.Core.Path.{_≡_, sym, ap, _∙_}
+use Prim.Native.Nat.{ℕ, _-_, _≤_}
+use native.Mathlib.Omega.{arith}
+use borrow.Author.Needs.{needs}
+use denote.Ref.{now}
+use Rattle.theory.specs.Sets.{count}
+use Rattle.theory.specs.Counting.{count-none}
+use Rattle.layout.specs.Layout.{heardOf}
+use Rattle.fast.proofs.Judging.{sender-more, sender-few}
+use Rattle.fast.proofs.senders.Statement.{statement}
+use Rattle.fast.proofs.senders.Tie as tie
+
+abbrev Inv-loop : tie.InvT-loop
+Inv-loop site sites round m n₀ sender₀ n sender = (sender ≤ sites) × (n ≡ count sender (λ j. heardOf site j round m))
+
+abbrev μ-loop : tie.MeasureT-loop
+μ-loop site sites round m n₀ sender₀ n sender = sites - sender
+
+loop-holds : tie.Need-loop-holds Inv-loop μ-loop
+loop-holds c = (search needs, sym (count-none _))
+
+heard-requires : tie.Need-heard-requires Inv-loop μ-loop
+heard-requires c κs = search needs
+
+has-requires : tie.Need-has-requires Inv-loop μ-loop
+has-requires c κs = search needs
+
+one-requires : tie.Need-one-requires Inv-loop μ-loop
+one-requires c κs = search needs
+
+add-n : tie.Need-add-n Inv-loop μ-loop
+add-n c = let l = c .before .before .before .before .loop in let f = sender-few _ _ _ (l .sender) (l .inv .1) in omega arith
+
+add-sender : tie.Need-add-sender Inv-loop μ-loop
+add-sender c = omega arith
+
+loop-less : tie.Need-loop-less Inv-loop μ-loop
+loop-less c = omega arith
+
+loop-again : tie.Need-loop-again Inv-loop μ-loop
+loop-again c = let l = c .before .before .before .before .loop in let a = c .before .before .before .before .before .before .args in (omega arith, sender-more (now (a .site)) (a .round) (a .m) (l .sender) (omega arith) (omega arith) (omega arith) (l .inv .1) (c .before .before .heard .ensures) (c .before .has .ensures) (c .one .ensures .0))
+
+returns : tie.Need-returns Inv-loop μ-loop
+returns c = let l = c .before .loop in let a = c .before .before .before .args in let e : l .sender ≡ a .sites = omega arith in l .inv .1 ∙ ap (λ (n : ℕ). count n (λ j. heardOf (now (a .site)) j (a .round) (a .m))) e
+
+pub senders-spec : {M : Type 1} → statement M
+senders-spec =
+    tie.close
+    (tie.spec
+    Inv-loop
+    μ-loop
+    loop-holds
+    heard-requires
+    has-requires
+    one-requires
+    add-n
+    add-sender
+    loop-less
+    loop-again
+    returns)

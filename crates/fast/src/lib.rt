@@ -1,0 +1,116 @@
+// A fast delivery: a pending command that enough sites have acknowledged in the site's round is delivered at once.
+ghost use mathlib.Core.Bool.{true};
+ghost use mathlib.Core.List.{List};
+ghost use mathlib.Core.Path.{_≡_};
+ghost use Prim.Native.Nat.{_≤_, _<_};
+ghost use lib.ListN.{length};
+ghost use Rattle.theory.specs.Sets.{one, count};
+ghost use Rattle.sets.specs.Sets.{capacity};
+ghost use Rattle.table.specs.Table.{maxSites, isGood};
+ghost use Rattle.register.specs.declared.Command.{Command};
+ghost use Rattle.commands.specs.Book.{commandsOf};
+ghost use Rattle.protocol.specs.System.{verdict};
+ghost use Rattle.protocol.specs.Site as protocol;
+ghost use Rattle.system.specs.Dash.{dash};
+ghost use Rattle.layout.specs.Layout.{siteSize, siteRounds, heardOf, view};
+ghost use Rattle.layout.specs.Good.{Good};
+ghost use Rattle.layout.specs.Step.{Carried};
+ghost use Rattle.deliver.specs.Delivering.{Noted};
+ghost use Rattle.fast.specs.Fast.{withFast};
+use layout::Site;
+use refusals::Refusal;
+use refusals::Verdict;
+use table::SiteTable;
+
+fn one(test: bool) -> usize
+    ensures { λ r. ⌜ (r ≡ one test) × (r ≤ 1) ⌝ }
+{
+    if test { 1 } else { 0 }
+}
+
+// How many sites have acknowledged a command in a round.
+fn senders(site: &[u8], sites: usize, round: usize, m: usize) -> usize
+    requires { ⌜ (length (now site) ≡ siteSize) × (sites ≤ maxSites) × (1 ≤ round) × (round ≤ siteRounds) ⌝ }
+    ensures { λ r. ⌜ r ≡ count sites (λ j. heardOf (now (site .entry)) j round m) ⌝ }
+{
+    let mut n = 0;
+    let mut sender = 0;
+    while sender < sites {
+        let set = layout::heard(site, sender, round);
+        n += one(set.has(m));
+        sender += 1;
+    }
+    n
+}
+
+// Whether a command may be delivered fast, and else the refusal.
+fn judge(site: &[u8], table: SiteTable, commands: usize, m: usize) -> Verdict
+    requires { ⌜ Good (table .sites) commands (now site) × (isGood table ≡ true) ⌝ }
+    ensures { λ r. ⌜ ((book : List Command) → length book ≡ commands → r ≡ verdict (protocol.forFastDelivery (dash table book) m (view table book (now (site .entry))))) ⌝ }
+{
+    let header = Site::read(site);
+    if !header.pending.has(m) {
+        return Verdict::Refused(Refusal::Disabled);
+    }
+    if header.fast.has(m) {
+        return Verdict::Refused(Refusal::Disabled);
+    }
+    let round = header.round as usize;
+    let n = senders(site, table.sites, round, m);
+    if n < table.n_ack() {
+        return Verdict::Refused(Refusal::Disabled);
+    }
+    let recorded = header.deliveries as usize;
+    if recorded >= commands {
+        return Verdict::Refused(Refusal::Size);
+    }
+    Verdict::Taken
+}
+
+fn with_fast(header: Site, m: usize) -> Site
+    requires { ⌜ (header .deliveries < capacity) × (m < capacity) ⌝ }
+    ensures { λ r. ⌜ r ≡ withFast header m ⌝ }
+{
+    let phase = header.phase;
+    let received = header.received;
+    let delivered = header.delivered;
+    let pending = header.pending;
+    let fast = header.fast.with(m);
+    Site {
+        round: header.round,
+        phase,
+        position: header.position,
+        deliveries: header.deliveries + 1,
+        received,
+        delivered,
+        pending,
+        fast,
+    }
+}
+
+// Command m of the book is delivered fast, or the step is refused.
+pub fn fast_delivery(
+    site: &mut [u8],
+    table: SiteTable,
+    book: &[u8],
+    places: &[u16],
+    commands: usize,
+    m: usize,
+) -> Verdict
+    requires { ⌜ Good (table .sites) commands (now site) × (isGood table ≡ true) × Noted (now book) (now places)
+        × (length (commandsOf (now book)) ≡ commands) × (m < commands) ⌝ }
+    ensures { λ r. ⌜ Carried table (commandsOf (now (book .entry)))
+        (verdict (protocol.forFastDelivery (dash table (commandsOf (now (book .entry)))) m (view table (commandsOf (now (book .entry))) (now (site .entry)))))
+        (protocol.deliverFast (dash table (commandsOf (now (book .entry)))) m (view table (commandsOf (now (book .entry))) (now (site .entry))))
+        (view table (commandsOf (now (book .entry))) (now (site .entry))) r (now (site .exit)) ⌝ }
+{
+    let judged = judge(&site[..], table, commands, m);
+    if let Verdict::Refused(_) = judged {
+        return judged;
+    }
+    let header = Site::read(&site[..]);
+    let recorded = header.deliveries as usize;
+    deliver::deliver(site, book, places, recorded, m);
+    with_fast(header, m).write(site);
+    Verdict::Taken
+}

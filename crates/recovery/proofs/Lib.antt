@@ -1,0 +1,4 @@
+pub mod Counts
+pub mod Sources
+pub mod Decided
+pub mod Members

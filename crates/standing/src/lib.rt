@@ -1,0 +1,99 @@
+// The standing of the sources in a round, entry by entry, up to the entry that decides the round.
+ghost use mathlib.Core.Bool.{true};
+ghost use mathlib.Core.Path.{_≡_};
+ghost use Prim.Native.Nat.{_+_, _*_, _≤_, _<_};
+ghost use lib.ListN.{length};
+ghost use Rattle.sets.specs.Sets.{capacity};
+ghost use Rattle.table.specs.Table.{isGood};
+ghost use Rattle.entries.specs.Entries.{entrySize, entryOf};
+ghost use Rattle.standing.specs.Standings.{validAfter, withEntry, standingOf};
+use sets::Set;
+use table::SiteTable;
+
+// Which sites have an entry of the round and which are valid; whether that decides the round; and after how many
+// entries of the log this is so.
+pub struct Standing {
+    pub seen: Set,
+    pub valid: Set,
+    pub decided: bool,
+    pub entries: usize,
+}
+
+// The valid sources with one entry more: a source's first is valid if no two commands of its NC conflict, a second
+// excludes the source.
+fn valid_after(before: Standing, rows: &[u64], site: usize, nc: Set) -> Set
+    requires { ⌜ (site < capacity) × (length (now rows) ≡ capacity) ⌝ }
+    ensures { λ r. ⌜ r ≡ validAfter (now (rows .entry)) site nc before ⌝ }
+{
+    let seen = before.seen;
+    let valid = before.valid;
+    if seen.has(site) {
+        let source = Set::empty().with(site);
+        return valid.without(source);
+    }
+    if !calm::is_free(rows, nc) {
+        return valid;
+    }
+    valid.with(site)
+}
+
+// The standing with the k-th entry added. An entry of another round, or of a site beyond the table, changes nothing.
+fn with_entry(
+    before: Standing,
+    log: &[u8],
+    k: usize,
+    round: usize,
+    table: SiteTable,
+    rows: &[u64],
+) -> Standing
+    requires { ⌜ (isGood table ≡ true) × (k * entrySize + entrySize ≤ length (now log)) × (length (now rows) ≡ capacity) ⌝ }
+    ensures { λ r. ⌜ r ≡ withEntry table (now (rows .entry)) round (k + 1) (entryOf (now (log .entry)) k) before ⌝ }
+{
+    if entries::round_of(log, k) != round {
+        return before;
+    }
+    let site = entries::site_of(log, k);
+    if site >= table.sites {
+        return before;
+    }
+    let nc = entries::nc_of(log, k);
+    let valid = valid_after(before, rows, site, nc);
+    let seen = before.seen;
+    let seen_after = seen.with(site);
+    let size = valid.size();
+    let enough = table.n_chk();
+    let place = k + 1;
+    Standing {
+        seen: seen_after,
+        valid: valid,
+        decided: size == enough,
+        entries: place,
+    }
+}
+
+// The standing after k entries is that after one entry fewer, with one entry added, until the round is decided.
+pub fn standing_after(
+    log: &[u8],
+    k: usize,
+    round: usize,
+    table: SiteTable,
+    rows: &[u64],
+) -> Standing
+    requires { ⌜ (isGood table ≡ true) × (k * entrySize ≤ length (now log)) × (length (now rows) ≡ capacity) ⌝ }
+    ensures { λ r. ⌜ r ≡ standingOf table (now (rows .entry)) round (now (log .entry)) k ⌝ }
+{
+    if k == 0 {
+        let nobody = Set::empty();
+        return Standing {
+            seen: nobody,
+            valid: nobody,
+            decided: false,
+            entries: 0,
+        };
+    }
+    let before = standing_after(log, k - 1, round, table, rows);
+    if before.decided {
+        return before;
+    }
+    with_entry(before, log, k - 1, round, table, rows)
+}

@@ -1,0 +1,7 @@
+#!/bin/sh
+# Builds the archive and the C host, and runs it: sh examples/host.sh [SEED].
+set -eu
+cd "$(dirname "$0")/.."
+[ -f target/staticlib/libhost.a ] || rt staticlib host >/dev/null
+gcc -O2 -Wall -Wextra -I include examples/host.c -o target/host_example -Ltarget/staticlib -lhost
+target/host_example "$@"
