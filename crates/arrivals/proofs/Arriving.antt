@@ -58,7 +58,7 @@ module _ (t : SiteTable) (commands : ℕ) (sent sites : List ℕ) (small : (k : 
         → Arrived t commands (command i m) sent sites Taken after
     commanded a b e h p =
         λ book log entries q g.
-        one-site t book (lent sites log entries sent) g (command i m) small i a p (receive (dash t book) (only m)) (p .did t book (g .site i a) (omega arith))
+        one-site t book (lent sites log entries sent) g (command i m) small i a p (receive (dash t book) (only m)) (p .did t book (g .site i a) (omega arith)) (g .position i a)
         (command-taken t book (worldOf t book (lent sites log entries sent)) i m a (omega arith) (sym e ∙ h)) refl refl refl
 
   -- ---- 02 and 03
@@ -92,7 +92,7 @@ module _ (t : SiteTable) (commands : ℕ) (sent sites : List ℕ) (small : (k : 
             let b = lent sites log entries sent in
             let told : some (inSet x) ≡ nth (acksOf sent j r) (pred a) = sym (ap said q) ∙ read .means in
             one-site t book b g (acknowledgment i j r a) small i (p .receiver) h (hear (dash t book) j r (inSet x))
-            (h .did t book (g .site i (p .receiver)) (p .sender) (ap (knownTo (length book)) told ∙ g .acks j r (pred a)))
+            (h .did t book (g .site i (p .receiver)) (p .sender) (ap (knownTo (length book)) told ∙ g .acks j r (pred a))) (g .position i (p .receiver))
             (judged book log entries ∙ (λ k. andSent (e k) (isSome (sym told k))))
             (λ k. put (dash t book) i (hear (dash t book) j r (orEmpty (sym told k)) (worldOf t book b .site i)) (worldOf t book b)) refl refl
 
@@ -122,7 +122,7 @@ module _ (t : SiteTable) (commands : ℕ) (sent sites : List ℕ) (small : (k : 
             let b = lent sites log entries sent in
             let told : some (inSet x) ≡ checksOf sent j r = sym (ap said q) ∙ read .means in
             one-site t book b g (check i j r) small i (p .receiver) h (receive (dash t book) (inSet x))
-            (h .did t book (g .site i (p .receiver)) (ap (knownTo (length book)) told ∙ g .checks j r))
+            (h .did t book (g .site i (p .receiver)) (ap (knownTo (length book)) told ∙ g .checks j r)) (g .position i (p .receiver))
             (check-told book log entries ∙ (λ k. andSent (e k) (isSome (sym told k))))
             (λ k. put (dash t book) i (receive (dash t book) (orEmpty (sym told k)) (worldOf t book b .site i)) (worldOf t book b)) refl refl
 
@@ -147,12 +147,12 @@ module _ (t : SiteTable) (commands : ℕ) (sent sites : List ℕ) (small : (k : 
         false-acknowledged h =
             λ book log entries q g.
             one-site t book (lent sites log entries sent) g (falseAcknowledgment i j r (inSet x)) small i (p .receiver) h (hear (dash t book) j r (inSet x))
-            (h .did t book (g .site i (p .receiver)) (p .sender) (ap (withinOf x) (sym q) ∙ sym eo ∙ p .operands))
+            (h .did t book (g .site i (p .receiver)) (p .sender) (ap (withinOf x) (sym q) ∙ sym eo ∙ p .operands)) (g .position i (p .receiver))
             (false-acknowledgment-judged t book (worldOf t book (lent sites log entries sent)) i j r x ∙ sym (false-told book q) ∙ e) refl refl refl
 
         pub false-checked : AtSite i (Received x) sites after → Arrived t commands (falseCheck i j r (inSet x)) sent sites Taken after
         false-checked h =
             λ book log entries q g.
             one-site t book (lent sites log entries sent) g (falseCheck i j r (inSet x)) small i (p .receiver) h (receive (dash t book) (inSet x))
-            (h .did t book (g .site i (p .receiver)) (ap (withinOf x) (sym q) ∙ sym eo ∙ p .operands))
+            (h .did t book (g .site i (p .receiver)) (ap (withinOf x) (sym q) ∙ sym eo ∙ p .operands)) (g .position i (p .receiver))
             (false-check-judged t book (worldOf t book (lent sites log entries sent)) i j r x ∙ sym (false-told book q) ∙ e) refl refl refl

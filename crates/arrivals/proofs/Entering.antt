@@ -2,11 +2,10 @@
 -- Assumes nothing.
 use mathlib.Core.Path.{_≡_, refl, sym, ap, subst, _∙_}
 use mathlib.Core.Bool.{Bool, true, false, not}
-use mathlib.Core.List.{List, [], _∷_, _++_}
-use Prim.Native.Nat.{ℕ, _+_, _*_, _^_, _≤_, _<_}
-use native.Mathlib.Omega.{arith}
+use mathlib.Core.List.{List}
+use Prim.Native.Nat.{ℕ, _+_, _*_, _≤_, _<_}
 use lib.Dec.{ltb}
-use lib.ListN.{length, getD}
+use lib.ListN.{length}
 use borrow.Author.Tests.{lt-ltb, le-ltb}
 use Rattle.refusals.specs.declared.Refusal.{Refusal}
 use Rattle.refusals.specs.declared.Verdict.{Verdict}
@@ -14,62 +13,22 @@ use Rattle.refusals.specs.declared.Verdict.the-variants.{Taken, Refused}
 use Rattle.refusals.specs.declared.Refusal.the-variants.{Range, Role, ThirdEntry}
 use Rattle.theory.specs.Sets.{pick}
 use Rattle.theory.specs.Counting.{not-true, not-false}
-use Rattle.wire.proofs.Laws.{length-splice}
 use Rattle.sets.specs.declared.Set.{Set}
-use Rattle.sets.specs.Sets.{capacity, inSet, setOf}
-use Rattle.sets.proofs.Laws.{set-of-members}
+use Rattle.sets.specs.Sets.{inSet}
 use Rattle.table.specs.declared.SiteTable.{SiteTable}
 use Rattle.table.specs.Table.{faultyOf}
 use Rattle.register.specs.declared.Command.{Command}
 use Rattle.protocol.specs.Recovery as recovery
-use Rattle.protocol.specs.World.{World, falseEntry, append, judge}
+use Rattle.protocol.specs.World.{falseEntry, append, judge}
 use Rattle.system.specs.Dash.{dash}
 use Rattle.entries.specs.declared.Entry.{Entry}
 use Rattle.entries.specs.Entries.{entrySize, logTo, writeEntry, viewEntry, inRangeOf}
-use Rattle.entries.proofs.Bytes.{Fits, length-entry}
-use Rattle.entries.proofs.Logs.{log-written}
-use Rattle.world.specs.declared.Stepped.{Stepped}
-use Rattle.world.specs.World.{Buffers, maxLog, entryFor, GoodWorld, worldOf, HoldsWorld}
+use Rattle.entries.proofs.Bytes.{Fits}
+use Rattle.world.specs.World.{worldOf, HoldsWorld}
 use Rattle.world.specs.Parts.{lent, Entered}
 use Rattle.world.proofs.Hold.{kept, refused, taken}
+use Rattle.world.proofs.Growing.{entry-holds, entry-back}
 use Rattle.arrivals.proofs.Judging.{entry-judged}
-
--- An entry written after those that are meant.
-pub length-written : (log : List ℕ) (k : ℕ) (e : Entry) → (k + 1) * entrySize ≤ length log → length (writeEntry log k e) ≡ length log
-unfolding writeEntry
-length-written log k e h = let z = length-entry e in length-splice log (k * entrySize) _ (omega arith)
-
--- The buffers with one entry more hold the world with one entry more.
-pub entry-holds : (t : SiteTable) (book : List Command) (b : Buffers) (e : Entry) → Fits e → (b .entries + 1) * entrySize ≤ length (b .log)
-    → {w : World (dash t book)} → HoldsWorld t book b w
-    → HoldsWorld t book (lent (b .sites) (writeEntry (b .log) (b .entries) e) (b .entries + 1) (b .sent)) (append (dash t book) (viewEntry e) w)
-entry-holds t book b e f room {w} h =
-    let z = length-written (b .log) (b .entries) e room in
-    record {
-      site = h .site;
-      says =
-          λ k.
-          record {
-            site = h .says k .site;
-            log = (log-written (b .log) (b .entries) e (omega arith) f ∙ ap (λ (l : recovery.Log). l ++ (viewEntry e ∷ [])) (λ i. h .says i .log)) k;
-            acks = h .says k .acks;
-            checks = h .says k .checks;
-          };
-      good =
-          record {
-            size = h .good .size;
-            site = h .good .site;
-            room = omega arith;
-            short = let s = h .good .short in omega arith;
-            sent = h .good .sent;
-            acks = h .good .acks;
-            checks = h .good .checks;
-          };
-    }
-
--- An entry of the protocol in words is the entry that it was made of.
-pub entry-back : (e : Entry) → e .nc .bits < 2 ^ 64 → e .c .bits < 2 ^ 64 → entryFor (viewEntry e) ≡ e
-entry-back e n c = λ i. record { site = e .site; round = e .round; nc = set-of-members (e .nc) n i; c = set-of-members (e .c) c i }
 
 -- The verdict on an entry, by whether it is in range, whether its site is faulty, and how many that site has in its round.
 abbrev entryVerdict : Bool → Bool → ℕ → Verdict
@@ -120,5 +79,5 @@ module _ (t : SiteTable) (commands : ℕ) (log : List ℕ) (entries j r : ℕ) (
             taken t book b g (falseEntry j r (inSet nc) (inSet c))
             (told book sites sent q ∙ by-number ∙ ap (λ (y : Bool). pick y Taken (Refused ThirdEntry)) (lt-ltb n 2 h))
             (subst (λ (l : List ℕ). HoldsWorld t book (lent sites l (entries + 1) sent) (append (dash t book) (viewEntry this) (worldOf t book b))) (sym ea)
-            (entry-holds t book b this fits room (kept t book b g small)))
+            (entry-holds t book b (kept t book b g small) this fits (ap (λ (m : ℕ). inRangeOf (t .sites) m this) (sym q) ∙ sym ex ∙ not-false x hx) room))
             (ea ∙ ap (writeEntry log entries) (sym (entry-back this (fits .nc) (fits .c)))) refl

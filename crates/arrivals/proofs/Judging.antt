@@ -45,8 +45,8 @@ pub record Passed (t : SiteTable) (i j r : ℕ) (other role : Bool) : Type 0 whe
   pub has-role : role ≡ true
 
 module _ (t : SiteTable) (i j r : ℕ) (other role : Bool) where
-  pub passed : messageVerdict t i j r other role ≡ Taken → Passed t i j r other role
-  passed h = go (inRanges t i j r && other) (not (faultyOf t i) && role) refl refl h
+  pub passed : {v : Verdict} → v ≡ messageVerdict t i j r other role → v ≡ Taken → Passed t i j r other role
+  passed ev h = go (inRanges t i j r && other) (not (faultyOf t i) && role) refl refl (sym ev ∙ h)
     where
       go : (x y : Bool) → (inRanges t i j r && other) ≡ x → (not (faultyOf t i) && role) ≡ y → pick x (pick y Taken (Refused Role)) (Refused Range) ≡ Taken
           → Passed t i j r other role

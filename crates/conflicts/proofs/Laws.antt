@@ -110,6 +110,11 @@ unfolding rowsFrom
 length-rows s zero m = refl
 length-rows s (suc n) m = ap suc (length-rows s n (suc m))
 
+-- There is a row for every command number.
+pub rows-size : (s : List ℕ) → length (conflictRows s) ≡ maxCommands
+unfolding conflictRows
+rows-size s = length-rows s maxCommands 0
+
 pub rows-start : (s ws : List ℕ) → length ws ≡ maxCommands → sets ws 0 (rowsFrom s (maxCommands - 0) 0) ≡ conflictRows s
 unfolding conflictRows
 rows-start s ws h =

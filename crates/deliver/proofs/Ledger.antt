@@ -73,7 +73,8 @@ delivered-none book k b size w =
     }
 
 -- One command, and then others.
-pub delivered-more : (book : List Command) (k m : ℕ) (l : List ℕ) {a b c : List ℕ} → Delivered book k (m ∷ []) a b → Delivered book (k + 1) l b c → Delivered book k (m ∷ l) a c
+pub delivered-more : (book : List Command) (k m : ℕ) (l : List ℕ) {a b c : List ℕ} → Delivered book k (m ∷ []) a b → Delivered book (k + 1) l b c
+    → Delivered book k (m ∷ l) a c
 delivered-more book k m l {a} {b} {c} p q =
     let e : k + suc (length l) ≡ k + 1 + length l = omega arith in
     record {
@@ -88,7 +89,8 @@ delivered-more book k m l {a} {b} {c} p q =
     }
 
 -- Some commands, and then others.
-pub delivered-append : (book : List Command) (k : ℕ) (l l′ : List ℕ) {a b c : List ℕ} → Delivered book k l a b → Delivered book (k + length l) l′ b c → Delivered book k (l ++ l′) a c
+pub delivered-append : (book : List Command) (k : ℕ) (l l′ : List ℕ) {a b c : List ℕ} → Delivered book k l a b → Delivered book (k + length l) l′ b c
+    → Delivered book k (l ++ l′) a c
 delivered-append book k l l′ {a} {b} {c} p q =
     let n = length-append l l′ in
     let e : k + length (l ++ l′) ≡ k + length l + length l′ = omega arith in
@@ -110,7 +112,8 @@ pub all-more : (book : List Command) (k : ℕ) (x : Set) {y : Set} {m : ℕ} {a 
 all-more book k x {y} {m} {a} {b} {c} e em ey p q =
     subst (λ (l : List ℕ). Delivered book k l a c) ((λ i. em i ∷ inOrder (ey i)) ∙ sym (order-first x e)) (delivered-more book k m (inOrder y) p q)
 
-pub all-done : (book : List Command) (k : ℕ) (x : Set) {b : List ℕ} → isEmptyOf x ≡ true → length b ≡ siteSize → Within (registerOf b registerPlace) → Delivered book k (inOrder x) b b
+pub all-done : (book : List Command) (k : ℕ) (x : Set) {b : List ℕ} → isEmptyOf x ≡ true → length b ≡ siteSize → Within (registerOf b registerPlace)
+    → Delivered book k (inOrder x) b b
 all-done book k x {b} e size w = subst (λ (l : List ℕ). Delivered book k l b b) (sym (order-none x e)) (delivered-none book k b size w)
 
 -- The command at a place of the book.

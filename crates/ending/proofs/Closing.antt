@@ -47,7 +47,8 @@ pub size-small : (x : Set) {n : ℕ} → n ≡ sizeOf x → n ≤ 64
 size-small x e = let l = count-le capacity (inSet x) in omega arith
 
 -- A round end that the code takes is decided and has room for what it delivers.
-pub ready : (h : Site) (commands : ℕ) (decided : Bool) (x y : Set) {n k : ℕ} {r : Verdict} → n ≡ sizeOf x → k ≡ sizeOf y → r ≡ judgedEnd h commands decided (n + k) → r ≡ Taken
+pub ready : (h : Site) (commands : ℕ) (decided : Bool) (x y : Set) {n k : ℕ} {r : Verdict} → n ≡ sizeOf x → k ≡ sizeOf y → r ≡ judgedEnd h commands decided (n + k)
+    → r ≡ Taken
     → (decided ≡ true) × (h .deliveries + length (inOrder x) + length (inOrder y) ≤ commands)
 ready h commands decided x y {n} {k} en ek er et =
     let a = size-order x en in

@@ -36,13 +36,15 @@ module _ (t : SiteTable) (book : List Command) (b : List ℕ) (small : (i : ℕ)
       (sym h) (refused t book (verdict (protocol.forFastDelivery (dash t book) m (view t book b))) x (sym e ∙ h) good small)
 
   -- There is a place for the delivery.
-  pub fast-space : {r : Verdict} {h : Site} → length book ≤ capacity → r ≡ verdict (protocol.forFastDelivery (dash t book) m (view t book b)) → r ≡ Taken → h ≡ headOf b → h .deliveries < capacity
+  pub fast-space : {r : Verdict} {h : Site} → length book ≤ capacity → r ≡ verdict (protocol.forFastDelivery (dash t book) m (view t book b)) → r ≡ Taken → h ≡ headOf b
+      → h .deliveries < capacity
   fast-space {h = h} few e et eh =
       let l = taken-room t book b m (sym e ∙ et) in
       let q : h .deliveries ≡ headOf b .deliveries = ap (λ (x : Site). x .deliveries) eh in
       omega arith
 
-  pub fast-taken : {r : Verdict} {h h′ : Site} {b₁ b₂ : List ℕ} → length book ≤ capacity → m < length book → r ≡ verdict (protocol.forFastDelivery (dash t book) m (view t book b)) → r ≡ Taken
+  pub fast-taken : {r : Verdict} {h h′ : Site} {b₁ b₂ : List ℕ} → length book ≤ capacity → m < length book
+      → r ≡ verdict (protocol.forFastDelivery (dash t book) m (view t book b)) → r ≡ Taken
       → h ≡ headOf b → Delivered book (h .deliveries) (m ∷ []) b b₁ → h′ ≡ withFast h m → b₂ ≡ splice b₁ 0 (headBytes h′) → ((i : ℕ) → getD b₂ i 0 < 256)
       → Carried t book (verdict (protocol.forFastDelivery (dash t book) m (view t book b))) (protocol.deliverFast (dash t book) m (view t book b)) (view t book b) Taken b₂
   unfolding headOf

@@ -67,7 +67,8 @@ heard-agree {b} {b′} g = λ i j r m. point j r m i
 pub register-agree : {b b′ : List ℕ} → Agree b b′ registerPlace deliveriesPlace → registerOf b′ registerPlace ≡ registerOf b registerPlace
 register-agree {b} {b′} g = λ i k. point k (ltb k bikes) refl i
   where
-    point : (k : ℕ) (t : Bool) → ltb k bikes ≡ t → pick t (bikeIn b′ (registerPlace + bikeSize * k)) (bike 0 0) ≡ pick t (bikeIn b (registerPlace + bikeSize * k)) (bike 0 0)
+    point : (k : ℕ) (t : Bool) → ltb k bikes ≡ t
+        → pick t (bikeIn b′ (registerPlace + bikeSize * k)) (bike 0 0) ≡ pick t (bikeIn b (registerPlace + bikeSize * k)) (bike 0 0)
     point k true e =
         let l = ltb-true k bikes e in
         λ i. bike (g .reads 4 (registerPlace + bikeSize * k) (omega arith) (omega arith) i) (g .reads 4 (registerPlace + bikeSize * k + 4) (omega arith) (omega arith) i)

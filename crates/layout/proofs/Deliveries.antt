@@ -21,7 +21,8 @@ use Rattle.layout.proofs.Agree.{agree-before, deliveries-agree}
 use Rattle.layout.proofs.Senders.{read-bytes}
 
 -- What the code of record_delivery does, in one step.
-pub delivery-written : (b : List ℕ) (at m : ℕ) (z : ℤ) {word : ℕ} {l l′ : List ℕ} → at ≤ length b → SFits w32 z → word ≡ word32 (signed32 (word32 z)) → l ≡ splice b at (bytes 1 m)
+pub delivery-written : (b : List ℕ) (at m : ℕ) (z : ℤ) {word : ℕ} {l l′ : List ℕ} → at ≤ length b → SFits w32 z → word ≡ word32 (signed32 (word32 z))
+    → l ≡ splice b at (bytes 1 m)
     → l′ ≡ splice l (at + 1) (bytes 4 word) → l′ ≡ splice b at (deliveryBytes m z)
 unfolding bytes
 delivery-written b at m z {l = l} h f w p q =

@@ -46,7 +46,8 @@ module _ (b : List ℕ) (h : Site) (size : length b ≡ siteSize) where
       small Acknowledging = omega arith
       small (Waiting p) = omega arith
 
-  words-back : Fit h → (readLe 8 (splice b 0 (headBytes h)) ncPlace ≡ proposalOf (h .phase) .nc .bits) × (readLe 8 (splice b 0 (headBytes h)) cPlace ≡ proposalOf (h .phase) .c .bits)
+  words-back : Fit h
+      → (readLe 8 (splice b 0 (headBytes h)) ncPlace ≡ proposalOf (h .phase) .nc .bits) × (readLe 8 (splice b 0 (headBytes h)) cPlace ≡ proposalOf (h .phase) .c .bits)
   unfolding splice numbersBytes setsBytes readLe value bytes
   words-back f = (value-bytes 8 (proposalOf (h .phase) .nc .bits) (f .nc), value-bytes 8 (proposalOf (h .phase) .c .bits) (f .c))
 
@@ -95,7 +96,8 @@ module _ (t : SiteTable) (book : List Command) where
   unchanged g small = holds g small refl
 
   -- A step that ends by writing the header h over bytes whose tables are good: one law by value is left, that of the last argument.
-  pub finish : (b : List ℕ) (h : Site) {b′ : List ℕ} {s : protocol.Site (dash t book)} → length b ≡ siteSize → b′ ≡ splice b 0 (headBytes h) → ((i : ℕ) → getD b′ i 0 < 256)
+  pub finish : (b : List ℕ) (h : Site) {b′ : List ℕ} {s : protocol.Site (dash t book)} → length b ≡ siteSize → b′ ≡ splice b 0 (headBytes h)
+      → ((i : ℕ) → getD b′ i 0 < 256)
       → Fit h → GoodHead (length book) h → GoodTables (t .sites) (length book) (h .deliveries) b
       → siteOf t book h (heardOf b) (ledgerOf t book (h .deliveries) b) ≡ s → Holds t book b′ s
   finish b h {b′} size e small f g tables law =

@@ -25,7 +25,8 @@ phase-waiting (suc n) nc c h = refl
 -- ---- writing
 
 -- A write right after another.
-pub next : (s : List ℕ) (at : ℕ) (a b : List ℕ) (k : ℕ) {l l′ : List ℕ} → at + length a ≡ k → at ≤ length s → l ≡ splice s at a → l′ ≡ splice l k b → l′ ≡ splice s at (a ++ b)
+pub next : (s : List ℕ) (at : ℕ) (a b : List ℕ) (k : ℕ) {l l′ : List ℕ} → at + length a ≡ k → at ≤ length s → l ≡ splice s at a → l′ ≡ splice l k b
+    → l′ ≡ splice s at (a ++ b)
 next s at a b k e h p q =
     q ∙ ap (λ (l : List ℕ). splice l k b) p ∙ ap (λ (m : ℕ). splice (splice s at a) m b) (sym e) ∙ splice-two s at a b h
 

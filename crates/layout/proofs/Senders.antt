@@ -38,7 +38,8 @@ or-false true = refl
 or-false false = refl
 
 -- What the code of hear does, in one step.
-pub united : (b : List ℕ) (at : ℕ) (set : Set) {place : ℕ} {old new : Set} {l : List ℕ} → place ≡ at → old ≡ readSet b place → new ≡ unionOf old set → l ≡ writeSet b place new
+pub united : (b : List ℕ) (at : ℕ) (set : Set) {place : ℕ} {old new : Set} {l : List ℕ} → place ≡ at → old ≡ readSet b place → new ≡ unionOf old set
+    → l ≡ writeSet b place new
     → l ≡ writeSet b at (unionOf (readSet b at) set)
 united b at set ep eo en el =
     el ∙ (λ i. writeSet b (ep i) ((en ∙ ap (λ (s : Set). unionOf s set) (eo ∙ ap (readSet b) ep)) i))

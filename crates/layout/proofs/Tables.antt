@@ -118,7 +118,8 @@ executed-apart c b {b′} size v x =
       size = ap length (x .elsewhere) ∙ length-splice b at bs (omega arith) ∙ size;
     }
 
-pub tables-executed : (sites commands n : ℕ) (c : Command) (b : List ℕ) {b′ : List ℕ} {z : ℤ} → length b ≡ siteSize → n ≤ capacity → Valid c → Executed c registerPlace b b′ z
+pub tables-executed : (sites commands n : ℕ) (c : Command) (b : List ℕ) {b′ : List ℕ} {z : ℤ} → length b ≡ siteSize → n ≤ capacity → Valid c
+    → Executed c registerPlace b b′ z
     → GoodTables sites commands n b → GoodTables sites commands n b′
 tables-executed sites commands n c b size l v x old =
     let a = executed-apart c b size v x in

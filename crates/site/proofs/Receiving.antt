@@ -58,7 +58,8 @@ module _ (h : Site) (x : Set) where
       }
 
 module _ (b : List ℕ) (small : (i : ℕ) → getD b i 0 < 256) (size : length b ≡ siteSize) (x : Set) (l : x .bits < 2 ^ 64) where
-  pub receive-holds : {h h′ : Site} {b′ : List ℕ} → h ≡ headOf b → h′ ≡ withReceived h x → b′ ≡ splice b 0 (headBytes h′) → ((i : ℕ) → getD b′ i 0 < 256) → Received x b b′
+  pub receive-holds : {h h′ : Site} {b′ : List ℕ} → h ≡ headOf b → h′ ≡ withReceived h x → b′ ≡ splice b 0 (headBytes h′) → ((i : ℕ) → getD b′ i 0 < 256)
+      → Received x b b′
   unfolding headOf
   receive-holds {h} {h′} {b′} eh er eb small′ t book g w =
       finish t book b (withReceived (headOf b) x) size (eb ∙ ap (λ (k : Site). splice b 0 (headBytes k)) (er ∙ ap (λ (k : Site). withReceived k x) eh)) small′

@@ -76,8 +76,11 @@ started t n {sites} {now} {before} e size f h =
                 record {
                   size = size;
                   site = λ i l. f .site i (omega arith) t book .good;
+                  position =
+                      λ i l. subst (λ (n : ℕ). n ≤ 0) (sym (λ k. f .site i (omega arith) t book .says k .position)) (omega arith);
                   room = omega arith;
                   short = short;
+                  logged = λ k l. absurd (omega arith);
                   sent = h .good;
                   acks = λ j r k. ap (λ (a : ℕ → ℕ → List (ℕ → Bool)). knownTo (length book) (nth (a j r) k)) (h .acks);
                   checks = λ j r. λ k. knownTo (length book) (h .checks k j r);

@@ -17,12 +17,14 @@ use Rattle.wire.specs.Wire.{splice}
 use Rattle.wire.proofs.Laws.{length-splice}
 use Rattle.table.specs.declared.SiteTable.{SiteTable}
 use Rattle.register.specs.declared.Command.{Command}
+use Rattle.protocol.specs.System.{System}
 use Rattle.protocol.specs.Site as protocol
 use Rattle.protocol.specs.World.{World, Step, put, judge, change, step, settle}
 use Rattle.protocol.specs.CommonSequence.{isTaken}
 use Rattle.system.specs.Dash.{dash}
-use Rattle.layout.specs.Layout.{siteSize, view}
+use Rattle.layout.specs.Layout.{siteSize, headOf, view}
 use Rattle.layout.specs.Good.{Good, Holds}
+use Rattle.layout.specs.Step.{Carried}
 use Rattle.layout.proofs.Finish.{unchanged}
 use Rattle.world.specs.World.{Buffers, siteAt, GoodWorld, worldOf, HoldsWorld, logWritten, sentWritten, Outcome}
 use Rattle.world.specs.Parts.{lent, AtSite}
@@ -32,6 +34,17 @@ use Rattle.world.proofs.Sites.{site-same, site-other, small-site}
 abbrev pub putSite : Buffers → ℕ → List ℕ → Buffers
 putSite b i ys = record { sites = splice (b .sites) (i * siteSize) ys; log = b .log; entries = b .entries; sent = b .sent }
 
+-- A site put back as it was.
+put-same : {S : System} (w : World S) (i : ℕ) → put S i (w .site i) w ≡ w
+put-same {S} w i = λ k. record { site = λ j. point j k; log = w .log; acks = w .acks; checks = w .checks }
+  where
+    point : (j : ℕ) → pick (eqb j i) (w .site i) (w .site j) ≡ w .site j
+    point j =
+        elim (ℕ-discrete j i) [
+          | yes e ↦ ap (λ (x : Bool). pick x (w .site i) (w .site j)) (eq-eqb j i e) ∙ ap (w .site) (sym e)
+          | no n ↦ ap (λ (x : Bool). pick x (w .site i) (w .site j)) (ne-eqb j i n)
+        ]
+
 module _ (t : SiteTable) (book : List Command) (b : Buffers) (good : GoodWorld t (length book) b) where
   pub site-room : (i : ℕ) → i < t .sites → i * siteSize + siteSize ≤ length (b .sites)
   site-room i l = omega (arith, good .size)
@@ -39,6 +52,9 @@ module _ (t : SiteTable) (book : List Command) (b : Buffers) (good : GoodWorld t
   -- A site that there is is seen in its bytes.
   pub seen : (i : ℕ) → i < t .sites → worldOf t book b .site i ≡ view t book (siteAt (b .sites) i)
   seen i l = ap (λ (x : Bool). pick x (view t book (siteAt (b .sites) i)) (protocol.fresh (dash t book))) (lt-ltb i (t .sites) l)
+
+  pub position-seen : (i : ℕ) → i < t .sites → worldOf t book b .site i .position ≤ b .entries
+  position-seen i l = subst (λ (s : protocol.Site (dash t book)). s .position ≤ b .entries) (sym (seen i l)) (good .position i l)
 
   module _ (small : (k : ℕ) → getD (b .sites) k 0 < 256) where
     pub kept : HoldsWorld t book b (worldOf t book b)
@@ -52,7 +68,7 @@ module _ (t : SiteTable) (book : List Command) (b : Buffers) (good : GoodWorld t
         }
 
     -- Site i has another state.
-    module _ (i : ℕ) (inside : i < t .sites) {ys : List ℕ} {s : protocol.Site (dash t book)} (h : Holds t book ys s) where
+    module _ (i : ℕ) (inside : i < t .sites) {ys : List ℕ} {s : protocol.Site (dash t book)} (h : Holds t book ys s) (read : s .position ≤ b .entries) where
       room : i * siteSize + siteSize ≤ length (b .sites)
       room = site-room i inside
 
@@ -86,6 +102,15 @@ module _ (t : SiteTable) (book : List Command) (b : Buffers) (good : GoodWorld t
                 ∙ sym (ap (λ (x : Bool). pick x s (worldOf t book b .site j)) (ne-eqb j i n))
           ]
 
+      position-after : (j : ℕ) → j < t .sites → headOf (siteAt (putSite b i ys .sites) j) .position ≤ b .entries
+      position-after j l =
+          elim (ℕ-discrete j i) [
+            | yes e ↦
+                subst (λ (y : List ℕ). headOf y .position ≤ b .entries) (sym (ap (siteAt (putSite b i ys .sites)) e ∙ this))
+                (subst (λ (n : ℕ). n ≤ b .entries) (sym (λ k. h .says k .position)) read)
+            | no n ↦ subst (λ (y : List ℕ). headOf y .position ≤ b .entries) (sym (other j n)) (good .position j l)
+          ]
+
       pub put-holds : HoldsWorld t book (putSite b i ys) (put (dash t book) i s (worldOf t book b))
       put-holds =
           record {
@@ -96,8 +121,10 @@ module _ (t : SiteTable) (book : List Command) (b : Buffers) (good : GoodWorld t
                 record {
                   size = let r = room in let z = h .good .size in length-splice (b .sites) (i * siteSize) ys (omega arith) ∙ good .size;
                   site = λ j l. site-after j l .good;
+                  position = position-after;
                   room = good .room;
                   short = good .short;
+                  logged = good .logged;
                   sent = good .sent;
                   acks = good .acks;
                   checks = good .checks;
@@ -135,13 +162,49 @@ module _ (t : SiteTable) (book : List Command) (b : Buffers) (good : GoodWorld t
     pub one-site : ((k : ℕ) → getD (b .sites) k 0 < 256) → (i : ℕ) → i < t .sites → {promise : List ℕ → List ℕ → Type 0} {sites : List ℕ}
         → (h : AtSite i promise (b .sites) sites) → (f : protocol.Site (dash t book) → protocol.Site (dash t book))
         → Holds t book (h .new) (f (view t book (siteAt (b .sites) i)))
+        → f (view t book (siteAt (b .sites) i)) .position ≤ b .entries
         → judge (dash t book) (worldOf t book b) u ≡ Taken
         → change (dash t book) (worldOf t book b) u ≡ put (dash t book) i (f (worldOf t book b .site i)) (worldOf t book b)
         → b .log ≡ logWritten t book (worldOf t book b) u b → b .sent ≡ sentWritten t book (worldOf t book b) u b
         → Outcome t book u b Taken (lent sites (b .log) (b .entries) (b .sent))
-    one-site small i inside h f holds e ec el es =
+    one-site small i inside h f holds read e ec el es =
         subst (λ (y : List ℕ). Outcome t book u b Taken (lent y (b .log) (b .entries) (b .sent))) (sym (h .bytes))
         (taken e
         (subst (HoldsWorld t book (putSite b i (h .new))) (sym ec)
-        (put-holds small i inside (subst (λ (s : protocol.Site (dash t book)). Holds t book (h .new) (f s)) (sym (seen i inside)) holds)))
+        (put-holds small i inside (subst (λ (s : protocol.Site (dash t book)). Holds t book (h .new) (f s)) (sym (seen i inside)) holds)
+        (subst (λ (s : protocol.Site (dash t book)). f s .position ≤ b .entries) (sym (seen i inside)) read)))
         el es)
+
+    -- A step that is refused after one site was written as it was.
+    pub refused-site : ((k : ℕ) → getD (b .sites) k 0 < 256) → (i : ℕ) → i < t .sites → {promise : List ℕ → List ℕ → Type 0} {sites : List ℕ}
+        → (h : AtSite i promise (b .sites) sites) → Holds t book (h .new) (worldOf t book b .site i)
+        → (r : Refusal) → judge (dash t book) (worldOf t book b) u ≡ Refused r
+        → Outcome t book u b (Refused r) (lent sites (b .log) (b .entries) (b .sent))
+    refused-site small i inside {sites = sites} h holds r e =
+        record {
+          verdict = sym e;
+          holds =
+              subst
+              (λ (v : Verdict). HoldsWorld t book (lent sites (b .log) (b .entries) (b .sent)) (settle (dash t book) v (change (dash t book) (worldOf t book b) u) (worldOf t book b)))
+              (sym e)
+              (subst (λ (y : List ℕ). HoldsWorld t book (lent y (b .log) (b .entries) (b .sent)) (worldOf t book b)) (sym (h .bytes))
+              (subst (HoldsWorld t book (putSite b i (h .new))) (put-same (worldOf t book b) i) (put-holds small i inside holds (position-seen i inside))));
+          log = sym (ap (λ (v : Verdict). pick (isTaken v) (logWritten t book (worldOf t book b) u b) (b .log)) e);
+          sent = sym (ap (λ (v : Verdict). pick (isTaken v) (sentWritten t book (worldOf t book b) u b) (b .sent)) e);
+        }
+
+    -- A step that changes one site where it is taken, carried out by a function that judges it.
+    pub carried-site : ((k : ℕ) → getD (b .sites) k 0 < 256) → (i : ℕ) → i < t .sites → {promise : List ℕ → List ℕ → Type 0} {sites : List ℕ}
+        → (h : AtSite i promise (b .sites) sites) → (f : protocol.Site (dash t book) → protocol.Site (dash t book)) (v : Verdict) {r : Verdict}
+        → Carried t book v (f (view t book (siteAt (b .sites) i))) (view t book (siteAt (b .sites) i)) r (h .new)
+        → (v ≡ Taken → f (view t book (siteAt (b .sites) i)) .position ≤ b .entries)
+        → judge (dash t book) (worldOf t book b) u ≡ v
+        → change (dash t book) (worldOf t book b) u ≡ put (dash t book) i (f (worldOf t book b .site i)) (worldOf t book b)
+        → b .log ≡ logWritten t book (worldOf t book b) u b → b .sent ≡ sentWritten t book (worldOf t book b) u b
+        → Outcome t book u b r (lent sites (b .log) (b .entries) (b .sent))
+    carried-site small i inside {sites = sites} h f Taken k read e ec el es =
+        subst (λ (y : Verdict). Outcome t book u b y (lent sites (b .log) (b .entries) (b .sent))) (sym (k .answer))
+        (one-site small i inside h f (k .site) (read refl) e ec el es)
+    carried-site small i inside {sites = sites} h f (Refused x) k read e ec el es =
+        subst (λ (y : Verdict). Outcome t book u b y (lent sites (b .log) (b .entries) (b .sent))) (sym (k .answer))
+        (refused-site small i inside h (subst (Holds t book (h .new)) (sym (seen i inside)) (k .site)) x e)

@@ -1,3 +1,4 @@
 pub mod Sites
 pub mod Hold
 pub mod AllFresh
+pub mod Growing

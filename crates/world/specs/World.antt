@@ -16,13 +16,14 @@ use Rattle.table.specs.declared.SiteTable.{SiteTable}
 use Rattle.register.specs.declared.Command.{Command}
 use Rattle.protocol.specs.Recovery as recovery
 use Rattle.protocol.specs.Site as protocol
-use Rattle.protocol.specs.World.{World, Step, command, acknowledgment, check, falseAcknowledgment, falseCheck, falseEntry, turn, fastDelivery, logRead, roundEnd, entryOf, judge, step}
+use Rattle.protocol.specs.World.{World, Step, command, acknowledgment, check, falseAcknowledgment, falseCheck, falseEntry, turn, fastDelivery, logRead, roundEnd, judge, step}
+use Rattle.protocol.specs.World as worlds
 use Rattle.protocol.specs.CommonSequence.{isTaken}
 use Rattle.system.specs.Dash.{dash}
-use Rattle.layout.specs.Layout.{siteSize, view}
+use Rattle.layout.specs.Layout.{siteSize, headOf, view}
 use Rattle.layout.specs.Good.{Good, Holds}
 use Rattle.entries.specs.declared.Entry.{Entry}
-use Rattle.entries.specs.Entries.{entrySize, logTo, writeEntry}
+use Rattle.entries.specs.Entries.{entrySize, entryOf, logTo, writeEntry, inRangeOf}
 use Rattle.sent.specs.Sent.{acksOf, checksOf, cellOf, acknowledgedIn, checkedIn, GoodSent}
 
 -- The most bytes that a log is lent: a site's log position has 2 bytes.
@@ -49,8 +50,12 @@ knownTo commands (some x) = all capacity (λ m. not (x m) || ltb m commands)
 pub record GoodWorld (t : SiteTable) (commands : ℕ) (b : Buffers) : Type 0 where
   pub size : length (b .sites) ≡ t .sites * siteSize
   pub site : (i : ℕ) → i < t .sites → Good (t .sites) commands (siteAt (b .sites) i)
+  -- no site has read more entries than there are
+  pub position : (i : ℕ) → i < t .sites → headOf (siteAt (b .sites) i) .position ≤ b .entries
   pub room : b .entries * entrySize ≤ length (b .log)
   pub short : length (b .log) ≤ maxLog
+  -- every entry that is meant is in range
+  pub logged : (k : ℕ) → k < b .entries → inRangeOf (t .sites) commands (entryOf (b .log) k) ≡ true
   pub sent : GoodSent (b .sent)
   pub acks : (j r k : ℕ) → knownTo commands (nth (acksOf (b .sent) j r) k) ≡ true
   pub checks : (j r : ℕ) → knownTo commands (checksOf (b .sent) j r) ≡ true
@@ -86,7 +91,7 @@ module _ (t : SiteTable) (book : List Command) where
   logWritten w (falseEntry j r nc c) b = writeEntry (b .log) (b .entries) (entryFor (record { site = j; round = r; nc = nc; c = c }))
   logWritten w (turn i) b =
       pick (protocol.acknowledges (dash t book) (w .site i)) (b .log)
-      (writeEntry (b .log) (b .entries) (entryFor (entryOf (dash t book) i (w .site i))))
+      (writeEntry (b .log) (b .entries) (entryFor (worlds.entryOf (dash t book) i (w .site i))))
   logWritten w (fastDelivery i m) b = b .log
   logWritten w (logRead i) b = b .log
   logWritten w (roundEnd i) b = b .log

@@ -3,7 +3,7 @@
 use borrow.Author.Needs.{needs}
 use denote.Ref.{now}
 use native.Mathlib.Omega.{arith}
-use mathlib.Core.Path.{refl, sym, _∙_}
+use mathlib.Core.Path.{refl}
 use mathlib.Core.Bool.{_&&_, not}
 use Rattle.table.proofs.Laws.{good-limits}
 use lib.Dec.{leb}
@@ -35,7 +35,7 @@ enum-told c = search needs
 acknowledgment-requires : tie.Need-acknowledgment-requires
 acknowledgment-requires c κs =
     let o = c .before .before .before .before .before .before in
-    let p = passed (o .args .table) (o .args .i) (o .args .j) (o .args .r) (leb 1 (o .args .a) && leb (o .args .a) capacity) (not (c .before .before .before .is-faulty .result)) (sym (c .before .before .judge-message .ensures) ∙ c .enum-told .given .1) in
+    let p = passed (o .args .table) (o .args .i) (o .args .j) (o .args .r) (leb 1 (o .args .a) && leb (o .args .a) capacity) (not (c .before .before .before .is-faulty .result)) (c .before .before .judge-message .ensures) (c .enum-told .given .1) in
     let l = good-limits (o .args .table) (o .pre .1) in
     let s = p .sender in
     (o .pre .2, omega arith, p .first, p .last, leb-true 1 (o .args .a) (left (leb 1 (o .args .a)) (leb (o .args .a) capacity) (p .operands)))
@@ -54,7 +54,7 @@ returns-2 c =
 hear-requires : tie.Need-hear-requires
 hear-requires c κs =
     let o = c .before .before .before .before .before .before .before .before .before .before .before in
-    let p = passed (o .args .table) (o .args .i) (o .args .j) (o .args .r) (leb 1 (o .args .a) && leb (o .args .a) capacity) (not (c .before .before .before .before .before .before .before .before .is-faulty .result)) (sym (c .before .before .before .before .before .before .before .judge-message .ensures) ∙ c .before .before .before .before .before .enum-told .given .1) in
+    let p = passed (o .args .table) (o .args .i) (o .args .j) (o .args .r) (leb 1 (o .args .a) && leb (o .args .a) capacity) (not (c .before .before .before .before .before .before .before .before .is-faulty .result)) (c .before .before .before .before .before .before .before .judge-message .ensures) (c .before .before .before .before .before .enum-told .given .1) in
     let l = good-limits (o .args .table) (o .pre .1) in
     let s = p .sender in
     let q = p .receiver in
@@ -67,7 +67,7 @@ returns-3 : tie.Need-returns-3
 returns-3 c =
     let o = c .before .before .before .before .before .before .before .before .before .before .before .before .before .before in
     λ commands. acknowledged (o .args .table) commands (now (o .args .sent)) (now (o .args .sites)) (λ k. c .before .before .before .before .before .before .before .before .before .before .before .before .before .slice-known .given k .fits) (o .args .i) (o .args .j) (o .args .r) (o .args .a) refl (c .before .before .before .before .before .before .before .before .before .before .before .is-faulty .ensures) (c .before .before .before .before .before .before .before .before .before .before .judge-message .ensures) (c .before .before .before .before .before .before .before .before .enum-told .given .1) (c .before .before .before .before .before .before .before .acknowledgment .ensures)
-    (passed (o .args .table) (o .args .i) (o .args .j) (o .args .r) (leb 1 (o .args .a) && leb (o .args .a) capacity) (not (c .before .before .before .before .before .before .before .before .before .before .before .is-faulty .result)) (sym (c .before .before .before .before .before .before .before .before .before .before .judge-message .ensures) ∙ c .before .before .before .before .before .before .before .before .enum-told .given .1)) _ (c .before .before .before .before .before .message .given .1) (c .before .before .hear .ensures)
+    (passed (o .args .table) (o .args .i) (o .args .j) (o .args .r) (leb 1 (o .args .a) && leb (o .args .a) capacity) (not (c .before .before .before .before .before .before .before .before .before .before .before .is-faulty .result)) (c .before .before .before .before .before .before .before .before .before .before .judge-message .ensures) (c .before .before .before .before .before .before .before .before .enum-told .given .1)) _ (c .before .before .before .before .before .message .given .1) (c .before .before .hear .ensures)
 
 pub acknowledgment-spec : {M : Type 1} → statement M
 acknowledgment-spec =

@@ -3,7 +3,6 @@
 use borrow.Author.Needs.{needs}
 use denote.Ref.{now}
 use native.Mathlib.Omega.{arith}
-use mathlib.Core.Path.{refl, sym, _∙_}
 use mathlib.Core.Bool.{true, not}
 use Rattle.table.proofs.Laws.{good-limits}
 use Rattle.arrivals.proofs.Arriving.{check-refused, check-never, checked}
@@ -31,7 +30,7 @@ enum-told c = search needs
 check-requires : tie.Need-check-requires
 check-requires c κs =
     let o = c .before .before .before .before .before .before in
-    let p = passed (o .args .table) (o .args .i) (o .args .j) (o .args .r) true (not (c .before .before .before .is-faulty .result)) (sym (c .before .before .judge-message .ensures) ∙ c .enum-told .given .1) in
+    let p = passed (o .args .table) (o .args .i) (o .args .j) (o .args .r) true (not (c .before .before .before .is-faulty .result)) (c .before .before .judge-message .ensures) (c .enum-told .given .1) in
     let l = good-limits (o .args .table) (o .pre .1) in
     let s = p .sender in
     (o .pre .2, omega arith, p .first, p .last)
@@ -50,7 +49,7 @@ returns-2 c =
 receive-requires : tie.Need-receive-requires
 receive-requires c κs =
     let o = c .before .before .before .before .before .before .before .before .before .before .before in
-    let p = passed (o .args .table) (o .args .i) (o .args .j) (o .args .r) true (not (c .before .before .before .before .before .before .before .before .is-faulty .result)) (sym (c .before .before .before .before .before .before .before .judge-message .ensures) ∙ c .before .before .before .before .before .enum-told .given .1) in
+    let p = passed (o .args .table) (o .args .i) (o .args .j) (o .args .r) true (not (c .before .before .before .before .before .before .before .before .is-faulty .result)) (c .before .before .before .before .before .before .before .judge-message .ensures) (c .before .before .before .before .before .enum-told .given .1) in
     let q = p .receiver in
     omega (arith, o .pre .0)
 
@@ -61,7 +60,7 @@ returns-3 : tie.Need-returns-3
 returns-3 c =
     let o = c .before .before .before .before .before .before .before .before .before .before .before .before .before .before in
     λ commands. checked (o .args .table) commands (now (o .args .sent)) (now (o .args .sites)) (λ k. c .before .before .before .before .before .before .before .before .before .before .before .before .before .slice-known .given k .fits) (o .args .i) (o .args .j) (o .args .r) (c .before .before .before .before .before .before .before .before .before .before .before .is-faulty .ensures) (c .before .before .before .before .before .before .before .before .before .before .judge-message .ensures) (c .before .before .before .before .before .before .before .before .enum-told .given .1) (c .before .before .before .before .before .before .before .check .ensures)
-    (passed (o .args .table) (o .args .i) (o .args .j) (o .args .r) true (not (c .before .before .before .before .before .before .before .before .before .before .before .is-faulty .result)) (sym (c .before .before .before .before .before .before .before .before .before .before .judge-message .ensures) ∙ c .before .before .before .before .before .before .before .before .enum-told .given .1)) _ (c .before .before .before .before .before .message .given .1) (c .before .before .receive .ensures)
+    (passed (o .args .table) (o .args .i) (o .args .j) (o .args .r) true (not (c .before .before .before .before .before .before .before .before .before .before .before .is-faulty .result)) (c .before .before .before .before .before .before .before .before .before .before .judge-message .ensures) (c .before .before .before .before .before .before .before .before .enum-told .given .1)) _ (c .before .before .before .before .before .message .given .1) (c .before .before .receive .ensures)
 
 pub check-spec : {M : Type 1} → statement M
 check-spec =

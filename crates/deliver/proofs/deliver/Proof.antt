@@ -18,10 +18,16 @@ indexed-requires : tie.Need-indexed-requires
 indexed-requires c κs = search needs
 
 execute-requires : tie.Need-execute-requires
-execute-requires c κs = let s = c .before .before .before .before .before in (omega (arith, s .pre .0), s .pre .1, subst Valid (sym (c .before .indexed .ensures)) (commands-valid _ _ (s .pre .3)))
+execute-requires c κs =
+    let s = c .before .before .before .before .before in
+    (omega (arith, s .pre .0), s .pre .1, subst Valid (sym (c .before .indexed .ensures)) (commands-valid _ _ (s .pre .3)))
 
 cast-record-delivery : tie.Need-cast-record-delivery
-cast-record-delivery c = let s = c .before .before .before .before .before .before .before .before .before in let f = few-commands (now (s .args .book)) in let h = s .pre .3 in record { fits = omega arith }
+cast-record-delivery c =
+    let s = c .before .before .before .before .before .before .before .before .before in
+    let f = few-commands (now (s .args .book)) in
+    let h = s .pre .3 in
+    record { fits = omega arith }
 
 record-delivery-requires : tie.Need-record-delivery-requires
 record-delivery-requires c κs = search needs
@@ -30,7 +36,15 @@ same-length : tie.Need-same-length
 same-length c = search needs
 
 returns : tie.Need-returns
-returns c = let s = c .before .before .before .before .before .before .before .before .before .before .before .before in let a = s .args in let f = few-commands (now (a .book)) in let h = s .pre .3 in delivered-one (commandsOf (now (a .book))) (a .k) (a .m) (now (a .site)) (s .pre .0) (s .pre .1) (s .pre .4) h (omega arith) (command-valid (now (a .book)) (a .m) h) (c .before .before .before .before .before .before .before .before .indexed .ensures ∙ command-at (now (a .book)) (a .m)) (c .before .before .before .before .before .before .execute .ensures) (returned w32 (c .before .before .before .before .before .before .execute .ok) refl) (c .before .before .record-delivery .ensures)
+returns c =
+    let s = c .before .before .before .before .before .before .before .before .before .before .before .before in
+    let a = s .args in
+    let f = few-commands (now (a .book)) in
+    let h = s .pre .3 in
+    delivered-one (commandsOf (now (a .book))) (a .k) (a .m) (now (a .site)) (s .pre .0) (s .pre .1) (s .pre .4) h (omega arith) (command-valid (now (a .book)) (a .m) h)
+    (c .before .before .before .before .before .before .before .before .indexed .ensures ∙ command-at (now (a .book)) (a .m))
+    (c .before .before .before .before .before .before .execute .ensures) (returned w32 (c .before .before .before .before .before .before .execute .ok) refl)
+    (c .before .before .record-delivery .ensures)
 
 pub deliver-spec : {M : Type 1} → statement M
 deliver-spec =

@@ -40,10 +40,19 @@ loop-less : tie.Need-loop-less Inv-loop μ-loop
 loop-less c = omega arith
 
 loop-again : tie.Need-loop-again Inv-loop μ-loop
-loop-again c = let l = c .before .before .before .before .loop in let a = c .before .before .before .before .before .before .args in (omega arith, sender-more (now (a .site)) (a .round) (a .m) (l .sender) (omega arith) (omega arith) (omega arith) (l .inv .1) (c .before .before .heard .ensures) (c .before .has .ensures) (c .one .ensures .0))
+loop-again c =
+    let l = c .before .before .before .before .loop in
+    let a = c .before .before .before .before .before .before .args in (
+      omega arith,
+      sender-more (now (a .site)) (a .round) (a .m) (l .sender) (omega arith) (omega arith) (omega arith) (l .inv .1) (c .before .before .heard .ensures) (c .before .has .ensures) (c .one .ensures .0),
+    )
 
 returns : tie.Need-returns Inv-loop μ-loop
-returns c = let l = c .before .loop in let a = c .before .before .before .args in let e : l .sender ≡ a .sites = omega arith in l .inv .1 ∙ ap (λ (n : ℕ). count n (λ j. heardOf (now (a .site)) j (a .round) (a .m))) e
+returns c =
+    let l = c .before .loop in
+    let a = c .before .before .before .args in
+    let e : l .sender ≡ a .sites = omega arith in
+    l .inv .1 ∙ ap (λ (n : ℕ). count n (λ j. heardOf (now (a .site)) j (a .round) (a .m))) e
 
 pub senders-spec : {M : Type 1} → statement M
 senders-spec =

@@ -27,7 +27,8 @@ i32-of-requires : tie.Need-i32-of-requires
 i32-of-requires c κs = search needs
 
 returns : tie.Need-returns
-returns c = λ i. record { command = c .before .before .get1 .ensures i; answer = (returned w32 (c .i32-of .ok) (c .i32-of .ensures) ∙ ap signed32 (c .before .get4 .ensures)) i }
+returns c =
+    λ i. record { command = c .before .before .get1 .ensures i; answer = (returned w32 (c .i32-of .ok) (c .i32-of .ensures) ∙ ap signed32 (c .before .get4 .ensures)) i }
 
 pub delivery-at-spec : {M : Type 1} → statement M
 delivery-at-spec =

@@ -21,7 +21,10 @@ same-length : tie.Need-same-length
 same-length c = search needs
 
 returns : tie.Need-returns
-returns c = united _ _ (c .before .before .before .before .before .before .before .before .before .args .set) (c .before .before .before .before .before .before .before .heard-place .ensures .0) (c .before .before .before .before .before .read .ensures) (c .before .before .before .before .union .ensures) (c .before .before .write .ensures)
+returns c =
+    united _ _ (c .before .before .before .before .before .before .before .before .before .args .set)
+    (c .before .before .before .before .before .before .before .heard-place .ensures .0) (c .before .before .before .before .before .read .ensures)
+    (c .before .before .before .before .union .ensures) (c .before .before .write .ensures)
 
 pub hear-spec : {M : Type 1} → statement M
 hear-spec =

@@ -28,7 +28,11 @@ same-length : tie.Need-same-length
 same-length c = search needs
 
 returns : tie.Need-returns
-returns c = let s = c .before .before .before .before .before .before .before .before .before .before in delivery-written _ _ _ (s .args .answer) (omega (arith, s .pre)) (s .fits .answer) (c .before .before .before .before .before .before .before .before .u32-of .ensures) (c .before .before .before .before .before .before .put1 .ensures) (c .before .before .put4 .ensures)
+returns c =
+    let s = c .before .before .before .before .before .before .before .before .before .before in
+    delivery-written _ _ _ (s .args .answer) (omega (arith, s .pre)) (s .fits .answer)
+    (c .before .before .before .before .before .before .before .before .u32-of .ensures) (c .before .before .before .before .before .before .put1 .ensures)
+    (c .before .before .put4 .ensures)
 
 pub record-delivery-spec : {M : Type 1} → statement M
 record-delivery-spec =

@@ -24,7 +24,13 @@ same-length : tie.Need-same-length
 same-length c = search needs
 
 returns : tie.Need-returns
-returns c = numbers-written _ _ (c .before .before .before .before .before .before .before .before .before .before .before .before .before .before .before .before .before .before .pre) (c .before .before .before .before .before .before .before .before .before .before .before .before .before .before .before .put1 .ensures) (c .before .before .before .before .before .before .before .before .before .before .before .tag .ensures) (c .before .before .before .before .before .before .before .before .before .before .put12 .ensures) (c .before .before .before .before .before .before .put13 .ensures) (c .before .before .put2 .ensures)
+returns c =
+    numbers-written _ _
+    (c .before .before .before .before .before .before .before .before .before .before .before .before .before .before .before .before .before .before .pre)
+    (c .before .before .before .before .before .before .before .before .before .before .before .before .before .before .before .put1 .ensures)
+    (c .before .before .before .before .before .before .before .before .before .before .before .tag .ensures)
+    (c .before .before .before .before .before .before .before .before .before .before .put12 .ensures)
+    (c .before .before .before .before .before .before .put13 .ensures) (c .before .before .put2 .ensures)
 
 pub write-numbers-spec : {M : Type 1} → statement M
 write-numbers-spec =

@@ -19,7 +19,11 @@ same-length : tie.Need-same-length
 same-length c = search needs
 
 returns : tie.Need-returns
-returns c = λ t book. fresh-holds _ (c .before .before .before .before .before .before .before .clear .ensures) (c .before .before .before .before .before .before .before .clear .kept .0 ∙ c .before .before .before .before .before .before .before .before .before .before .pre) t book (c .before .before .before .before .fresh-header .ensures) (c .before .before .write .ensures) (λ i. c .slice-known3 .given i .fits)
+returns c =
+    λ t book.
+    fresh-holds _ (c .before .before .before .before .before .before .before .clear .ensures)
+    (c .before .before .before .before .before .before .before .clear .kept .0 ∙ c .before .before .before .before .before .before .before .before .before .before .pre) t
+    book (c .before .before .before .before .fresh-header .ensures) (c .before .before .write .ensures) (λ i. c .slice-known3 .given i .fits)
 
 pub fresh-spec : {M : Type 1} → statement M
 fresh-spec =

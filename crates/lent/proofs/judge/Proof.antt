@@ -35,7 +35,10 @@ judge-deliveries-requires : tie.Need-judge-deliveries-requires
 judge-deliveries-requires c κs = search needs
 
 returns-2 : tie.Need-returns-2
-returns-2 c = judged _ _ _ _ (c .before .before .before .before .before .before .before .before .if1 .left) (c .before .before .before .before .before .before .before .read .ensures) (c .before .before .before .before .judge-phase .ensures) (c .before .before .before .judge-header .ensures) (c .before .before .judge-heard .ensures) (c .before .judge .ensures) (c .judge-deliveries .ensures)
+returns-2 c =
+    judged _ _ _ _ (c .before .before .before .before .before .before .before .before .if1 .left)
+    (c .before .before .before .before .before .before .before .read .ensures) (c .before .before .before .before .judge-phase .ensures)
+    (c .before .before .before .judge-header .ensures) (c .before .before .judge-heard .ensures) (c .before .judge .ensures) (c .judge-deliveries .ensures)
 
 pub judge-spec : {M : Type 1} → statement M
 judge-spec =

@@ -36,7 +36,9 @@ loop-less : tie.Need-loop-less Inv-loop μ-loop
 loop-less c = omega arith
 
 loop-again : tie.Need-loop-again Inv-loop μ-loop
-loop-again c = let k = c .before .before .before .loop .k in (omega arith, loop-more k _ (c .before .before .before .loop .inv .1) (c .before .judge-slot .ensures) (not-false _ (c .if1 .left)))
+loop-again c =
+    let k = c .before .before .before .loop .k in
+    (omega arith, loop-more k _ (c .before .before .before .loop .inv .1) (c .before .judge-slot .ensures) (not-false _ (c .if1 .left)))
 
 returns-2 : tie.Need-returns-2 Inv-loop μ-loop
 returns-2 c = loop-done capacity (c .before .loop .k) _ (c .before .loop .inv .1) (omega arith)

@@ -40,7 +40,13 @@ within-requires-6 c κs = search needs
 
 returns : tie.Need-returns
 unfolding goodHead
-returns c = let a = c .before .before .before .before .before .before .before .before .before .args in let p = c .before .before .before .before .before .before .before .before .proposal-of .ensures in λ i. leb 1 (a .header .round) && leb (a .header .round) siteRounds && leb (a .header .deliveries) (a .commands) && leb (a .header .deliveries) capacity && c .before .before .before .before .before .within .ensures i && c .before .before .before .before .within2 .ensures i && c .before .before .before .within3 .ensures i && c .before .before .within4 .ensures i && (c .before .within5 .ensures ∙ ap (λ (x : Proposal). withinOf (x .nc) (a .commands)) p) i && (c .within6 .ensures ∙ ap (λ (x : Proposal). withinOf (x .c) (a .commands)) p) i
+returns c =
+    let a = c .before .before .before .before .before .before .before .before .before .args in
+    let p = c .before .before .before .before .before .before .before .before .proposal-of .ensures in
+    λ i. leb 1 (a .header .round) && leb (a .header .round) siteRounds && leb (a .header .deliveries) (a .commands) && leb (a .header .deliveries) capacity &&
+    c .before .before .before .before .before .within .ensures i && c .before .before .before .before .within2 .ensures i && c .before .before .before .within3 .ensures i
+    && c .before .before .within4 .ensures i && (c .before .within5 .ensures ∙ ap (λ (x : Proposal). withinOf (x .nc) (a .commands)) p) i &&
+    (c .within6 .ensures ∙ ap (λ (x : Proposal). withinOf (x .c) (a .commands)) p) i
 
 pub judge-header-spec : {M : Type 1} → statement M
 judge-header-spec =

@@ -40,7 +40,11 @@ within-requires : tie.Need-within-requires Inv-loop μ-loop
 within-requires c κs = search needs
 
 returns : tie.Need-returns Inv-loop μ-loop
-returns c = let a = c .before .before .before .before .before .before .before .args in let k = c .before .before .before .before .before .loop .k in loop-not heardSets (goodHeard (a .sites) (a .commands) (now (a .site))) k (omega arith) (heard-test (now (a .site)) (a .sites) (a .commands) k (c .before .before .before .read .ensures) (c .before .before .within .ensures)) (not-true _ (c .if1 .taken))
+returns c =
+    let a = c .before .before .before .before .before .before .before .args in
+    let k = c .before .before .before .before .before .loop .k in
+    loop-not heardSets (goodHeard (a .sites) (a .commands) (now (a .site))) k (omega arith)
+    (heard-test (now (a .site)) (a .sites) (a .commands) k (c .before .before .before .read .ensures) (c .before .before .within .ensures)) (not-true _ (c .if1 .taken))
 
 add-k : tie.Need-add-k Inv-loop μ-loop
 add-k c = omega arith
@@ -49,7 +53,12 @@ loop-less : tie.Need-loop-less Inv-loop μ-loop
 loop-less c = omega arith
 
 loop-again : tie.Need-loop-again Inv-loop μ-loop
-loop-again c = let a = c .before .before .before .before .before .before .before .args in let k = c .before .before .before .before .before .loop .k in (omega arith, loop-more k (goodHeard (a .sites) (a .commands) (now (a .site))) (c .before .before .before .before .before .loop .inv .1) (heard-test (now (a .site)) (a .sites) (a .commands) k (c .before .before .before .read .ensures) (c .before .before .within .ensures)) (not-false _ (c .if1 .left)))
+loop-again c =
+    let a = c .before .before .before .before .before .before .before .args in
+    let k = c .before .before .before .before .before .loop .k in (
+      omega arith,
+      loop-more k (goodHeard (a .sites) (a .commands) (now (a .site))) (c .before .before .before .before .before .loop .inv .1) (heard-test (now (a .site)) (a .sites) (a .commands) k (c .before .before .before .read .ensures) (c .before .before .within .ensures)) (not-false _ (c .if1 .left)),
+    )
 
 returns-2 : tie.Need-returns-2 Inv-loop μ-loop
 returns-2 c = loop-done heardSets (c .before .loop .k) _ (c .before .loop .inv .1) (omega arith)

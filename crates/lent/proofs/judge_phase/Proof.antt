@@ -16,7 +16,8 @@ get8-requires-2 : tie.Need-get8-requires-2
 get8-requires-2 c κs = search needs
 
 returns : tie.Need-returns
-returns c = λ i. eqb (c .before .before .get1 .ensures i) 1 || eqb (c .before .before .get1 .ensures i) 0 && eqb (c .before .get8 .ensures i) 0 && eqb (c .get82 .ensures i) 0
+returns c =
+    λ i. eqb (c .before .before .get1 .ensures i) 1 || eqb (c .before .before .get1 .ensures i) 0 && eqb (c .before .get8 .ensures i) 0 && eqb (c .get82 .ensures i) 0
 
 pub judge-phase-spec : {M : Type 1} → statement M
 judge-phase-spec = tie.close (tie.spec get1-requires get8-requires get8-requires-2 returns)

@@ -25,7 +25,10 @@ get4-requires : tie.Need-get4-requires
 get4-requires c κs = search needs
 
 returns : tie.Need-returns
-returns c = let a = c .before .before .before .args in λ i. ltb (a .k) (a .recorded) && ltb (c .before .get1 .ensures i) (a .commands) || leb (a .recorded) (a .k) && eqb (c .before .get1 .ensures i) 0 && eqb (c .get4 .ensures i) 0
+returns c =
+    let a = c .before .before .before .args in
+    λ i. ltb (a .k) (a .recorded) && ltb (c .before .get1 .ensures i) (a .commands) || leb (a .recorded) (a .k) && eqb (c .before .get1 .ensures i) 0 && eqb
+    (c .get4 .ensures i) 0
 
 pub judge-slot-spec : {M : Type 1} → statement M
 judge-slot-spec =

@@ -21,7 +21,12 @@ same-length : tie.Need-same-length
 same-length c = search needs
 
 returns : tie.Need-returns
-returns c = let s = c .before .before .before .before .before .before .before .before .before .before .before .before in hear-holds _ (λ i. c .before .before .before .before .before .before .before .before .before .before .before .slice-known .given i .fits) (s .pre .0) (s .args .set) (s .good .1 .1 .1 .0 .1 .1 .0 .1) (s .args .sender) (s .args .round) (s .pre .1) (s .pre .2) (s .pre .3) (c .before .before .before .before .before .before .before .before .before .read .ensures) (c .before .before .before .before .before .before .before .hear .ensures) (c .before .before .before .before .with-received .ensures) (c .before .before .write .ensures) (λ i. c .slice-known3 .given i .fits)
+returns c =
+    let s = c .before .before .before .before .before .before .before .before .before .before .before .before in
+    hear-holds _ (λ i. c .before .before .before .before .before .before .before .before .before .before .before .slice-known .given i .fits) (s .pre .0) (s .args .set)
+    (s .good .1 .1 .1 .0 .1 .1 .0 .1) (s .args .sender) (s .args .round) (s .pre .1) (s .pre .2) (s .pre .3)
+    (c .before .before .before .before .before .before .before .before .before .read .ensures) (c .before .before .before .before .before .before .before .hear .ensures)
+    (c .before .before .before .before .with-received .ensures) (c .before .before .write .ensures) (λ i. c .slice-known3 .given i .fits)
 
 pub hear-spec : {M : Type 1} → statement M
 hear-spec =

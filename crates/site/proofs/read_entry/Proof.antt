@@ -20,7 +20,11 @@ read-requires : tie.Need-read-requires
 read-requires c κs = search needs
 
 add-with-position : tie.Need-add-with-position
-add-with-position c = let l = c .before .before .before .before .before .before .pre .1 (not-false _ (c .before .before .before .before .if1 .left)) in let e : c .before .read .result .position ≡ headOf (now (c .before .before .before .before .before .before .args .site)) .position = λ i. c .before .read .ensures i .position in record { fits = omega arith }
+add-with-position c =
+    let l = c .before .before .before .before .before .before .pre .1 (not-false _ (c .before .before .before .before .if1 .left)) in
+    let e : c .before .read .result .position ≡ headOf (now (c .before .before .before .before .before .before .args .site)) .position = λ i. c .before .read .ensures
+    i .position in
+    record { fits = omega arith }
 
 with-position-requires : tie.Need-with-position-requires
 with-position-requires c κs = search needs
@@ -32,7 +36,17 @@ same-length : tie.Need-same-length
 same-length c = search needs
 
 returns-3 : tie.Need-returns-3
-returns-3 c = let l = c .before .before .before .before .before .before .before .before .before .before .before .pre .1 (not-false _ (c .before .before .before .before .before .before .before .before .before .if1 .left)) in let e : c .before .before .before .before .before .before .read .result .position ≡ headOf (now (c .before .before .before .before .before .before .before .before .before .before .before .args .site)) .position = λ i. c .before .before .before .before .before .before .read .ensures i .position in entry-read (now (c .before .before .before .before .before .before .before .before .before .before .before .args .site)) (λ i. c .before .before .before .before .before .before .before .before .before .before .slice-known .given i .fits) _ _ (not-false _ (c .before .before .before .before .before .before .before .before .before .if1 .left)) (c .before .before .before .before .before .before .before .before .if2 .left) (c .before .before .before .before .before .before .read .ensures) (omega arith) (omega arith) (c .before .before .before .before .with-position .ensures) (c .before .before .write .ensures) (λ i. c .slice-known2 .given i .fits)
+returns-3 c =
+    let l = c .before .before .before .before .before .before .before .before .before .before .before .pre .1
+    (not-false _ (c .before .before .before .before .before .before .before .before .before .if1 .left)) in
+    let e : c .before .before .before .before .before .before .read .result .position ≡ headOf
+    (now (c .before .before .before .before .before .before .before .before .before .before .before .args .site)) .position = λ i.
+    c .before .before .before .before .before .before .read .ensures i .position in
+    entry-read (now (c .before .before .before .before .before .before .before .before .before .before .before .args .site))
+    (λ i. c .before .before .before .before .before .before .before .before .before .before .slice-known .given i .fits) _ _
+    (not-false _ (c .before .before .before .before .before .before .before .before .before .if1 .left))
+    (c .before .before .before .before .before .before .before .before .if2 .left) (c .before .before .before .before .before .before .read .ensures) (omega arith)
+    (omega arith) (c .before .before .before .before .with-position .ensures) (c .before .before .write .ensures) (λ i. c .slice-known2 .given i .fits)
 
 pub read-entry-spec : {M : Type 1} → statement M
 read-entry-spec =

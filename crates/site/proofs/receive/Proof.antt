@@ -18,7 +18,11 @@ same-length : tie.Need-same-length
 same-length c = search needs
 
 returns : tie.Need-returns
-returns c = let s = c .before .before .before .before .before .before .before .before in receive-holds _ (λ i. c .before .before .before .before .before .before .before .slice-known .given i .fits) (s .pre) (s .args .set) (s .good .1 .0 .1 .1 .0 .1) (c .before .before .before .before .before .read .ensures) (c .before .before .before .before .with-received .ensures) (c .before .before .write .ensures) (λ i. c .slice-known2 .given i .fits)
+returns c =
+    let s = c .before .before .before .before .before .before .before .before in
+    receive-holds _ (λ i. c .before .before .before .before .before .before .before .slice-known .given i .fits) (s .pre) (s .args .set) (s .good .1 .0 .1 .1 .0 .1)
+    (c .before .before .before .before .before .read .ensures) (c .before .before .before .before .with-received .ensures) (c .before .before .write .ensures)
+    (λ i. c .slice-known2 .given i .fits)
 
 pub receive-spec : {M : Type 1} → statement M
 receive-spec =

@@ -21,7 +21,12 @@ same-length : tie.Need-same-length
 same-length c = search needs
 
 returns : tie.Need-returns
-returns c = let s = c .before .before .before .before .before .before .before .before .before in λ t book i log g ef eo. turn-holds t book _ (λ i. c .before .before .before .before .before .before .before .before .slice-known .given i .fits) g (s .args .free) (s .args .own) i log (c .before .before .before .before .before .before .read .ensures) (c .before .before .before .before .before .choose .ensures) (c .before .before .before .before .after-turn .ensures) (c .before .before .write .ensures) (λ i. c .slice-known2 .given i .fits) ef eo
+returns c =
+    let s = c .before .before .before .before .before .before .before .before .before in
+    λ t book i log g ef eo.
+    turn-holds t book _ (λ i. c .before .before .before .before .before .before .before .before .slice-known .given i .fits) g (s .args .free) (s .args .own) i log
+    (c .before .before .before .before .before .before .read .ensures) (c .before .before .before .before .before .choose .ensures)
+    (c .before .before .before .before .after-turn .ensures) (c .before .before .write .ensures) (λ i. c .slice-known2 .given i .fits) ef eo
 
 pub take-turn-spec : {M : Type 1} → statement M
 take-turn-spec =

@@ -15,7 +15,9 @@ same-length : tie.Need-same-length
 same-length c = search needs
 
 returns : tie.Need-returns
-returns c = head-written _ _ (c .before .before .before .before .before .before .before .before .before .pre) (c .before .before .before .before .before .before .write-numbers .ensures) (c .before .before .write-sets .ensures)
+returns c =
+    head-written _ _ (c .before .before .before .before .before .before .before .before .before .pre)
+    (c .before .before .before .before .before .before .write-numbers .ensures) (c .before .before .write-sets .ensures)
 
 pub write-spec : {M : Type 1} → statement M
 write-spec = tie.close (tie.spec write-numbers-requires write-sets-requires same-length returns)

@@ -1,0 +1,149 @@
+-- A fast delivery and a round end on lent buffers, from what the site's functions promise.
+-- Assumes nothing.
+use mathlib.Core.Path.{_≡_, refl, sym, ap, subst, _∙_}
+use mathlib.Core.Bool.{Bool, true, false, not}
+use mathlib.Core.List.{List}
+use Prim.Native.Nat.{ℕ, _+_, _*_, _≤_, _<_}
+use native.Mathlib.Omega.{arith}
+use lib.ListN.{length, take, drop, getD}
+use borrow.Author.Tests.{lt-ltb, le-ltb}
+use Rattle.refusals.specs.declared.Verdict.{Verdict}
+use Rattle.refusals.specs.declared.Verdict.the-variants.{Taken, Refused}
+use Rattle.refusals.specs.declared.Refusal.the-variants.{Range, Role}
+use Rattle.sets.specs.declared.Set.{Set}
+use Rattle.sets.specs.Sets.{withinOf}
+use Rattle.table.specs.declared.SiteTable.{SiteTable}
+use Rattle.table.specs.Table.{isGood, faultyOf}
+use Rattle.register.specs.declared.Command.{Command}
+use Rattle.commands.specs.Book.{commandsOf}
+use Rattle.conflicts.specs.Conflicts.{conflictRows}
+use Rattle.calm.specs.Rows.{rowsSystem}
+use Rattle.protocol.specs.System.{_else_⨾_, verdict, correct}
+use Rattle.protocol.specs.Recovery.{decide}
+use Rattle.protocol.specs.Site as protocol
+use Rattle.protocol.specs.Site.{deliverFast, finish, decision, tallyOr, forFastDelivery, forRoundEnd}
+use Rattle.protocol.specs.World.{fastDelivery, roundEnd, judge, put}
+use Rattle.system.specs.Dash.{dash}
+use Rattle.layout.specs.Layout.{siteSize, headOf, view}
+use Rattle.layout.specs.Good.{Good}
+use Rattle.entries.specs.Entries.{entrySize, entryOf, logTo, inRangeOf}
+use Rattle.entries.proofs.Logs.{log-take}
+use Rattle.recovery.specs.declared.Sets.{Sets}
+use Rattle.recovery.specs.declared.Decision.{Decision}
+use Rattle.recovery.specs.declared.Decision.the-variants.{Undecided, Decided}
+use Rattle.recovery.specs.Decisions.{decisionOf}
+use Rattle.ending.specs.Ending.{Told, RoundEnded}
+use Rattle.world.specs.World.{siteAt, GoodWorld, worldOf}
+use Rattle.world.specs.Parts.{lent, AtSite}
+use Rattle.world.proofs.Sites.{lent-part}
+use Rattle.world.proofs.Hold.{seen, refused, carried-site}
+use Rattle.closings.specs.Closings.{GoodSites, GoodLog, FastAt, Closed}
+use Rattle.closings.proofs.Decisions.{told-none, told-decided, sets-within}
+
+-- ---- 08
+
+module _ (t : SiteTable) (book : List Command) (sites : List ℕ) (small : (k : ℕ) → getD sites k 0 < 256) (i m : ℕ) where
+  pub fast-no-site : t .sites ≤ i → (log : List ℕ) (entries : ℕ) → Closed t book (fastDelivery i m) log entries sites (Refused Range) sites
+  fast-no-site h log entries = λ sent g. refused t book (lent sites log entries sent) g (fastDelivery i m) Range (simp (le-ltb i (t .sites) h)) small
+
+  module _ (a : i < t .sites) {commands : ℕ} (ec : length book ≡ commands) where
+    pub fast-no-command : commands ≤ m → (log : List ℕ) (entries : ℕ) → Closed t book (fastDelivery i m) log entries sites (Refused Range) sites
+    fast-no-command h log entries =
+        λ sent g.
+        let l : length book ≤ m = omega arith in
+        refused t book (lent sites log entries sent) g (fastDelivery i m) Range (simp (lt-ltb i (t .sites) a, le-ltb m (length book) l)) small
+
+    module _ (n : m < commands) {f : Bool} (ef : f ≡ faultyOf t i) where
+      pub fast-role : f ≡ true → (log : List ℕ) (entries : ℕ) → Closed t book (fastDelivery i m) log entries sites (Refused Role) sites
+      fast-role h log entries =
+          λ sent g.
+          let l : m < length book = omega arith in
+          let e : faultyOf t i ≡ true = sym ef ∙ h in
+          refused t book (lent sites log entries sent) g (fastDelivery i m) Role (simp (lt-ltb i (t .sites) a, lt-ltb m (length book) l, e)) small
+
+      pub fast-carried : f ≡ false → {v : Verdict} {after : List ℕ} → AtSite i (FastAt t book m v) sites after → (log : List ℕ) (entries : ℕ)
+          → Closed t book (fastDelivery i m) log entries sites v after
+      fast-carried h p log entries =
+          λ sent g.
+          let b = lent sites log entries sent in
+          let w = worldOf t book b in
+          let l : m < length book = omega arith in
+          carried-site t book b g (fastDelivery i m) small i a p (deliverFast (dash t book) m) (verdict (forFastDelivery (dash t book) m (view t book (siteAt sites i)))) (p .did)
+          (λ e. g .position i a)
+          ((λ k. verdict (lt-ltb i (t .sites) a k else Range ⨾ lt-ltb m (length book) l k else Range ⨾ correct (dash t book) i else Role
+          ⨾ forFastDelivery (dash t book) m (w .site i)))
+          ∙ (λ k. verdict (not ((sym ef ∙ h) k) else Role ⨾ forFastDelivery (dash t book) m (seen t book b g i a k))))
+          refl refl refl
+
+-- ---- 0A
+
+module _ (t : SiteTable) (book : List Command) (sites : List ℕ) (small : (k : ℕ) → getD sites k 0 < 256) (i : ℕ) (log : List ℕ) (entries : ℕ) where
+  pub end-no-site : t .sites ≤ i → Closed t book (roundEnd i) log entries sites (Refused Range) sites
+  end-no-site h = λ sent g. refused t book (lent sites log entries sent) g (roundEnd i) Range (simp (le-ltb i (t .sites) h)) small
+
+  module _ (a : i < t .sites) {f : Bool} (ef : f ≡ faultyOf t i) where
+    pub end-role : f ≡ true → Closed t book (roundEnd i) log entries sites (Refused Role) sites
+    end-role h =
+        λ sent g.
+        let e : faultyOf t i ≡ true = sym ef ∙ h in
+        refused t book (lent sites log entries sent) g (roundEnd i) Role (simp (lt-ltb i (t .sites) a, e)) small
+
+    pub end-carried : f ≡ false → {decided : Bool} {nc c : Set} → Told t book decided nc c (view t book (siteAt sites i)) (logTo log entries) → {v : Verdict} {after : List ℕ}
+        → AtSite i (λ b new. RoundEnded book decided nc c b v new) sites after → Closed t book (roundEnd i) log entries sites v after
+    end-carried h told p =
+        λ sent g.
+        let b = lent sites log entries sent in
+        let w = worldOf t book b in
+        let s = view t book (siteAt sites i) in
+        carried-site t book b g (roundEnd i) small i a p
+        (λ y. finish (dash t book) (tallyOr (decision (dash t book) y (logTo log entries))) y)
+        (verdict (forRoundEnd (dash t book) s (logTo log entries))) (p .did t (logTo log entries) (g .site i a) told) (λ e. g .position i a)
+        ((λ k. verdict (lt-ltb i (t .sites) a k else Range ⨾ correct (dash t book) i else Role ⨾ forRoundEnd (dash t book) (w .site i) (logTo log entries)))
+        ∙ (λ k. verdict (not ((sym ef ∙ h) k) else Role ⨾ forRoundEnd (dash t book) (seen t book b g i a k) (logTo log entries))))
+        refl refl refl
+
+-- The part of a good site that is lent is good.
+pub good-part : (t : SiteTable) (commands : ℕ) (sites : List ℕ) (i k : ℕ) → GoodSites t commands sites → i < t .sites → k ≡ siteSize
+    → Good (t .sites) commands (take k (drop (i * siteSize) sites))
+good-part t commands sites i k g a e = subst (Good (t .sites) commands) (sym (lent-part sites i k e)) (g .site i a)
+
+pub sites-room : (t : SiteTable) (commands : ℕ) (sites : List ℕ) (i : ℕ) → GoodSites t commands sites → i < t .sites → i * siteSize + siteSize ≤ length sites
+sites-room t commands sites i g a = let z = g .size in omega arith
+
+-- The entries that a site has read are there.
+pub read-room : (t : SiteTable) (commands : ℕ) (sites log : List ℕ) (entries i : ℕ) {k : ℕ} → GoodLog t commands sites log entries → i < t .sites
+    → k ≡ headOf (siteAt sites i) .position → (k ≤ entries) × (k * entrySize ≤ length log)
+read-room t commands sites log entries i g a e = let p = g .position i a in let l = g .room in (omega arith, omega arith)
+
+-- What the decision by the entries that site i has read tells it.
+module _ (t : SiteTable) (table : isGood t ≡ true) (bytes rows : List ℕ) (log : List ℕ) (small : (k : ℕ) → getD log k 0 < 256) (er : rows ≡ conflictRows bytes) (sites : List ℕ)
+    (entries : ℕ) (good : GoodLog t (length (commandsOf bytes)) sites log entries) (i : ℕ) (a : i < t .sites)
+    {k r : ℕ} (ek : k ≡ headOf (siteAt sites i) .position) (round : r ≡ headOf (siteAt sites i) .round)
+    {d : Decision} (ed : d ≡ decisionOf (rowsSystem t rows) (decide (rowsSystem t rows) r (logTo log k))) where
+  abbrev commands : ℕ
+  commands = length (commandsOf bytes)
+
+  read : (k ≤ entries) × (k * entrySize ≤ length log)
+  read = read-room t commands sites log entries i good a ek
+
+  logged-read : (p : ℕ) → p < k → inRangeOf (t .sites) commands (entryOf log p) ≡ true
+  logged-read p l = good .logged p (let q = read .0 in omega arith)
+
+  same : decision (dash t (commandsOf bytes)) (view t (commandsOf bytes) (siteAt sites i)) (logTo log entries) ≡ decide (dash t (commandsOf bytes)) r (logTo log k)
+  same =
+      (λ z. decide (dash t (commandsOf bytes)) (sym round z) (take (sym ek z) (logTo log entries)))
+      ∙ ap (decide (dash t (commandsOf bytes)) r) (log-take log k entries (read .0))
+
+  pub site-undecided : (nc c : Set) → d ≡ Undecided → Told t (commandsOf bytes) false nc c (view t (commandsOf bytes) (siteAt sites i)) (logTo log entries)
+  site-undecided nc c h =
+      told-none t table bytes rows log small k r (read .1) logged-read er ed (view t (commandsOf bytes) (siteAt sites i)) (logTo log entries)
+      same (sym round) nc c h
+
+  pub site-decided : (x : Sets) → d ≡ Decided x → Told t (commandsOf bytes) true (x .nc) (x .c) (view t (commandsOf bytes) (siteAt sites i)) (logTo log entries)
+  site-decided x h =
+      told-decided t table bytes rows log small k r (read .1) logged-read er ed (view t (commandsOf bytes) (siteAt sites i)) (logTo log entries)
+      same (sym round) x h
+
+  pub sets-fit : (n : ℕ) → commands ≡ n → (x : Sets) → d ≡ Decided x → (withinOf (x .nc) n ≡ true) × (withinOf (x .c) n ≡ true)
+  sets-fit n e x h =
+      subst (λ (m : ℕ). (withinOf (x .nc) m ≡ true) × (withinOf (x .c) m ≡ true)) e (sets-within t table bytes rows log small k r (read .1) logged-read er ed x h)

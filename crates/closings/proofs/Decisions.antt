@@ -1,0 +1,206 @@
+-- A decision by a log whose entries are in range: its sets are within the book, and its round is one that the log takes.
+-- Assumes nothing.
+use mathlib.Core.Path.{_≡_, refl, sym, ap, subst, _∙_}
+use mathlib.Core.Bool.{Bool, true, false, _&&_, _||_, not}
+use mathlib.Core.List.{List}
+use mathlib.Core.Logic.{_⊎_, inl, inr, ⊎-elim}
+use mathlib.Core.Option.{Option, none, some}
+use Prim.Native.Nat.{ℕ, zero, suc, _+_, _-_, _*_, _/_, _≤_, _<_}
+use native.Mathlib.Omega.{arith}
+use lib.Dec.{leb, ltb}
+use lib.ListN.{length, take, getD}
+use borrow.Author.Tests.{leb-true, lt-ltb, ltb-true}
+use Rattle.theory.specs.Sets.{any, count}
+use Rattle.theory.specs.Counting.{left, right, either, known, never, all-at, all-of, any-some, count-some, last-or-below}
+use Rattle.sets.specs.declared.Set.{Set}
+use Rattle.sets.specs.Sets.{capacity, inSet, withinOf}
+use Rattle.table.specs.declared.SiteTable.{SiteTable}
+use Rattle.table.specs.Table.{isGood, nChkOf, majorityOf}
+use Rattle.table.proofs.Laws.{good-limits}
+use Rattle.register.specs.declared.Command.{Command}
+use Rattle.commands.specs.Book.{commandsOf}
+use Rattle.conflicts.specs.Conflicts.{conflictRows}
+use Rattle.calm.specs.Rows.{rowsSystem}
+use Rattle.protocol.specs.Recovery.{Entry, Log, Standing, absent, valid, excluded, isValid, ncOf, cOf, Tally, decide, ncSet, cSet}
+use Rattle.protocol.specs.RecoveryLaws.{decided-count}
+use Rattle.protocol.specs.StandingLaws.{Logged, logged-split, Backed, decided-backed}
+use Rattle.protocol.specs.Site as protocol
+use Rattle.protocol.specs.Site.{isSome, tallyOr, decision}
+use Rattle.system.specs.Dash.{dash, lastRound}
+use Rattle.entries.specs.Entries.{entrySize, entryOf, viewEntry, logTo, inRangeOf}
+use Rattle.entries.proofs.Judging.{in-range-told}
+use Rattle.recovery.specs.declared.Sets.{Sets}
+use Rattle.recovery.specs.declared.Decision.{Decision}
+use Rattle.recovery.specs.declared.Decision.the-variants.{Undecided, Decided}
+use Rattle.recovery.specs.Decisions.{setsOf, decisionOf}
+use Rattle.recovery.proofs.Decided.{decision-dash}
+use Rattle.recovery.proofs.Members.{members-nc, members-c}
+use Rattle.ending.specs.Ending.{Told}
+
+-- An entry in range, as the protocol knows it.
+record InRange (commands : ℕ) (e : Entry) : Type 0 where
+  pub round : e .round ≤ lastRound
+  pub nc : (m : ℕ) → m < capacity → e .nc m ≡ true → m < commands
+  pub c : (m : ℕ) → m < capacity → e .c m ≡ true → m < commands
+
+-- A command of a set within the book is in the book.
+member-within : (x : ℕ → Bool) (commands m : ℕ) → (not (x m) || ltb m commands) ≡ true → x m ≡ true → ltb m commands ≡ true
+member-within x commands m h k = go (x m) (ltb m commands) h k
+  where
+    go : (y z : Bool) → (not y || z) ≡ true → y ≡ true → z ≡ true
+    go true z h k = h
+    go false z h k = absurd (never false k refl)
+
+module _ (t : SiteTable) (commands : ℕ) (b : List ℕ) where
+  in-range : (p : ℕ) → inRangeOf (t .sites) commands (entryOf b p) ≡ true → InRange commands (viewEntry (entryOf b p))
+  in-range p h =
+      let e = entryOf b p in
+      let r = in-range-told (t .sites) commands e h in
+      let head = ltb (e .site) (t .sites) && leb 1 (e .round) && leb (e .round) lastRound in
+      let one = left (head && withinOf (e .nc) commands) (withinOf (e .c) commands) h in
+      record {
+        round = r .round;
+        nc =
+            λ m l k.
+            ltb-true m commands
+            (member-within (inSet (e .nc)) commands m (all-at capacity (λ n. not (inSet (e .nc) n) || ltb n commands) (right head (withinOf (e .nc) commands) one) m l) k);
+        c =
+            λ m l k.
+            ltb-true m commands
+            (member-within (inSet (e .c)) commands m
+            (all-at capacity (λ n. not (inSet (e .c) n) || ltb n commands) (right (head && withinOf (e .nc) commands) (withinOf (e .c) commands) h) m l) k);
+      }
+
+  -- An entry that is logged is in range, where all entries are.
+  logged-range : (k : ℕ) → ((p : ℕ) → p < k → inRangeOf (t .sites) commands (entryOf b p) ≡ true) → (e : Entry) → Logged e (logTo b k) → InRange commands e
+  unfolding logTo
+  logged-range zero h e g = absurd g
+  logged-range (suc k) h e g =
+      ⊎-elim (λ w. logged-range k (λ p l. h p (omega arith)) e w) (λ q. subst (InRange commands) (sym q) (in-range k (h k (omega arith))))
+      (logged-split e (viewEntry (entryOf b k)) (logTo b k) g)
+
+module _ (t : SiteTable) (table : isGood t ≡ true) (bytes rows : List ℕ) (b : List ℕ) (small : (i : ℕ) → getD b i 0 < 256) (k r : ℕ) (room : k * entrySize ≤ length b)
+    (logged : (p : ℕ) → p < k → inRangeOf (t .sites) (length (commandsOf bytes)) (entryOf b p) ≡ true) where
+  abbrev book : List Command
+  book = commandsOf bytes
+
+  module _ (d : Tally) (e : decide (dash t book) r (logTo b k) ≡ some d) where
+    -- What a valid source proposed is in range.
+    backed : (j : ℕ) → isValid (d j) ≡ true → r ≤ lastRound
+    backed j h = go (d j) h (decided-backed (dash t book) r (logTo b k) d e j)
+      where
+        go : (x : Standing) → isValid x ≡ true → Backed (dash t book) j r (logTo b k) x → r ≤ lastRound
+        go absent h w = absurd (never false h refl)
+        go (valid nc c) h w =
+            let l = logged-range t (length book) b k logged (w .1 .entry) (w .1 .logged) .round in
+            let q = w .1 .at in
+            omega arith
+        go excluded h w = absurd (never false h refl)
+
+    said : (j m : ℕ) → m < capacity → (ncOf (d j) m || cOf (d j) m) ≡ true → m < length book
+    said j m l h = go (d j) h (decided-backed (dash t book) r (logTo b k) d e j)
+      where
+        go : (x : Standing) → (ncOf x m || cOf x m) ≡ true → Backed (dash t book) j r (logTo b k) x → m < length book
+        go absent h w = absurd (never false h refl)
+        go (valid nc c) h w =
+            let g = logged-range t (length book) b k logged (w .1 .entry) (w .1 .logged) in
+            ⊎-elim (λ z. g .nc m l (ap (λ (x : ℕ → Bool). x m) (w .1 .sameNc) ∙ z)) (λ z. g .c m l (ap (λ (x : ℕ → Bool). x m) (w .1 .sameC) ∙ z))
+            (either (nc m) (c m) h)
+        go excluded h w = absurd (never false h refl)
+
+    decided-round : r ≤ lastRound
+    decided-round =
+        let l = good-limits t table in
+        let n = decided-count (dash t book) r (logTo b k) d e in
+        let w = count-some (t .sites) (λ j. isValid (d j)) (omega (arith, l .enough)) in
+        backed (w .0) (w .2)
+
+    majority : 1 ≤ majorityOf t
+    majority = let l = good-limits t table in omega (arith, l .enough)
+
+    nc-within : withinOf (setsOf (dash t book) d .nc) (length book) ≡ true
+    nc-within =
+        all-of capacity (λ m. not (inSet (setsOf (dash t book) d .nc) m) || ltb m (length book))
+        (λ m l. go m l (known (inSet (setsOf (dash t book) d .nc) m)))
+      where
+        go : (m : ℕ) → m < capacity → (inSet (setsOf (dash t book) d .nc) m ≡ true) ⊎ (inSet (setsOf (dash t book) d .nc) m ≡ false)
+            → (not (inSet (setsOf (dash t book) d .nc) m) || ltb m (length book)) ≡ true
+        go m l (inr h) = ap (λ (x : Bool). not x || ltb m (length book)) h
+        go m l (inl h) =
+            let q = leb-true (majorityOf t) (count (t .sites) (λ j. ncOf (d j) m)) (sym (λ i. members-nc b small (dash t book) r k room d e majority i m) ∙ h) in
+            let one = majority in
+            let w = count-some (t .sites) (λ j. ncOf (d j) m) (omega arith) in
+            ap (λ (x : Bool). not x || ltb m (length book)) h
+            ∙ lt-ltb m (length book) (said (w .0) m l (ap (λ (x : Bool). x || cOf (d (w .0)) m) (w .2)))
+
+    c-within : withinOf (setsOf (dash t book) d .c) (length book) ≡ true
+    c-within =
+        all-of capacity (λ m. not (inSet (setsOf (dash t book) d .c) m) || ltb m (length book))
+        (λ m l. go m l (known (inSet (setsOf (dash t book) d .c) m)))
+      where
+        go : (m : ℕ) → m < capacity → (inSet (setsOf (dash t book) d .c) m ≡ true) ⊎ (inSet (setsOf (dash t book) d .c) m ≡ false)
+            → (not (inSet (setsOf (dash t book) d .c) m) || ltb m (length book)) ≡ true
+        go m l (inr h) = ap (λ (x : Bool). not x || ltb m (length book)) h
+        go m l (inl h) =
+            let q = left (any (t .sites) (λ j. ncOf (d j) m || cOf (d j) m)) (not (ncSet (dash t book) d m)) (sym (λ i. members-c b small (dash t book) r k room d e i m) ∙ h) in
+            let w = any-some (t .sites) (λ j. ncOf (d j) m || cOf (d j) m) q in
+            ap (λ (x : Bool). not x || ltb m (length book)) h ∙ lt-ltb m (length book) (said (w .0) m l (w .2))
+
+  -- ---- what the answer tells
+
+  module _ (er : rows ≡ conflictRows bytes) {a : Decision} (ea : a ≡ decisionOf (rowsSystem t rows) (decide (rowsSystem t rows) r (logTo b k))) where
+    answer : a ≡ decisionOf (dash t book) (decide (dash t book) r (logTo b k))
+    answer =
+        ea ∙ ap (λ (x : List ℕ). decisionOf (rowsSystem t x) (decide (rowsSystem t x) r (logTo b k))) er ∙ decision-dash t bytes r (logTo b k)
+
+    pub undecided : a ≡ Undecided → decide (dash t book) r (logTo b k) ≡ none
+    undecided h = go (decide (dash t book) r (logTo b k)) (sym h ∙ answer)
+      where
+        go : (o : Option Tally) → Undecided ≡ decisionOf (dash t book) o → o ≡ none
+        go none q = refl
+        go (some d) q = absurd (let z : _≡_ {A = ℕ} 0 1 = cc in omega arith)
+
+    pub record Answered (s : Sets) : Type 0 where
+      pub tally : Tally
+      pub decides : decide (dash t book) r (logTo b k) ≡ some tally
+      pub sets : s ≡ setsOf (dash t book) tally
+
+    pub decided : (s : Sets) → a ≡ Decided s → Answered s
+    decided s h = go (decide (dash t book) r (logTo b k)) refl (sym h ∙ answer)
+      where
+        go : (o : Option Tally) → decide (dash t book) r (logTo b k) ≡ o → Decided s ≡ decisionOf (dash t book) o → Answered s
+        go none p q = absurd (let z : _≡_ {A = ℕ} 0 1 = cc in omega arith)
+        go (some d) p q = record { tally = d; decides = p; sets = (let z : s ≡ setsOf (dash t book) d = cc in z) }
+
+    pub sets-within : (s : Sets) → a ≡ Decided s → (withinOf (s .nc) (length book) ≡ true) × (withinOf (s .c) (length book) ≡ true)
+    sets-within s h =
+        let w = decided s h in
+        (ap (λ (x : Sets). withinOf (x .nc) (length book)) (w .sets) ∙ nc-within (w .tally) (w .decides), ap (λ (x : Sets). withinOf (x .c) (length book)) (w .sets) ∙ c-within (w .tally) (w .decides))
+
+    -- A site of that round that has read k entries is told so.
+    module _ (s : protocol.Site (dash t book)) (log : Log) (es : decision (dash t book) s log ≡ decide (dash t book) r (logTo b k)) (round : s .round ≡ r) where
+      pub told-none : (nc c : Set) → a ≡ Undecided → Told t book false nc c s log
+      told-none nc c h =
+          record {
+            is = sym (ap isSome (es ∙ undecided h));
+            inNc = λ z. absurd (never false z refl);
+            inC = λ z. absurd (never false z refl);
+            round = λ z. absurd (never false z refl);
+          }
+
+      pub told-decided : (x : Sets) → a ≡ Decided x → Told t book true (x .nc) (x .c) s log
+      told-decided x h =
+          let w = decided x h in
+          let q = es ∙ w .decides in
+          record {
+            is = sym (ap isSome q);
+            inNc =
+                λ z m.
+                (λ i. inSet (w .sets i .nc) m) ∙ (λ i. members-nc b small (dash t book) r k room (w .tally) (w .decides) (majority (w .tally) (w .decides)) i m)
+                ∙ sym (ap (λ (o : Option Tally). ncSet (dash t book) (tallyOr o) m) q);
+            inC =
+                λ z m.
+                (λ i. inSet (w .sets i .c) m) ∙ (λ i. members-c b small (dash t book) r k room (w .tally) (w .decides) i m)
+                ∙ sym (ap (λ (o : Option Tally). cSet (dash t book) (tallyOr o) m) q);
+            round = λ z. let l = decided-round (w .tally) (w .decides) in omega arith;
+          }

@@ -1,0 +1,132 @@
+// Steps 08 and 0A: a correct site delivers a command fast, or ends its round.
+ghost use mathlib.Core.Path.{_≡_};
+ghost use mathlib.Core.Bool.{true};
+ghost use mathlib.Core.List.{List};
+ghost use Prim.Native.Nat.{_+_, _*_, _≤_, _<_, ℕ};
+ghost use lib.ListN.{length};
+ghost use Rattle.sets.specs.Sets.{withinOf};
+ghost use Rattle.table.specs.declared.SiteTable.{SiteTable};
+ghost use Rattle.table.specs.Table.{isGood};
+ghost use Rattle.commands.specs.Book.{commandsOf};
+ghost use Rattle.conflicts.specs.Conflicts.{conflictRows};
+ghost use Rattle.protocol.specs.World as protocol;
+ghost use Rattle.layout.specs.Layout.{siteSize};
+ghost use Rattle.deliver.specs.Delivering.{Noted};
+ghost use Rattle.ending.specs.Ending.{RoundEnded};
+ghost use Rattle.world.specs.World.{siteAt};
+ghost use Rattle.world.specs.Parts.{AtSite};
+ghost use Rattle.closings.specs.Closings.{GoodSites, GoodLog, FastAt, Closed};
+use layout::Site;
+use recovery::Decision;
+use refusals::Refusal;
+use refusals::Verdict;
+use sets::Set;
+use table::SiteTable;
+
+// Command m is delivered fast at site i, or the step is refused.
+fn fast_at(
+    sites: &mut [u8],
+    table: SiteTable,
+    book: &[u8],
+    places: &[u16],
+    commands: usize,
+    i: usize,
+    m: usize,
+) -> Verdict
+    requires { ⌜ GoodSites table commands (now sites) × (isGood table ≡ true) × Noted (now book) (now places)
+        × (length (commandsOf (now book)) ≡ commands) × (i < table .sites) × (m < commands) ⌝ }
+    ensures { λ v. ⌜ AtSite i (FastAt table (commandsOf (now (book .entry))) m v) (now (sites .entry)) (now (sites .exit)) ⌝ }
+{
+    let from = i * Site::SIZE;
+    let to = from + Site::SIZE;
+    fast::fast_delivery(&mut sites[from..to], table, book, places, commands, m)
+}
+
+// 08: site i delivers command m fast.
+pub fn fast_delivery(
+    sites: &mut [u8],
+    table: SiteTable,
+    book: &[u8],
+    places: &[u16],
+    commands: usize,
+    i: usize,
+    m: usize,
+) -> Verdict
+    requires { ⌜ GoodSites table commands (now sites) × (isGood table ≡ true) × Noted (now book) (now places) × (length (commandsOf (now book)) ≡ commands) ⌝ }
+    ensures { λ v. ⌜ ((log : List ℕ) (entries : ℕ) → Closed table (commandsOf (now (book .entry))) (protocol.fastDelivery i m) log entries (now (sites .entry)) v (now (sites .exit))) ⌝ }
+{
+    if i >= table.sites {
+        return Verdict::Refused(Refusal::Range);
+    }
+    if m >= commands {
+        return Verdict::Refused(Refusal::Range);
+    }
+    if table.is_faulty(i) {
+        return Verdict::Refused(Refusal::Role);
+    }
+    fast_at(sites, table, book, places, commands, i, m)
+}
+
+// The round of site i ends with the decided sets, or the step is refused.
+fn end_at(
+    sites: &mut [u8],
+    book: &[u8],
+    places: &[u16],
+    commands: usize,
+    i: usize,
+    decided: bool,
+    nc: Set,
+    c: Set,
+) -> Verdict
+    requires { ⌜ ((table : SiteTable) × GoodSites table commands (now sites) × (i < table .sites)) × Noted (now book) (now places)
+        × (length (commandsOf (now book)) ≡ commands) × (withinOf nc commands ≡ true) × (withinOf c commands ≡ true) ⌝ }
+    ensures { λ v. ⌜ AtSite i (λ b after. RoundEnded (commandsOf (now (book .entry))) decided nc c b v after) (now (sites .entry)) (now (sites .exit)) ⌝ }
+{
+    let from = i * Site::SIZE;
+    let to = from + Site::SIZE;
+    ending::round_end(&mut sites[from..to], book, places, commands, decided, nc, c)
+}
+
+// 0A: site i ends its round.
+pub fn round_end(
+    sites: &mut [u8],
+    log: &[u8],
+    entries: usize,
+    table: SiteTable,
+    book: &[u8],
+    places: &[u16],
+    rows: &[u64],
+    commands: usize,
+    i: usize,
+) -> Verdict
+    requires { ⌜ GoodSites table commands (now sites) × GoodLog table commands (now sites) (now log) entries × (isGood table ≡ true)
+        × Noted (now book) (now places) × (length (commandsOf (now book)) ≡ commands) × (now rows ≡ conflictRows (now book)) ⌝ }
+    ensures { λ v. ⌜ Closed table (commandsOf (now (book .entry))) (protocol.roundEnd i) (now (log .entry)) entries (now (sites .entry)) v (now (sites .exit)) ⌝ }
+{
+    if i >= table.sites {
+        return Verdict::Refused(Refusal::Range);
+    }
+    if table.is_faulty(i) {
+        return Verdict::Refused(Refusal::Role);
+    }
+    let position = world::position_of(&sites[..], i);
+    let round = world::round_of(&sites[..], i);
+    let decision = recovery::decide(log, position, round, table, rows);
+    match decision {
+        Decision::Undecided => end_at(
+            sites,
+            book,
+            places,
+            commands,
+            i,
+            false,
+            Set::empty(),
+            Set::empty(),
+        ),
+        Decision::Decided(sets) => {
+            let nc = sets.nc;
+            let c = sets.c;
+            end_at(sites, book, places, commands, i, true, nc, c)
+        }
+    }
+}
