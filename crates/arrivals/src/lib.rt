@@ -59,11 +59,19 @@ fn judge_message(table: SiteTable, i: usize, j: usize, r: usize, other: bool, ro
     Verdict::Taken
 }
 
-// 01: command m reaches site i.
-pub fn command(sites: &mut [u8], table: SiteTable, commands: usize, i: usize, m: usize) -> Verdict
+// 01: a command reaches a site.
+pub fn command(
+    sites: &mut [u8],
+    table: SiteTable,
+    commands: usize,
+    site: u8,
+    command: u8,
+) -> Verdict
     requires { ⌜ (length (now sites) ≡ table .sites * siteSize) × (commands ≤ capacity) ⌝ }
-    ensures { λ v. ⌜ ((sent : List ℕ) → Arrived table commands (protocol.command i m) sent (now (sites .entry)) v (now (sites .exit))) ⌝ }
+    ensures { λ v. ⌜ ((sent : List ℕ) → Arrived table commands (protocol.command site command) sent (now (sites .entry)) v (now (sites .exit))) ⌝ }
 {
+    let i = site as usize;
+    let m = command as usize;
     if i >= table.sites {
         return Verdict::Refused(Refusal::Range);
     }
@@ -79,22 +87,26 @@ pub fn command(sites: &mut [u8], table: SiteTable, commands: usize, i: usize, m:
     Verdict::Taken
 }
 
-// 02: the a-th acknowledgment that correct site j sent in round r reaches site i.
+// 02: the acknowledgment of that number, from 1, that a correct site sent in a round reaches a site.
 pub fn acknowledgment(
     sites: &mut [u8],
     sent: &[u8],
     table: SiteTable,
-    i: usize,
-    j: usize,
-    r: usize,
-    a: usize,
+    site: u8,
+    from: u8,
+    round: u8,
+    number: u8,
 ) -> Verdict
     requires { ⌜ (length (now sites) ≡ table .sites * siteSize) × (isGood table ≡ true) × GoodSent (now sent) ⌝ }
-    ensures { λ v. ⌜ ((commands : ℕ) → Arrived table commands (protocol.acknowledgment i j r a) (now (sent .entry)) (now (sites .entry)) v (now (sites .exit))) ⌝ }
+    ensures { λ v. ⌜ ((commands : ℕ) → Arrived table commands (protocol.acknowledgment site from round number) (now (sent .entry)) (now (sites .entry)) v (now (sites .exit))) ⌝ }
 {
-    let number = (1 <= a) & (a <= Set::CAPACITY);
+    let i = site as usize;
+    let j = from as usize;
+    let r = round as usize;
+    let a = number as usize;
+    let counted = (1 <= a) & (a <= Set::CAPACITY);
     let faulty = table.is_faulty(j);
-    let verdict = judge_message(table, i, j, r, number, !faulty);
+    let verdict = judge_message(table, i, j, r, counted, !faulty);
     if let Verdict::Refused(refusal) = verdict {
         return Verdict::Refused(refusal);
     }
@@ -106,18 +118,21 @@ pub fn acknowledgment(
     Verdict::Taken
 }
 
-// 03: the check message that correct site j sent in round r reaches site i.
+// 03: the check message that a correct site sent in a round reaches a site.
 pub fn check(
     sites: &mut [u8],
     sent: &[u8],
     table: SiteTable,
-    i: usize,
-    j: usize,
-    r: usize,
+    site: u8,
+    from: u8,
+    round: u8,
 ) -> Verdict
     requires { ⌜ (length (now sites) ≡ table .sites * siteSize) × (isGood table ≡ true) × GoodSent (now sent) ⌝ }
-    ensures { λ v. ⌜ ((commands : ℕ) → Arrived table commands (protocol.check i j r) (now (sent .entry)) (now (sites .entry)) v (now (sites .exit))) ⌝ }
+    ensures { λ v. ⌜ ((commands : ℕ) → Arrived table commands (protocol.check site from round) (now (sent .entry)) (now (sites .entry)) v (now (sites .exit))) ⌝ }
 {
+    let i = site as usize;
+    let j = from as usize;
+    let r = round as usize;
     let faulty = table.is_faulty(j);
     let verdict = judge_message(table, i, j, r, true, !faulty);
     if let Verdict::Refused(refusal) = verdict {
@@ -131,19 +146,22 @@ pub fn check(
     Verdict::Taken
 }
 
-// 04: an acknowledgment of faulty site j reaches site i.
+// 04: an acknowledgment of a faulty site reaches a site.
 pub fn false_acknowledgment(
     sites: &mut [u8],
     table: SiteTable,
     commands: usize,
-    i: usize,
-    j: usize,
-    r: usize,
+    site: u8,
+    from: u8,
+    round: u8,
     set: Set,
 ) -> Verdict
     requires { ⌜ (length (now sites) ≡ table .sites * siteSize) × (isGood table ≡ true) ⌝ }
-    ensures { λ v. ⌜ ((sent : List ℕ) → Arrived table commands (protocol.falseAcknowledgment i j r (inSet set)) sent (now (sites .entry)) v (now (sites .exit))) ⌝ }
+    ensures { λ v. ⌜ ((sent : List ℕ) → Arrived table commands (protocol.falseAcknowledgment site from round (inSet set)) sent (now (sites .entry)) v (now (sites .exit))) ⌝ }
 {
+    let i = site as usize;
+    let j = from as usize;
+    let r = round as usize;
     let within = set.within(commands);
     let faulty = table.is_faulty(j);
     let verdict = judge_message(table, i, j, r, within, faulty);
@@ -154,19 +172,22 @@ pub fn false_acknowledgment(
     Verdict::Taken
 }
 
-// 05: a check message of faulty site j reaches site i.
+// 05: a check message of a faulty site reaches a site.
 pub fn false_check(
     sites: &mut [u8],
     table: SiteTable,
     commands: usize,
-    i: usize,
-    j: usize,
-    r: usize,
+    site: u8,
+    from: u8,
+    round: u8,
     set: Set,
 ) -> Verdict
     requires { ⌜ length (now sites) ≡ table .sites * siteSize ⌝ }
-    ensures { λ v. ⌜ ((sent : List ℕ) → Arrived table commands (protocol.falseCheck i j r (inSet set)) sent (now (sites .entry)) v (now (sites .exit))) ⌝ }
+    ensures { λ v. ⌜ ((sent : List ℕ) → Arrived table commands (protocol.falseCheck site from round (inSet set)) sent (now (sites .entry)) v (now (sites .exit))) ⌝ }
 {
+    let i = site as usize;
+    let j = from as usize;
+    let r = round as usize;
     let within = set.within(commands);
     let faulty = table.is_faulty(j);
     let verdict = judge_message(table, i, j, r, within, faulty);
@@ -177,20 +198,22 @@ pub fn false_check(
     Verdict::Taken
 }
 
-// 06: an entry of faulty site j for round r reaches the log.
+// 06: an entry of a faulty site reaches the log.
 pub fn false_entry(
     log: &mut [u8],
     entries: usize,
     table: SiteTable,
     commands: usize,
-    j: usize,
-    r: usize,
+    from: u8,
+    round: u8,
     nc: Set,
     c: Set,
 ) -> Stepped
-    requires { ⌜ ((entries + 1) * entrySize ≤ length (now log)) × (j < 256) ⌝ }
-    ensures { λ s. ⌜ Entered table commands (protocol.falseEntry j r (inSet nc) (inSet c)) (now (log .entry)) entries s (now (log .exit)) ⌝ }
+    requires { ⌜ (entries + 1) * entrySize ≤ length (now log) ⌝ }
+    ensures { λ s. ⌜ Entered table commands (protocol.falseEntry from round (inSet nc) (inSet c)) (now (log .entry)) entries s (now (log .exit)) ⌝ }
 {
+    let j = from as usize;
+    let r = round as usize;
     let entry = Entry {
         site: j,
         round: r,

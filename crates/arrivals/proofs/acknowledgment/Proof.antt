@@ -27,7 +27,7 @@ enum-known-verdict c = search needs
 returns : tie.Need-returns
 returns c =
     let o = c .before .before .before .before .before .before .before in
-    λ commands. acknowledgment-refused (o .args .table) commands (now (o .args .sent)) (now (o .args .sites)) (λ k. c .before .before .before .before .before .before .slice-known .given k .fits) (o .args .i) (o .args .j) (o .args .r) (o .args .a) refl (c .before .before .before .before .is-faulty .ensures) (c .before .before .before .judge-message .ensures) _ (c .before .verdict .given .1)
+    λ commands. acknowledgment-refused (o .args .table) commands (now (o .args .sent)) (now (o .args .sites)) (λ k. c .before .before .before .before .before .before .slice-known .given k .fits) (o .args .site) (o .args .from) (o .args .round) (o .args .number) refl (c .before .before .before .before .is-faulty .ensures) (c .before .before .before .judge-message .ensures) _ (c .before .verdict .given .1)
 
 enum-told : tie.Need-enum-told
 enum-told c = search needs
@@ -35,10 +35,10 @@ enum-told c = search needs
 acknowledgment-requires : tie.Need-acknowledgment-requires
 acknowledgment-requires c κs =
     let o = c .before .before .before .before .before .before in
-    let p = passed (o .args .table) (o .args .i) (o .args .j) (o .args .r) (leb 1 (o .args .a) && leb (o .args .a) capacity) (not (c .before .before .before .is-faulty .result)) (c .before .before .judge-message .ensures) (c .enum-told .given .1) in
+    let p = passed (o .args .table) (o .args .site) (o .args .from) (o .args .round) (leb 1 (o .args .number) && leb (o .args .number) capacity) (not (c .before .before .before .is-faulty .result)) (c .before .before .judge-message .ensures) (c .enum-told .given .1) in
     let l = good-limits (o .args .table) (o .pre .1) in
     let s = p .sender in
-    (o .pre .2, omega arith, p .first, p .last, leb-true 1 (o .args .a) (left (leb 1 (o .args .a)) (leb (o .args .a) capacity) (p .operands)))
+    (o .pre .2, omega arith, p .first, p .last, leb-true 1 (o .args .number) (left (leb 1 (o .args .number)) (leb (o .args .number) capacity) (p .operands)))
 
 enum-known-message : tie.Need-enum-known-message
 enum-known-message c = search needs
@@ -49,12 +49,12 @@ enum-told-2 c = search needs
 returns-2 : tie.Need-returns-2
 returns-2 c =
     let o = c .before .before .before .before .before .before .before .before .before in
-    λ commands. acknowledgment-never (o .args .table) commands (now (o .args .sent)) (now (o .args .sites)) (λ k. c .before .before .before .before .before .before .before .before .slice-known .given k .fits) (o .args .i) (o .args .j) (o .args .r) (o .args .a) refl (c .before .before .before .before .before .before .is-faulty .ensures) (c .before .before .before .before .before .judge-message .ensures) (c .before .before .before .enum-told .given .1) (c .before .before .acknowledgment .ensures) (c .enum-told2 .given .1)
+    λ commands. acknowledgment-never (o .args .table) commands (now (o .args .sent)) (now (o .args .sites)) (λ k. c .before .before .before .before .before .before .before .before .slice-known .given k .fits) (o .args .site) (o .args .from) (o .args .round) (o .args .number) refl (c .before .before .before .before .before .before .is-faulty .ensures) (c .before .before .before .before .before .judge-message .ensures) (c .before .before .before .enum-told .given .1) (c .before .before .acknowledgment .ensures) (c .enum-told2 .given .1)
 
 hear-requires : tie.Need-hear-requires
 hear-requires c κs =
     let o = c .before .before .before .before .before .before .before .before .before .before .before in
-    let p = passed (o .args .table) (o .args .i) (o .args .j) (o .args .r) (leb 1 (o .args .a) && leb (o .args .a) capacity) (not (c .before .before .before .before .before .before .before .before .is-faulty .result)) (c .before .before .before .before .before .before .before .judge-message .ensures) (c .before .before .before .before .before .enum-told .given .1) in
+    let p = passed (o .args .table) (o .args .site) (o .args .from) (o .args .round) (leb 1 (o .args .number) && leb (o .args .number) capacity) (not (c .before .before .before .before .before .before .before .before .is-faulty .result)) (c .before .before .before .before .before .before .before .judge-message .ensures) (c .before .before .before .before .before .enum-told .given .1) in
     let l = good-limits (o .args .table) (o .pre .1) in
     let s = p .sender in
     let q = p .receiver in
@@ -66,8 +66,8 @@ same-length c = search needs
 returns-3 : tie.Need-returns-3
 returns-3 c =
     let o = c .before .before .before .before .before .before .before .before .before .before .before .before .before .before in
-    λ commands. acknowledged (o .args .table) commands (now (o .args .sent)) (now (o .args .sites)) (λ k. c .before .before .before .before .before .before .before .before .before .before .before .before .before .slice-known .given k .fits) (o .args .i) (o .args .j) (o .args .r) (o .args .a) refl (c .before .before .before .before .before .before .before .before .before .before .before .is-faulty .ensures) (c .before .before .before .before .before .before .before .before .before .before .judge-message .ensures) (c .before .before .before .before .before .before .before .before .enum-told .given .1) (c .before .before .before .before .before .before .before .acknowledgment .ensures)
-    (passed (o .args .table) (o .args .i) (o .args .j) (o .args .r) (leb 1 (o .args .a) && leb (o .args .a) capacity) (not (c .before .before .before .before .before .before .before .before .before .before .before .is-faulty .result)) (c .before .before .before .before .before .before .before .before .before .before .judge-message .ensures) (c .before .before .before .before .before .before .before .before .enum-told .given .1)) _ (c .before .before .before .before .before .message .given .1) (c .before .before .hear .ensures)
+    λ commands. acknowledged (o .args .table) commands (now (o .args .sent)) (now (o .args .sites)) (λ k. c .before .before .before .before .before .before .before .before .before .before .before .before .before .slice-known .given k .fits) (o .args .site) (o .args .from) (o .args .round) (o .args .number) refl (c .before .before .before .before .before .before .before .before .before .before .before .is-faulty .ensures) (c .before .before .before .before .before .before .before .before .before .before .judge-message .ensures) (c .before .before .before .before .before .before .before .before .enum-told .given .1) (c .before .before .before .before .before .before .before .acknowledgment .ensures)
+    (passed (o .args .table) (o .args .site) (o .args .from) (o .args .round) (leb 1 (o .args .number) && leb (o .args .number) capacity) (not (c .before .before .before .before .before .before .before .before .before .before .before .is-faulty .result)) (c .before .before .before .before .before .before .before .before .before .before .judge-message .ensures) (c .before .before .before .before .before .before .before .before .enum-told .given .1)) _ (c .before .before .before .before .before .message .given .1) (c .before .before .hear .ensures)
 
 pub acknowledgment-spec : {M : Type 1} → statement M
 acknowledgment-spec =

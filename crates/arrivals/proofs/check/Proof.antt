@@ -22,7 +22,7 @@ enum-known-verdict c = search needs
 returns : tie.Need-returns
 returns c =
     let o = c .before .before .before .before .before .before .before in
-    λ commands. check-refused (o .args .table) commands (now (o .args .sent)) (now (o .args .sites)) (λ k. c .before .before .before .before .before .before .slice-known .given k .fits) (o .args .i) (o .args .j) (o .args .r) (c .before .before .before .before .is-faulty .ensures) (c .before .before .before .judge-message .ensures) _ (c .before .verdict .given .1)
+    λ commands. check-refused (o .args .table) commands (now (o .args .sent)) (now (o .args .sites)) (λ k. c .before .before .before .before .before .before .slice-known .given k .fits) (o .args .site) (o .args .from) (o .args .round) (c .before .before .before .before .is-faulty .ensures) (c .before .before .before .judge-message .ensures) _ (c .before .verdict .given .1)
 
 enum-told : tie.Need-enum-told
 enum-told c = search needs
@@ -30,7 +30,7 @@ enum-told c = search needs
 check-requires : tie.Need-check-requires
 check-requires c κs =
     let o = c .before .before .before .before .before .before in
-    let p = passed (o .args .table) (o .args .i) (o .args .j) (o .args .r) true (not (c .before .before .before .is-faulty .result)) (c .before .before .judge-message .ensures) (c .enum-told .given .1) in
+    let p = passed (o .args .table) (o .args .site) (o .args .from) (o .args .round) true (not (c .before .before .before .is-faulty .result)) (c .before .before .judge-message .ensures) (c .enum-told .given .1) in
     let l = good-limits (o .args .table) (o .pre .1) in
     let s = p .sender in
     (o .pre .2, omega arith, p .first, p .last)
@@ -44,12 +44,12 @@ enum-told-2 c = search needs
 returns-2 : tie.Need-returns-2
 returns-2 c =
     let o = c .before .before .before .before .before .before .before .before .before in
-    λ commands. check-never (o .args .table) commands (now (o .args .sent)) (now (o .args .sites)) (λ k. c .before .before .before .before .before .before .before .before .slice-known .given k .fits) (o .args .i) (o .args .j) (o .args .r) (c .before .before .before .before .before .before .is-faulty .ensures) (c .before .before .before .before .before .judge-message .ensures) (c .before .before .before .enum-told .given .1) (c .before .before .check .ensures) (c .enum-told2 .given .1)
+    λ commands. check-never (o .args .table) commands (now (o .args .sent)) (now (o .args .sites)) (λ k. c .before .before .before .before .before .before .before .before .slice-known .given k .fits) (o .args .site) (o .args .from) (o .args .round) (c .before .before .before .before .before .before .is-faulty .ensures) (c .before .before .before .before .before .judge-message .ensures) (c .before .before .before .enum-told .given .1) (c .before .before .check .ensures) (c .enum-told2 .given .1)
 
 receive-requires : tie.Need-receive-requires
 receive-requires c κs =
     let o = c .before .before .before .before .before .before .before .before .before .before .before in
-    let p = passed (o .args .table) (o .args .i) (o .args .j) (o .args .r) true (not (c .before .before .before .before .before .before .before .before .is-faulty .result)) (c .before .before .before .before .before .before .before .judge-message .ensures) (c .before .before .before .before .before .enum-told .given .1) in
+    let p = passed (o .args .table) (o .args .site) (o .args .from) (o .args .round) true (not (c .before .before .before .before .before .before .before .before .is-faulty .result)) (c .before .before .before .before .before .before .before .judge-message .ensures) (c .before .before .before .before .before .enum-told .given .1) in
     let q = p .receiver in
     omega (arith, o .pre .0)
 
@@ -59,8 +59,8 @@ same-length c = search needs
 returns-3 : tie.Need-returns-3
 returns-3 c =
     let o = c .before .before .before .before .before .before .before .before .before .before .before .before .before .before in
-    λ commands. checked (o .args .table) commands (now (o .args .sent)) (now (o .args .sites)) (λ k. c .before .before .before .before .before .before .before .before .before .before .before .before .before .slice-known .given k .fits) (o .args .i) (o .args .j) (o .args .r) (c .before .before .before .before .before .before .before .before .before .before .before .is-faulty .ensures) (c .before .before .before .before .before .before .before .before .before .before .judge-message .ensures) (c .before .before .before .before .before .before .before .before .enum-told .given .1) (c .before .before .before .before .before .before .before .check .ensures)
-    (passed (o .args .table) (o .args .i) (o .args .j) (o .args .r) true (not (c .before .before .before .before .before .before .before .before .before .before .before .is-faulty .result)) (c .before .before .before .before .before .before .before .before .before .before .judge-message .ensures) (c .before .before .before .before .before .before .before .before .enum-told .given .1)) _ (c .before .before .before .before .before .message .given .1) (c .before .before .receive .ensures)
+    λ commands. checked (o .args .table) commands (now (o .args .sent)) (now (o .args .sites)) (λ k. c .before .before .before .before .before .before .before .before .before .before .before .before .before .slice-known .given k .fits) (o .args .site) (o .args .from) (o .args .round) (c .before .before .before .before .before .before .before .before .before .before .before .is-faulty .ensures) (c .before .before .before .before .before .before .before .before .before .before .judge-message .ensures) (c .before .before .before .before .before .before .before .before .enum-told .given .1) (c .before .before .before .before .before .before .before .check .ensures)
+    (passed (o .args .table) (o .args .site) (o .args .from) (o .args .round) true (not (c .before .before .before .before .before .before .before .before .before .before .before .is-faulty .result)) (c .before .before .before .before .before .before .before .before .before .before .judge-message .ensures) (c .before .before .before .before .before .before .before .before .enum-told .given .1)) _ (c .before .before .before .before .before .message .given .1) (c .before .before .receive .ensures)
 
 pub check-spec : {M : Type 1} → statement M
 check-spec =

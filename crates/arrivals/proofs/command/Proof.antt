@@ -14,12 +14,12 @@ use Rattle.arrivals.proofs.command.Tie as tie
 returns : tie.Need-returns
 returns c =
     let o = c .before .before .before in
-    λ sent. no-site (o .args .table) (o .args .commands) sent (now (o .args .sites)) (λ k. c .before .before .slice-known .given k .fits) (o .args .i) (o .args .m) (omega arith)
+    λ sent. no-site (o .args .table) (o .args .commands) sent (now (o .args .sites)) (λ k. c .before .before .slice-known .given k .fits) (o .args .site) (o .args .command) (omega arith)
 
 returns-2 : tie.Need-returns-2
 returns-2 c =
     let o = c .before .before .before .before in
-    λ sent. no-command (o .args .table) (o .args .commands) sent (now (o .args .sites)) (λ k. c .before .before .before .slice-known .given k .fits) (o .args .i) (o .args .m) (omega arith) (omega arith)
+    λ sent. no-command (o .args .table) (o .args .commands) sent (now (o .args .sites)) (λ k. c .before .before .before .slice-known .given k .fits) (o .args .site) (o .args .command) (omega arith) (omega arith)
 
 is-faulty-requires : tie.Need-is-faulty-requires
 is-faulty-requires c κs = search needs
@@ -27,7 +27,7 @@ is-faulty-requires c κs = search needs
 returns-3 : tie.Need-returns-3
 returns-3 c =
     let o = c .before .before .before .before .before .before in
-    λ sent. faulty-site (o .args .table) (o .args .commands) sent (now (o .args .sites)) (λ k. c .before .before .before .before .before .slice-known .given k .fits) (o .args .i) (o .args .m) (omega arith) (omega arith) (c .before .is-faulty .ensures) (c .if3 .taken)
+    λ sent. faulty-site (o .args .table) (o .args .commands) sent (now (o .args .sites)) (λ k. c .before .before .before .before .before .slice-known .given k .fits) (o .args .site) (o .args .command) (omega arith) (omega arith) (c .before .is-faulty .ensures) (c .if3 .taken)
 
 mul-from : tie.Need-mul-from
 mul-from c = search needs
@@ -53,8 +53,8 @@ same-length c = search needs
 returns-4 : tie.Need-returns-4
 returns-4 c =
     let o = c .before .before .before .before .before .before .before .before .before .before in
-    λ sent. commanded (c .before .before .before .before .before .before .before .before .before .before .args .table) (c .before .before .before .before .before .before .before .before .before .before .args .commands) sent (now (c .before .before .before .before .before .before .before .before .before .before .args .sites)) (λ k. c .before .before .before .before .before .before .before .before .before .slice-known .given k .fits) (c .before .before .before .before .before .before .before .before .before .before .args .i) (c .before .before .before .before .before .before .before .before .before .before .args .m) (omega arith) (omega arith) (c .before .before .before .before .before .is-faulty .ensures) (c .before .before .before .before .if3 .left)
-    (at-site (Commanded (o .args .m)) (now (o .args .sites)) (o .args .i) ((o .args .i * siteSize + siteSize) - o .args .i * siteSize) _ (omega arith) (omega arith)
+    λ sent. commanded (c .before .before .before .before .before .before .before .before .before .before .args .table) (c .before .before .before .before .before .before .before .before .before .before .args .commands) sent (now (c .before .before .before .before .before .before .before .before .before .before .args .sites)) (λ k. c .before .before .before .before .before .before .before .before .before .slice-known .given k .fits) (c .before .before .before .before .before .before .before .before .before .before .args .site) (c .before .before .before .before .before .before .before .before .before .before .args .command) (omega arith) (omega arith) (c .before .before .before .before .before .is-faulty .ensures) (c .before .before .before .before .if3 .left)
+    (at-site (Commanded (o .args .command)) (now (o .args .sites)) (o .args .site) ((o .args .site * siteSize + siteSize) - o .args .site * siteSize) _ (omega arith) (omega arith)
     (c .before .before .receive-command .kept .0) (c .before .before .receive-command .ensures))
 
 pub command-spec : {M : Type 1} → statement M

@@ -24,7 +24,7 @@ enum-known-verdict c = search needs
 returns : tie.Need-returns
 returns c =
     let o = c .before .before .before .before .before .before .before in
-    λ sent. false-acknowledgment-refused (o .args .table) (o .args .commands) sent (now (o .args .sites)) (λ k. c .before .before .before .before .before .before .slice-known .given k .fits) (o .args .i) (o .args .j) (o .args .r) (o .args .set) (c .before .before .before .before .before .within .ensures) (c .before .before .before .before .is-faulty .ensures) (c .before .before .before .judge-message .ensures) _ (c .before .verdict .given .1)
+    λ sent. false-acknowledgment-refused (o .args .table) (o .args .commands) sent (now (o .args .sites)) (λ k. c .before .before .before .before .before .before .slice-known .given k .fits) (o .args .site) (o .args .from) (o .args .round) (o .args .set) (c .before .before .before .before .before .within .ensures) (c .before .before .before .before .is-faulty .ensures) (c .before .before .before .judge-message .ensures) _ (c .before .verdict .given .1)
 
 enum-told : tie.Need-enum-told
 enum-told c = search needs
@@ -32,7 +32,7 @@ enum-told c = search needs
 hear-requires : tie.Need-hear-requires
 hear-requires c κs =
     let o = c .before .before .before .before .before .before .before in
-    let p = passed (o .args .table) (o .args .i) (o .args .j) (o .args .r) (c .before .before .before .before .before .within .result) (c .before .before .before .before .is-faulty .result) (c .before .before .before .judge-message .ensures) (c .before .enum-told .given .1) in
+    let p = passed (o .args .table) (o .args .site) (o .args .from) (o .args .round) (c .before .before .before .before .before .within .result) (c .before .before .before .before .is-faulty .result) (c .before .before .before .judge-message .ensures) (c .before .enum-told .given .1) in
     let l = good-limits (o .args .table) (o .pre .1) in
     let s = p .sender in
     let q = p .receiver in
@@ -44,8 +44,8 @@ same-length c = search needs
 returns-2 : tie.Need-returns-2
 returns-2 c =
     let o = c .before .before .before .before .before .before .before .before .before .before in
-    λ sent. false-acknowledged (o .args .table) (o .args .commands) sent (now (o .args .sites)) (λ k. c .before .before .before .before .before .before .before .before .before .slice-known .given k .fits) (o .args .i) (o .args .j) (o .args .r) (o .args .set) (c .before .before .before .before .before .before .before .before .within .ensures) (c .before .before .before .before .before .before .before .is-faulty .ensures) (c .before .before .before .before .before .before .judge-message .ensures) (c .before .before .before .before .enum-told .given .1)
-    (passed (o .args .table) (o .args .i) (o .args .j) (o .args .r) (c .before .before .before .before .before .before .before .before .within .result) (c .before .before .before .before .before .before .before .is-faulty .result) (c .before .before .before .before .before .before .judge-message .ensures) (c .before .before .before .before .enum-told .given .1)) (c .before .before .hear .ensures)
+    λ sent. false-acknowledged (o .args .table) (o .args .commands) sent (now (o .args .sites)) (λ k. c .before .before .before .before .before .before .before .before .before .slice-known .given k .fits) (o .args .site) (o .args .from) (o .args .round) (o .args .set) (c .before .before .before .before .before .before .before .before .within .ensures) (c .before .before .before .before .before .before .before .is-faulty .ensures) (c .before .before .before .before .before .before .judge-message .ensures) (c .before .before .before .before .enum-told .given .1)
+    (passed (o .args .table) (o .args .site) (o .args .from) (o .args .round) (c .before .before .before .before .before .before .before .before .within .result) (c .before .before .before .before .before .before .before .is-faulty .result) (c .before .before .before .before .before .before .judge-message .ensures) (c .before .before .before .before .enum-told .given .1)) (c .before .before .hear .ensures)
 
 pub false-acknowledgment-spec : {M : Type 1} → statement M
 false-acknowledgment-spec =

@@ -23,7 +23,7 @@ enum-known-verdict c = search needs
 returns : tie.Need-returns
 returns c =
     let o = c .before .before .before .before .before .before .before in
-    λ sent. false-check-refused (o .args .table) (o .args .commands) sent (now (o .args .sites)) (λ k. c .before .before .before .before .before .before .slice-known .given k .fits) (o .args .i) (o .args .j) (o .args .r) (o .args .set) (c .before .before .before .before .before .within .ensures) (c .before .before .before .before .is-faulty .ensures) (c .before .before .before .judge-message .ensures) _ (c .before .verdict .given .1)
+    λ sent. false-check-refused (o .args .table) (o .args .commands) sent (now (o .args .sites)) (λ k. c .before .before .before .before .before .before .slice-known .given k .fits) (o .args .site) (o .args .from) (o .args .round) (o .args .set) (c .before .before .before .before .before .within .ensures) (c .before .before .before .before .is-faulty .ensures) (c .before .before .before .judge-message .ensures) _ (c .before .verdict .given .1)
 
 enum-told : tie.Need-enum-told
 enum-told c = search needs
@@ -31,7 +31,7 @@ enum-told c = search needs
 receive-requires : tie.Need-receive-requires
 receive-requires c κs =
     let o = c .before .before .before .before .before .before .before in
-    let p = passed (o .args .table) (o .args .i) (o .args .j) (o .args .r) (c .before .before .before .before .before .within .result) (c .before .before .before .before .is-faulty .result) (c .before .before .before .judge-message .ensures) (c .before .enum-told .given .1) in
+    let p = passed (o .args .table) (o .args .site) (o .args .from) (o .args .round) (c .before .before .before .before .before .within .result) (c .before .before .before .before .is-faulty .result) (c .before .before .before .judge-message .ensures) (c .before .enum-told .given .1) in
     let q = p .receiver in
     omega (arith, o .pre)
 
@@ -41,8 +41,8 @@ same-length c = search needs
 returns-2 : tie.Need-returns-2
 returns-2 c =
     let o = c .before .before .before .before .before .before .before .before .before .before in
-    λ sent. false-checked (o .args .table) (o .args .commands) sent (now (o .args .sites)) (λ k. c .before .before .before .before .before .before .before .before .before .slice-known .given k .fits) (o .args .i) (o .args .j) (o .args .r) (o .args .set) (c .before .before .before .before .before .before .before .before .within .ensures) (c .before .before .before .before .before .before .before .is-faulty .ensures) (c .before .before .before .before .before .before .judge-message .ensures) (c .before .before .before .before .enum-told .given .1)
-    (passed (o .args .table) (o .args .i) (o .args .j) (o .args .r) (c .before .before .before .before .before .before .before .before .within .result) (c .before .before .before .before .before .before .before .is-faulty .result) (c .before .before .before .before .before .before .judge-message .ensures) (c .before .before .before .before .enum-told .given .1)) (c .before .before .receive .ensures)
+    λ sent. false-checked (o .args .table) (o .args .commands) sent (now (o .args .sites)) (λ k. c .before .before .before .before .before .before .before .before .before .slice-known .given k .fits) (o .args .site) (o .args .from) (o .args .round) (o .args .set) (c .before .before .before .before .before .before .before .before .within .ensures) (c .before .before .before .before .before .before .before .is-faulty .ensures) (c .before .before .before .before .before .before .judge-message .ensures) (c .before .before .before .before .enum-told .given .1)
+    (passed (o .args .table) (o .args .site) (o .args .from) (o .args .round) (c .before .before .before .before .before .before .before .before .within .result) (c .before .before .before .before .before .before .before .is-faulty .result) (c .before .before .before .before .before .before .judge-message .ensures) (c .before .before .before .before .enum-told .given .1)) (c .before .before .receive .ensures)
 
 pub false-check-spec : {M : Type 1} → statement M
 false-check-spec =

@@ -16,7 +16,7 @@ in-range-requires c κs = search needs
 returns : tie.Need-returns
 returns c =
     let o = c .before .before .before in
-    entry-out (o .args .table) (o .args .commands) (now (o .args .log)) (o .args .entries) (o .args .j) (o .args .r) (o .args .nc) (o .args .c) (c .before .in-range .ensures) (c .if1 .taken)
+    entry-out (o .args .table) (o .args .commands) (now (o .args .log)) (o .args .entries) (o .args .from) (o .args .round) (o .args .nc) (o .args .c) (c .before .in-range .ensures) (c .if1 .taken)
 
 is-faulty-requires : tie.Need-is-faulty-requires
 is-faulty-requires c κs = search needs
@@ -24,7 +24,7 @@ is-faulty-requires c κs = search needs
 returns-2 : tie.Need-returns-2
 returns-2 c =
     let o = c .before .before .before .before .before in
-    entry-correct (o .args .table) (o .args .commands) (now (o .args .log)) (o .args .entries) (o .args .j) (o .args .r) (o .args .nc) (o .args .c) (c .before .before .before .in-range .ensures) (c .before .before .if1 .left) (c .before .is-faulty .ensures) (c .if2 .taken)
+    entry-correct (o .args .table) (o .args .commands) (now (o .args .log)) (o .args .entries) (o .args .from) (o .args .round) (o .args .nc) (o .args .c) (c .before .before .before .in-range .ensures) (c .before .before .if1 .left) (c .before .is-faulty .ensures) (c .if2 .taken)
 
 entries-of-requires : tie.Need-entries-of-requires
 entries-of-requires c κs = search needs
@@ -35,17 +35,13 @@ same-length c = search needs
 returns-3 : tie.Need-returns-3
 returns-3 c =
     let o = c .before .before .before .before .before .before .before .before in
-    entry-third (o .args .table) (o .args .commands) (now (o .args .log)) (o .args .entries) (o .args .j) (o .args .r) (o .args .nc) (o .args .c) (c .before .before .before .before .before .before .in-range .ensures) (c .before .before .before .before .before .if1 .left) (c .before .before .before .before .is-faulty .ensures) (c .before .before .before .if2 .left) (c .before .entries-of .ensures) (omega arith)
+    entry-third (o .args .table) (o .args .commands) (now (o .args .log)) (o .args .entries) (o .args .from) (o .args .round) (o .args .nc) (o .args .c) (c .before .before .before .before .before .before .in-range .ensures) (c .before .before .before .before .before .if1 .left) (c .before .before .before .before .is-faulty .ensures) (c .before .before .before .if2 .left) (c .before .entries-of .ensures) (omega arith)
 
 write-entry-requires : tie.Need-write-entry-requires
-write-entry-requires c κs =
-    let o = c .before .before .before .before .before .before .before .before .before in
-    let p = in-range-told (o .args .table .sites) (o .args .commands) (record { site = o .args .j; round = o .args .r; nc = o .args .nc; c = o .args .c }) (sym (c .before .before .before .before .before .before .before .in-range .ensures) ∙ not-false _ (c .before .before .before .before .before .before .if1 .left)) in
-    let l = p .round in
-    (omega (arith, o .pre), o .pre .1, omega arith)
+write-entry-requires c κs = search needs
 
-add-t16 : tie.Need-add-t16
-add-t16 c = search needs
+add-t18 : tie.Need-add-t18
+add-t18 c = search needs
 
 same-length-2 : tie.Need-same-length-2
 same-length-2 c = search needs
@@ -53,10 +49,10 @@ same-length-2 c = search needs
 returns-4 : tie.Need-returns-4
 returns-4 c =
     let o = c .before .before .before .before .before .before .before .before .before .before .before .before in
-    let p = in-range-told (o .args .table .sites) (o .args .commands) (record { site = o .args .j; round = o .args .r; nc = o .args .nc; c = o .args .c }) (sym (c .before .before .before .before .before .before .before .before .before .before .in-range .ensures) ∙ not-false _ (c .before .before .before .before .before .before .before .before .before .if1 .left)) in
+    let p = in-range-told (o .args .table .sites) (o .args .commands) (record { site = o .args .from; round = o .args .round; nc = o .args .nc; c = o .args .c }) (sym (c .before .before .before .before .before .before .before .before .before .before .in-range .ensures) ∙ not-false _ (c .before .before .before .before .before .before .before .before .before .if1 .left)) in
     let l = p .round in
-    entered (o .args .table) (o .args .commands) (now (o .args .log)) (o .args .entries) (o .args .j) (o .args .r) (o .args .nc) (o .args .c) (c .before .before .before .before .before .before .before .before .before .before .in-range .ensures) (c .before .before .before .before .before .before .before .before .before .if1 .left) (c .before .before .before .before .before .before .before .before .is-faulty .ensures) (c .before .before .before .before .before .before .before .if2 .left) (c .before .before .before .before .before .entries-of .ensures) (omega arith)
-    (record { site = o .pre .1; round = omega arith; nc = o .good .1 .1 .1 .1 .1 .1 .0 .1 .1 .0 .1; c = o .good .1 .1 .1 .1 .1 .1 .1 .0 .1 .1 .0 .1 }) (o .pre .0) (c .before .before .write-entry .ensures)
+    entered (o .args .table) (o .args .commands) (now (o .args .log)) (o .args .entries) (o .args .from) (o .args .round) (o .args .nc) (o .args .c) (c .before .before .before .before .before .before .before .before .before .before .in-range .ensures) (c .before .before .before .before .before .before .before .before .before .if1 .left) (c .before .before .before .before .before .before .before .before .is-faulty .ensures) (c .before .before .before .before .before .before .before .if2 .left) (c .before .before .before .before .before .entries-of .ensures) (omega arith)
+    (record { site = omega arith; round = omega arith; nc = o .good .1 .1 .1 .1 .1 .1 .0 .1 .1 .0 .1; c = o .good .1 .1 .1 .1 .1 .1 .1 .0 .1 .1 .0 .1 }) (o .pre) (c .before .before .write-entry .ensures)
 
 pub false-entry-spec : {M : Type 1} → statement M
 false-entry-spec =
@@ -70,6 +66,6 @@ false-entry-spec =
     same-length
     returns-3
     write-entry-requires
-    add-t16
+    add-t18
     same-length-2
     returns-4)
