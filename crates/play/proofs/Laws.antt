@@ -1,0 +1,186 @@
+-- Laws of the loop over the steps of a run: what is left of them, from the world that the buffers hold.
+-- Assumes nothing.
+use mathlib.Core.Path.{_≡_, refl, sym, ap, subst, _∙_}
+use mathlib.Core.List.{List, [], _∷_, _++_, append-nil, foldl-append}
+use Prim.Native.Nat.{ℕ, suc, _+_, _-_, _≤_, _<_}
+use native.Mathlib.Numerals.{add-one}
+use native.Mathlib.Omega.{arith}
+use lib.ListN.{length, drop}
+use Rattle.refusals.specs.Refusals.{numberOf}
+use Rattle.refusals.specs.declared.Refusal.{Refusal}
+use Rattle.refusals.specs.declared.Refusal.the-variants.{Book, Table, Form, Range, Role, Disabled, ThirdEntry, LastRound, Size}
+use Rattle.refusals.specs.declared.Verdict.{Verdict}
+use Rattle.refusals.specs.declared.Verdict.the-variants.{Taken, Refused}
+use Rattle.table.specs.declared.SiteTable.{SiteTable}
+use Rattle.register.specs.declared.Command.{Command}
+use Rattle.protocol.specs.World as protocol
+use Rattle.protocol.specs.World.{World, start, judge, step, play}
+use Rattle.system.specs.Dash.{dash}
+use Rattle.print.specs.Print.{Wrote}
+use Rattle.print.proofs.Laws.{Left, left-all, left-more, left-none, splice-none}
+use Rattle.steps.specs.declared.Step.{Step}
+use Rattle.steps.specs.declared.Reading.{Reading}
+use Rattle.steps.specs.declared.Reading.the-variants.{Whole, Unreadable}
+use Rattle.steps.specs.Steps.{sizeOf, readStep, stepsOf}
+use Rattle.steps.specs.Meaning.{meaning}
+use Rattle.steps.proofs.Walk.{more-at, bad-at, end-at, inside}
+use Rattle.lines.specs.Lines.{stepLine}
+use Rattle.lines.proofs.Laws.{step-short}
+use Rattle.runs.specs.Run.{report, stepLines, worldAfter}
+use Rattle.world.specs.World.{Buffers, worldOf, HoldsWorld, Outcome}
+use Rattle.play.specs.Played.{linesRoom, extentOf, CarriedOut, PlayedAll}
+
+-- ---- the line of a step
+
+pub number-small : (r : Refusal) → numberOf r < 10
+number-small Book = omega arith
+number-small Table = omega arith
+number-small Form = omega arith
+number-small Range = omega arith
+number-small Role = omega arith
+number-small Disabled = omega arith
+number-small ThirdEntry = omega arith
+number-small LastRound = omega arith
+number-small Size = omega arith
+
+-- No line for a step that is taken.
+pub silent : (s : List ℕ) (at number : ℕ) {v : Verdict} → v ≡ Taken → Wrote s at s at (report number v)
+silent s at number e =
+    subst (λ (v : Verdict). Wrote s at s at (report number v)) (sym e) (record { end = omega arith; bytes = sym (splice-none s at) })
+
+pub loud : (number : ℕ) {s after : List ℕ} {at past n : ℕ} {v : Verdict} {r : Refusal} → v ≡ Refused r → n ≡ numberOf r → Wrote after past s at (stepLine number n)
+    → Wrote after past s at (report number v)
+loud number {s} {after} {at} {past} {n} {v} {r} e q w =
+    subst (λ (x : Verdict). Wrote after past s at (report number x)) (sym e) (subst (λ (k : ℕ). Wrote after past s at (stepLine number k)) q w)
+
+-- ---- the bytes of a reading
+
+-- A reading has a byte at least, and two where others follow it.
+pub record Within (steps : List ℕ) (at z : ℕ) : Type 0 where
+  pub some-byte : 1 ≤ z
+  pub inside : at + z ≤ length steps
+  pub two : at + z < length steps → 2 ≤ z
+
+pub within : (steps : List ℕ) (at : ℕ) (r : Reading) {z : ℕ} → at < length steps → readStep (drop at steps) ≡ r → z ≡ extentOf r (length steps - at) → Within steps at z
+within steps at (Whole u) h e q = let i = inside steps at (omega arith) e q in record { some-byte = omega arith; inside = i .1; two = λ l. i .0 }
+within steps at Unreadable h e q = record { some-byte = omega arith; inside = omega arith; two = λ l. absurd (omega arith) }
+
+module _ (t : SiteTable) (book : List Command) {r : Reading} where
+  pub carried-none : (b : Buffers) → r ≡ Unreadable → CarriedOut t book r b (Refused Form) b
+  carried-none b e = subst (λ (x : Reading). CarriedOut t book x b (Refused Form) b) (sym e) (record { did = (refl, refl) })
+
+  pub carried-step : {u : Step} {b after : Buffers} {v : Verdict} → r ≡ Whole u → Outcome t book (meaning u) b v after → CarriedOut t book r b v after
+  carried-step {u} {b} {after} {v} e o = subst (λ (x : Reading). CarriedOut t book x b v after) (sym e) (record { did = o })
+
+-- ---- what is left
+
+module _ (t : SiteTable) (book : List Command) where
+  -- Played so far: what steps led to the world that the buffers hold, and what lines and world the steps left give from there.
+  pub record Playing (steps before : List ℕ) (from : ℕ) (b : Buffers) (out : List ℕ) (end at number : ℕ) : Type 0 where
+    pub past : List protocol.Step
+    pub world : HoldsWorld t book b (play (dash t book) (start (dash t book)) past)
+    pub lines :
+        Left out end (stepLines t book number (play (dash t book) (start (dash t book)) past) (stepsOf (drop at steps))) before from
+        (stepLines t book 1 (start (dash t book)) (stepsOf steps))
+    pub after : worldAfter t book (play (dash t book) (start (dash t book)) past) (stepsOf (drop at steps)) ≡ worldAfter t book (start (dash t book)) (stepsOf steps)
+
+  pub playing-none : (steps before : List ℕ) (from : ℕ) {b : Buffers} → HoldsWorld t book b (start (dash t book)) → Playing steps before from b before from 0 1
+  playing-none steps before from h =
+      record {
+        past = [];
+        world = h;
+        lines = left-all before from (stepLines t book 1 (start (dash t book)) (stepsOf steps));
+        after = refl;
+      }
+
+  module _ (steps before : List ℕ) (from : ℕ) {b : Buffers} {out : List ℕ} {end at number : ℕ} (p : Playing steps before from b out end at number) where
+    now-world : worldOf t book b ≡ play (dash t book) (start (dash t book)) (p .past)
+    now-world = p .world .says
+
+    -- One step more.
+    playing-more : {u : Step} {z : ℕ} {v : Verdict} {b′ : Buffers} {out′ : List ℕ} {end′ : ℕ} → end ≤ length out → readStep (drop at steps) ≡ Whole u → z ≡ sizeOf u
+        → Outcome t book (meaning u) b v b′ → Wrote out′ end′ out end (report number v) → Playing steps before from b′ out′ end′ (at + z) (number + 1)
+    playing-more {u} {z} {v} {b′} {out′} {end′} h e q o w =
+        record {
+          past = p .past ++ (meaning u ∷ []);
+          world = subst (λ (x : World (dash t book)). HoldsWorld t book b′ x) (ap (λ (x : World (dash t book)). step (dash t book) x (meaning u)) now-world ∙ sym grown) (o .holds);
+          lines =
+              subst (λ (k : ℕ). Left out′ end′ (stepLines t book k (play (dash t book) (start (dash t book)) (p .past ++ (meaning u ∷ []))) rest) before from whole) (sym (add-one number))
+              (subst (λ (x : World (dash t book)). Left out′ end′ (stepLines t book (suc number) x rest) before from whole) (sym grown)
+              (left-more h w
+              (subst (λ (x : Verdict). Left out end (report number x ++ stepLines t book (suc number) (step (dash t book) past (meaning u)) rest) before from whole) (sym judged)
+              (subst (λ (rs : List Reading). Left out end (stepLines t book number past rs) before from whole) left (p .lines)))));
+          after =
+              ap (λ (x : World (dash t book)). worldAfter t book x rest) grown
+              ∙ ap (worldAfter t book past) (sym left)
+              ∙ p .after;
+        }
+      where
+        past : World (dash t book)
+        past = play (dash t book) (start (dash t book)) (p .past)
+
+        rest : List Reading
+        rest = stepsOf (drop (at + z) steps)
+
+        whole : List ℕ
+        whole = stepLines t book 1 (start (dash t book)) (stepsOf steps)
+
+        left : stepsOf (drop at steps) ≡ Whole u ∷ rest
+        left = more-at steps at e q
+
+        grown : play (dash t book) (start (dash t book)) (p .past ++ (meaning u ∷ [])) ≡ step (dash t book) past (meaning u)
+        grown = foldl-append (step (dash t book)) (start (dash t book)) (p .past) (meaning u ∷ [])
+
+        judged : v ≡ judge (dash t book) past (meaning u)
+        judged = o .verdict ∙ ap (λ (x : World (dash t book)). judge (dash t book) x (meaning u)) now-world
+
+    -- A step that cannot be read is the last.
+    playing-last : {z : ℕ} {v : Verdict} {b′ : Buffers} {out′ : List ℕ} {end′ : ℕ} → end ≤ length out → at < length steps → readStep (drop at steps) ≡ Unreadable → z ≡ length steps - at
+        → (v ≡ Refused Form) × (b′ ≡ b) → Wrote out′ end′ out end (report number v) → Playing steps before from b′ out′ end′ (at + z) (number + 1)
+    playing-last {z} {v} {b′} {out′} {end′} h g e q o w =
+        record {
+          past = p .past;
+          world = subst (λ (x : Buffers). HoldsWorld t book x past) (sym (o .1)) (p .world);
+          lines =
+              subst (λ (rs : List Reading). Left out′ end′ (stepLines t book (number + 1) past rs) before from whole) (sym none)
+              (left-more h (subst (λ (x : Verdict). Wrote out′ end′ out end (report number x)) (o .0) w)
+              (subst (λ (l : List ℕ). Left out end l before from whole) (sym (append-nil (report number (Refused Form))))
+              (subst (λ (rs : List Reading). Left out end (stepLines t book number past rs) before from whole) left (p .lines))));
+          after = ap (worldAfter t book past) none ∙ ap (worldAfter t book past) (sym left) ∙ p .after;
+        }
+      where
+        past : World (dash t book)
+        past = play (dash t book) (start (dash t book)) (p .past)
+
+        whole : List ℕ
+        whole = stepLines t book 1 (start (dash t book)) (stepsOf steps)
+
+        left : stepsOf (drop at steps) ≡ Unreadable ∷ []
+        left = bad-at steps at g e
+
+        none : stepsOf (drop (at + z) steps) ≡ []
+        none = end-at steps (at + z) (omega arith)
+
+    -- One reading more.
+    pub playing-next : (r : Reading) {z : ℕ} {v : Verdict} {b′ : Buffers} {out′ : List ℕ} {end′ : ℕ} → end ≤ length out → at < length steps → readStep (drop at steps) ≡ r
+        → z ≡ extentOf r (length steps - at) → CarriedOut t book r b v b′ → Wrote out′ end′ out end (report number v) → Playing steps before from b′ out′ end′ (at + z) (number + 1)
+    playing-next (Whole u) h g e q o w = playing-more h e q (o .did) w
+    playing-next Unreadable h g e q o w = playing-last h g e q (o .did) w
+
+    -- No bytes are left.
+    pub playing-end : length steps ≤ at → end ≤ from + linesRoom → PlayedAll t book steps before out from end b
+    playing-end g r =
+        record {
+          lines = left-none (subst (λ (rs : List Reading). Left out end (stepLines t book number past rs) before from whole) left (p .lines));
+          world = subst (λ (x : World (dash t book)). HoldsWorld t book b x) (ap (worldAfter t book past) (sym left) ∙ p .after) (p .world);
+          room = r;
+        }
+      where
+        past : World (dash t book)
+        past = play (dash t book) (start (dash t book)) (p .past)
+
+        whole : List ℕ
+        whole = stepLines t book 1 (start (dash t book)) (stepsOf steps)
+
+        left : stepsOf (drop at steps) ≡ []
+        left = end-at steps at g

@@ -1,0 +1,46 @@
+-- The room that a step finds: in every run the log has at most two entries a site and round, and a site acknowledges at most once a command and round.
+-- Rests on agreement's Capacity.
+use mathlib.Core.Path.{_≡_, sym, ap, subst, _∙_}
+use mathlib.Core.Bool.{true}
+use mathlib.Core.List.{List, [], _∷_, _++_, foldl-append}
+use Prim.Native.Nat.{ℕ, zero, suc, _+_, _*_, _≤_, _<_}
+use native.Mathlib.Omega.{arith}
+use lib.ListN.{length, length-append}
+use Rattle.table.specs.declared.SiteTable.{SiteTable}
+use Rattle.table.specs.Table.{isGood}
+use Rattle.table.proofs.Laws.{good-limits, good-quorums, good-few}
+use Rattle.register.specs.declared.Command.{Command}
+use Rattle.commands.specs.Book.{maxCommands, commandsOf}
+use Rattle.commands.proofs.Walk.{few-commands}
+use Rattle.protocol.specs.World.{World, Step, start, step, play}
+use Rattle.agreement.specs.Acked.{Sizes}
+use Rattle.agreement.specs.Capacity.{acks-bound, log-bound}
+use Rattle.system.specs.Dash.{dash}
+use Rattle.entries.specs.Entries.{viewEntry, entryOf, logTo}
+use Rattle.sent.specs.Sent.{maxAcknowledgments}
+use Rattle.world.specs.World.{Buffers, worldOf, HoldsWorld}
+use Rattle.play.specs.Played.{logRoom}
+
+sizes : (t : SiteTable) (book : List Command) → isGood t ≡ true → Sizes (dash t book) (t .faults)
+sizes t book good = record { few = good-few t good; quorums = good-quorums t good }
+
+length-log : (b : List ℕ) (k : ℕ) → length (logTo b k) ≡ k
+unfolding logTo
+length-log b zero = omega arith
+length-log b (suc k) = length-append (logTo b k) (viewEntry (entryOf b k) ∷ []) ∙ omega (arith, length-log b k)
+
+module _ (t : SiteTable) (s : List ℕ) (good : isGood t ≡ true) (past : List Step) {b : Buffers}
+    (h : HoldsWorld t (commandsOf s) b (play (dash t (commandsOf s)) (start (dash t (commandsOf s))) past)) where
+  -- Two entries a site and round.
+  pub entries-few : b .entries < logRoom
+  entries-few =
+      let e = ap (λ (w : World (dash t (commandsOf s))). length (w .log)) (h .says) in
+      omega (arith, length-log (b .log) (b .entries), log-bound (dash t (commandsOf s)) (t .faults) (sizes t (commandsOf s) good) past, good-limits t good .sites)
+
+  -- After any further step too, a site has sent at most one acknowledgment a command in a round.
+  pub acks-few : (u : Step) (j r : ℕ) → length (step (dash t (commandsOf s)) (worldOf t (commandsOf s) b) u .acks j r) ≤ maxAcknowledgments
+  acks-few u j r =
+      let e = ap (λ (w : World (dash t (commandsOf s))). length (step (dash t (commandsOf s)) w u .acks j r)) (h .says) in
+      let g = ap (λ (w : World (dash t (commandsOf s))). length (w .acks j r)) (foldl-append (step (dash t (commandsOf s))) (start (dash t (commandsOf s))) past (u ∷ [])) in
+      let k = acks-bound (dash t (commandsOf s)) (t .faults) (sizes t (commandsOf s) good) (past ++ (u ∷ [])) j r in
+      omega (arith, few-commands s)

@@ -1,0 +1,68 @@
+-- What playing the steps of a run promises: the lines written, and the world that the buffers hold.
+-- Assumes nothing.
+use mathlib.Core.Path.{_≡_}
+use mathlib.Core.Bool.{true}
+use mathlib.Core.List.{List}
+use Prim.Native.Nat.{ℕ, _+_, _*_, _/_, _≤_, _<_}
+use lib.ListN.{length}
+use Rattle.refusals.specs.declared.Refusal.the-variants.{Form}
+use Rattle.refusals.specs.declared.Verdict.{Verdict}
+use Rattle.refusals.specs.declared.Verdict.the-variants.{Refused}
+use Rattle.table.specs.declared.SiteTable.{SiteTable}
+use Rattle.table.specs.Table.{maxSites, isGood}
+use Rattle.register.specs.declared.Command.{Command}
+use Rattle.commands.specs.Book.{commandsOf}
+use Rattle.conflicts.specs.Conflicts.{conflictRows}
+use Rattle.protocol.specs.World.{start}
+use Rattle.system.specs.Dash.{dash, lastRound}
+use Rattle.print.specs.Print.{Wrote}
+use Rattle.steps.specs.declared.Reading.{Reading}
+use Rattle.steps.specs.declared.Reading.the-variants.{Whole, Unreadable}
+use Rattle.steps.specs.Steps.{sizeOf, stepsOf}
+use Rattle.steps.specs.Meaning.{meaning}
+use Rattle.runs.specs.Run.{maxRun, stepLines, worldAfter}
+use Rattle.deliver.specs.Delivering.{Noted}
+use Rattle.entries.specs.Entries.{entrySize}
+use Rattle.world.specs.World.{Buffers, HoldsWorld, Outcome}
+
+-- The bytes of the line of a refused step, at most: five digits of its place, one of the refusal.
+abbrev pub lineRoom : ℕ
+lineRoom = 21
+
+-- A step has 2 bytes at least, so a run has at most half as many steps as bytes.
+abbrev pub linesRoom : ℕ
+linesRoom = maxRun / 2 * lineRoom
+
+-- The bytes of a reading, of so many that are left: a step's own, and all where it cannot be read, so that nothing is read after it.
+abbrev pub extentOf : Reading → ℕ → ℕ
+extentOf (Whole u) left = sizeOf u
+extentOf Unreadable left = left
+
+-- What becomes of a reading on lent buffers: a step is taken or refused as the protocol has it, and refusal 3 changes nothing.
+abbrev pub carried : SiteTable → List Command → Reading → Buffers → Verdict → Buffers → Type 0
+carried t book (Whole u) b v after = Outcome t book (meaning u) b v after
+carried t book Unreadable b v after = (v ≡ Refused Form) × (after ≡ b)
+
+pub record CarriedOut (t : SiteTable) (book : List Command) (r : Reading) (b : Buffers) (v : Verdict) (after : Buffers) : Type 0 where
+  pub did : carried t book r b v after
+
+-- The log entries that there is room for: one more than two a site and round.
+abbrev pub logRoom : ℕ
+logRoom = maxSites * (lastRound * 2) + 1
+
+-- Buffers at the start of a run, with room for what the steps of the run write.
+pub record Playable (t : SiteTable) (book places rows : List ℕ) (commands : ℕ) (steps out : List ℕ) (from : ℕ) (b : Buffers) : Type 0 where
+  pub good : isGood t ≡ true
+  pub short : length steps < maxRun
+  pub room : from + linesRoom ≤ length out
+  pub log : logRoom * entrySize ≤ length (b .log)
+  pub noted : Noted book places
+  pub conflicts : rows ≡ conflictRows book
+  pub counted : length (commandsOf book) ≡ commands
+  pub world : HoldsWorld t (commandsOf book) b (start (dash t (commandsOf book)))
+
+-- Steps played from the start of a run: `before` became `after` by the lines of the refused ones, written from `from` to `end`.
+pub record PlayedAll (t : SiteTable) (book : List Command) (steps before after : List ℕ) (from end : ℕ) (b : Buffers) : Type 0 where
+  pub lines : Wrote after end before from (stepLines t book 1 (start (dash t book)) (stepsOf steps))
+  pub world : HoldsWorld t book b (worldAfter t book (start (dash t book)) (stepsOf steps))
+  pub room : end ≤ from + linesRoom

@@ -1,0 +1,132 @@
+// The steps of a run, played one after another on lent buffers, with a line for each refused one.
+ghost use mathlib.Core.Path.{_≡_};
+ghost use Prim.Native.Nat.{_+_, _≤_, _<_};
+ghost use lib.ListN.{length};
+ghost use Rattle.commands.specs.Book.{commandsOf};
+ghost use Rattle.print.specs.Print.{Wrote};
+ghost use Rattle.runs.specs.Run as runs;
+ghost use Rattle.world.specs.Parts.{lent};
+ghost use Rattle.protocol.specs.World as protocol;
+ghost use Rattle.deliver.specs.Delivering.{Noted};
+ghost use Rattle.moves.specs.Moves.{Ready};
+ghost use Rattle.play.specs.Played.{lineRoom, extentOf, CarriedOut, Playable, PlayedAll};
+use refusals::Refusal;
+use refusals::Verdict;
+use steps::Reading;
+use table::SiteTable;
+use world::Stepped;
+
+// What playing the steps answers: the position after the last line, and how many entries of the log are meant.
+pub struct Played {
+    pub end: usize,
+    pub entries: usize,
+}
+
+// The line of a step is written where it is refused.
+fn report(out: &mut [u8], at: usize, number: usize, verdict: Verdict) -> usize
+    requires { ⌜ (at + lineRoom ≤ length (now out)) × (number < 100000) ⌝ }
+    ensures { λ r. ⌜ Wrote (now (out .exit)) r (now (out .entry)) at (runs.report number verdict) × (r ≤ at + lineRoom) ⌝ }
+{
+    let Verdict::Refused(refusal) = verdict else {
+        return at;
+    };
+    let cause = refusals::number(refusal) as usize;
+    lines::put_step_line(out, at, number, cause)
+}
+
+// The bytes of a reading: all that are left where it cannot be read.
+fn extent(reading: Reading, left: usize) -> usize
+    ensures { λ r. ⌜ r ≡ extentOf reading left ⌝ }
+{
+    match reading {
+        Reading::Whole(step) => steps::size(step),
+        Reading::Unreadable => left,
+    }
+}
+
+// A reading is carried out: a step, or refusal 3.
+fn carry_out(
+    sites: &mut [u8],
+    log: &mut [u8],
+    sent: &mut [u8],
+    entries: usize,
+    table: SiteTable,
+    book: &[u8],
+    places: &[u16],
+    rows: &[u64],
+    commands: usize,
+    reading: Reading,
+) -> Stepped
+    requires { ⌜ ((u : protocol.Step) → Ready table (now book) (now rows) (lent (now sites) (now log) entries (now sent)) u) × Noted (now book) (now places)
+        × (length (commandsOf (now book)) ≡ commands) ⌝ }
+    ensures { λ r. ⌜ CarriedOut table (commandsOf (now (book .entry))) reading (lent (now (sites .entry)) (now (log .entry)) entries (now (sent .entry)))
+        (r .verdict) (lent (now (sites .exit)) (now (log .exit)) (r .entries) (now (sent .exit))) ⌝ }
+{
+    let Reading::Whole(step) = reading else {
+        return Stepped {
+            verdict: Verdict::Refused(Refusal::Form),
+            entries: entries,
+        };
+    };
+    stepping::step(
+        sites,
+        log,
+        sent,
+        entries,
+        table,
+        book,
+        places,
+        rows,
+        commands,
+        step,
+    )
+}
+
+// The steps are played from the start of a run. Nothing is read after a step that cannot be read.
+pub fn play_steps(
+    sites: &mut [u8],
+    log: &mut [u8],
+    sent: &mut [u8],
+    table: SiteTable,
+    book: &[u8],
+    places: &[u16],
+    rows: &[u64],
+    commands: usize,
+    steps: &[u8],
+    out: &mut [u8],
+    from: usize,
+) -> Played
+    requires { ⌜ Playable table (now book) (now places) (now rows) commands (now steps) (now out) from (lent (now sites) (now log) 0 (now sent)) ⌝ }
+    ensures { λ r. ⌜ PlayedAll table (commandsOf (now (book .entry))) (now (steps .entry)) (now (out .entry)) (now (out .exit)) from (r .end)
+        (lent (now (sites .exit)) (now (log .exit)) (r .entries) (now (sent .exit))) ⌝ }
+{
+    let n = steps.len();
+    let mut entries: usize = 0;
+    let mut end = from;
+    let mut at: usize = 0;
+    let mut number: usize = 1;
+    while at < n {
+        let reading = steps::read_step(&steps[at..]);
+        let stepped = carry_out(
+            sites,
+            log,
+            sent,
+            entries,
+            table,
+            book,
+            places,
+            rows,
+            commands,
+            reading,
+        );
+        let verdict = stepped.verdict;
+        end = report(out, end, number, verdict);
+        entries = stepped.entries;
+        at += extent(reading, n - at);
+        number += 1;
+    }
+    Played {
+        end: end,
+        entries: entries,
+    }
+}
