@@ -1,25 +1,29 @@
 #!/usr/bin/env bash
-# The tests in Rust: the reference's own, and the comparison of the proved program with it and with the tuned one on random runs.
-# Closes with 'N passed, M failed'.
+# The tests in Rust: the reference's own; the proved program against it on random runs; the one-site engine against it on random calls;
+# and the tuned program of the benchmark against it. Closes with 'N passed, M failed'.
 set -u
 cd "$(dirname "$0")/.." || exit 1
 export CARGO_TARGET_DIR="$PWD/target/cargo"
 export BEURILMA_ARCHIVE="$PWD/target/staticlib/libarchive.a"
+export BEURILMA_HOST_ARCHIVE="$PWD/target/staticlib/libhost.a"
 
 log=$(mktemp)
 trap 'rm -f "$log"' EXIT
 status=0
 
-rt staticlib archive || status=1
-tests() { # PACKAGE FEATURES..
+tests() { # PACKAGE OPTION..
   local package=$1
   shift
   (cd "$package" && cargo test --offline --release "$@") 2>&1 | tee -a "$log"
   [ "${PIPESTATUS[0]}" -eq 0 ] || status=1
 }
+
+rt staticlib archive || status=1
+rt staticlib host || status=1
 tests reference
 tests tests/compare --features archive
-tests bench --features archive
+tests tests/compare --features host --test engine
+tests bench
 
 passed=$(awk '/^test result:/ { n += $4 } END { print n + 0 }' "$log")
 failed=$(awk '/^test result:/ { n += $6 } END { print n + 0 }' "$log")
