@@ -119,6 +119,11 @@ uint32_t dash_register_bike(size_t sites, size_t faults, const uint8_t *book, si
 uint32_t dash_register_delivery(size_t sites, size_t faults, const uint8_t *book, size_t book_length,
                                 const uint8_t *site, size_t site_length, size_t k, uint8_t *out, size_t out_length);
 
+/* Plays a whole run and writes its print at the start of `out`; answers the number of bytes written. `out` needs
+ * DASH_REGISTER_PRINT_BYTES: where it is shorter, 0 is answered and nothing is written. (In the archive of crate `archive`;
+ * all other functions are in that of crate `host`.) */
+size_t dash_register_run(const uint8_t *run, size_t run_length, uint8_t *out, size_t out_length);
+
 #ifdef __cplusplus
 }
 #endif
