@@ -26,6 +26,15 @@ for run in examples/runs/*.hex; do
   check "$name" "examples/runs/$name.print" "$work/$name"
 done
 
+# The command of the README.
+sh examples/play.sh examples/runs/fit-against-read.hex > "$work/played"
+if cmp -s "$work/played" examples/runs/fit-against-read.print; then
+  passed=$((passed + 1))
+else
+  failed=$((failed + 1))
+  echo "examples/play.sh does not print examples/runs/fit-against-read.print"
+fi
+
 # Runs of 59,999, 60,000 and 60,001 bytes: a header of one site without commands, then turns that are not enabled.
 header() { printf '\001\000\000\000\000\000'; }
 turns() { yes "$(printf '\007')" | head -n "$1" | tr '\n' '\000'; }
