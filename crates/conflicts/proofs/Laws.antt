@@ -20,7 +20,7 @@ use Rattle.register.specs.Exchange.{conflict-at-sym, conflict-at-same}
 use Rattle.commands.specs.Book.{maxCommands, commandsOf, commandOf}
 use Rattle.conflicts.specs.Conflicts.{conflictIn, conflictRow, rowsFrom, conflictRows}
 
-and-false : (x : Bool) → x && false ≡ false
+pub and-false : (x : Bool) → x && false ≡ false
 and-false true = refl
 and-false false = refl
 
@@ -70,18 +70,7 @@ pub rows-irreflexive : (s : List ℕ) (m : ℕ) → m < capacity → inSet (conf
 rows-irreflexive s m h = in-row s m m h ∙ conflict-in-same s m
 
 -- How one row is built.
-pub conflict-none : (s : List ℕ) (m k : ℕ) → m ≡ k → false ≡ conflictIn s m k
-conflict-none s m k e = sym (conflict-in-same s m) ∙ ap (conflictIn s m) e
-
-pub conflict-told : (s : List ℕ) (m k : ℕ) {c d : Command} {r : Bool} → m < length (commandsOf s) → k < length (commandsOf s) → (m ≡ k → ⊥)
-    → c ≡ commandOf s m → d ≡ commandOf s k → r ≡ conflict c d → r ≡ conflictIn s m k
-conflict-told s m k g h n ec ed er =
-    er
-    ∙ (λ i. conflict (ec i) (ed i))
-    ∙ ap (λ (t : Bool). not t && conflict (commandOf s m) (commandOf s k)) (sym (ne-eqb m k n))
-    ∙ sym (in-book s m k g h)
-
-no-more : (n j : ℕ) (p : ℕ → Bool) → ((k : ℕ) → n ≤ k → p k ≡ false) → setOf n p ≡ setOf (n + j) p
+pub no-more : (n j : ℕ) (p : ℕ → Bool) → ((k : ℕ) → n ≤ k → p k ≡ false) → setOf n p ≡ setOf (n + j) p
 no-more n zero p h = let q : n ≡ n + 0 = omega arith in ap (λ (k : ℕ). setOf k p) q
 no-more n (suc j) p h =
     let q : n + j + 1 ≡ n + suc j = omega arith in
@@ -90,19 +79,6 @@ no-more n (suc j) p h =
 pub row-none : (s : List ℕ) (m : ℕ) → length (commandsOf s) ≤ m → emptyOf ≡ conflictRow s m
 unfolding conflictRow
 row-none s m h = build-none (conflictIn s m) ∙ no-more 0 capacity (conflictIn s m) (λ k g. out-left s m k h)
-
-pub row-start : (s : List ℕ) (m : ℕ) → emptyOf ≡ setOf 0 (conflictIn s m)
-row-start s m = build-none (conflictIn s m)
-
-pub row-more : (s : List ℕ) (m k : ℕ) {r r′ : Set} (t : Bool) → t ≡ conflictIn s m k → r′ ≡ pick t (withOf r k) r → r ≡ setOf k (conflictIn s m) → r′ ≡ setOf (k + 1) (conflictIn s m)
-row-more s m k true e w h = w ∙ ap (λ (r : Set). withOf r k) h ∙ build-yes k (conflictIn s m) (sym e)
-row-more s m k false e w h = w ∙ h ∙ build-no k (conflictIn s m) (sym e)
-
-pub row-end : (s : List ℕ) (m n : ℕ) {r : Set} → length (commandsOf s) ≤ n → n ≤ capacity → r ≡ setOf n (conflictIn s m) → r ≡ conflictRow s m
-unfolding conflictRow
-row-end s m n h g e =
-    let q : n + (capacity - n) ≡ capacity = omega arith in
-    e ∙ no-more n (capacity - n) (conflictIn s m) (λ k f. out-right s m k (omega arith)) ∙ ap (λ (k : ℕ). setOf k (conflictIn s m)) q
 
 -- How all rows are written.
 length-rows : (s : List ℕ) (n m : ℕ) → length (rowsFrom s n m) ≡ n

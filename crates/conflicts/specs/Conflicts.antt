@@ -1,13 +1,16 @@
 -- Which commands of a book conflict (document 01: clash), as one set a command.
 -- Assumes nothing.
-use mathlib.Core.Bool.{Bool, _&&_}
+use mathlib.Core.Path.{_≡_}
+use mathlib.Core.Bool.{Bool, true, _&&_}
 use mathlib.Core.List.{List, [], _∷_}
-use Prim.Native.Nat.{ℕ, zero, suc}
-use lib.Dec.{ltb}
+use Prim.Native.Nat.{ℕ, zero, suc, _<_}
+use lib.Dec.{eqb, ltb}
 use lib.ListN.{length}
+use Rattle.theory.specs.Sets.{pick}
 use Rattle.sets.specs.declared.Set.{Set}
-use Rattle.sets.specs.Sets.{capacity, setOf}
-use Rattle.register.specs.Register.{conflictAt}
+use Rattle.sets.specs.Sets.{capacity, setOf, emptyOf, withOf, loadSet, storeSet}
+use Rattle.register.specs.declared.Command.{Command}
+use Rattle.register.specs.Register.{bikes, bikeOf, isAdd, isRead, conflictAt}
 use Rattle.commands.specs.Book.{maxCommands, commandsOf, commandOf}
 
 -- The commands at two places conflict: both are in the book, the places differ, and the commands conflict.
@@ -26,3 +29,25 @@ rowsFrom s (suc n) m = conflictRow s m .bits ∷ rowsFrom s n (suc m)
 -- The words of all 64 rows.
 unfoldable pub conflictRows : List ℕ → List ℕ
 conflictRows s = rowsFrom s maxCommands 0
+
+-- ---- how they are found: commands gathered by bike
+
+-- The sets with command k more in the one at a place, where a test holds.
+abbrev pub withNoted : List ℕ → ℕ → ℕ → Bool → List ℕ
+withNoted sets at k test = storeSet sets at (pick test (withOf (loadSet sets at) k) (loadSet sets at))
+
+-- Command j of the book is on a bike and of a kind.
+abbrev pub isOn : (Command → Bool) → List ℕ → ℕ → ℕ → Bool
+isOn kind s b j = eqb (bikeOf (commandOf s j)) b && kind (commandOf s j)
+
+abbrev pub anyKind : Command → Bool
+anyKind c = true
+
+-- One set a bike: those of the first n commands that are on it and of a kind.
+pub record Gathered (kind : Command → Bool) (s : List ℕ) (n : ℕ) (sets : List ℕ) : Type 0 where
+  pub size : length sets ≡ bikes
+  pub at : (b : ℕ) → b < bikes → loadSet sets b ≡ setOf n (isOn kind s b)
+
+-- Of a bike's ADDs and READs those that a command of the bike does not conflict with.
+abbrev pub unopposed : Command → Set → Set → Set
+unopposed c adds reads = pick (isAdd c) adds (pick (isRead c) reads emptyOf)

@@ -4,23 +4,11 @@ ghost use Prim.Native.Nat.{_<_, _≤_};
 ghost use lib.ListN.{length, take};
 ghost use Rattle.theory.specs.Sets.{pick};
 ghost use Rattle.sets.specs.Sets.{withOf, capacity};
+ghost use Rattle.register.specs.Register.{isAdd, isRead};
 ghost use Rattle.commands.specs.Book.{maxCommands, commandsOf, placesOf};
-ghost use Rattle.conflicts.specs.Conflicts.{conflictIn, conflictRow, conflictRows};
+ghost use Rattle.conflicts.specs.Conflicts.{conflictRow, conflictRows, withNoted, anyKind, Gathered, unopposed};
+use register::Command;
 use sets::Set;
-
-// Whether the commands at two places of the book conflict.
-fn conflicting(book: &[u8], places: &[u16], m: usize, k: usize) -> bool
-    requires { ⌜ (m < length (commandsOf (now book))) × (k < length (commandsOf (now book)))
-        × (take (length (commandsOf (now book))) (now places) ≡ placesOf (now book)) ⌝ }
-    ensures { λ r. ⌜ r ≡ conflictIn (now (book .entry)) m k ⌝ }
-{
-    if m == k {
-        return false;
-    }
-    let first = commands::indexed(book, places, m);
-    let second = commands::indexed(book, places, k);
-    register::conflict(first, second)
-}
 
 // The set with one command more, where a test holds.
 fn with_if(row: Set, k: usize, test: bool) -> Set
@@ -30,22 +18,100 @@ fn with_if(row: Set, k: usize, test: bool) -> Set
     if test { row.with(k) } else { row }
 }
 
-// The commands that conflict with the m-th of n; none where there is no such command.
-fn row(book: &[u8], places: &[u16], n: usize, m: usize) -> Set
-    requires { ⌜ (n ≡ length (commandsOf (now book))) × (take (length (commandsOf (now book))) (now places) ≡ placesOf (now book)) ⌝ }
+// Command k joins the set at a place, where a test holds.
+fn note(sets: &mut [u64], at: usize, k: usize, test: bool)
+    requires { ⌜ (at < length (now sets)) × (k < capacity) ⌝ }
+    ensures { λ _. ⌜ now (sets .exit) ≡ withNoted (now (sets .entry)) at k test ⌝ }
+{
+    let before = Set::load(&sets[..], at);
+    with_if(before, k, test).store(sets, at);
+}
+
+// All n commands are gathered, one set a bike: its commands, its ADDs and its READs.
+fn gather(
+    book: &[u8],
+    places: &[u16],
+    n: usize,
+    on: &mut [u64],
+    adds: &mut [u64],
+    reads: &mut [u64],
+)
+    requires { ⌜ (n ≡ length (commandsOf (now book))) × (take (length (commandsOf (now book))) (now places) ≡ placesOf (now book))
+        × Gathered anyKind (now book) 0 (now on) × Gathered isAdd (now book) 0 (now adds) × Gathered isRead (now book) 0 (now reads) ⌝ }
+    ensures { λ _. ⌜ Gathered anyKind (now (book .entry)) n (now (on .exit)) × Gathered isAdd (now (book .entry)) n (now (adds .exit))
+        × Gathered isRead (now (book .entry)) n (now (reads .exit)) ⌝ }
+{
+    let mut k: usize = 0;
+    while k < n {
+        let command = commands::indexed(book, places, k);
+        let bike = register::bike_of(command) as usize;
+        let add = register::is_add(command);
+        let read = register::is_read(command);
+        note(on, bike, k, true);
+        note(adds, bike, k, add);
+        note(reads, bike, k, read);
+        k += 1;
+    }
+}
+
+// Of a bike's ADDs and READs those that a command of the bike does not conflict with.
+fn unopposed(command: Command, adds: Set, reads: Set) -> Set
+    ensures { λ r. ⌜ r ≡ unopposed command adds reads ⌝ }
+{
+    if register::is_add(command) {
+        return adds;
+    }
+    if register::is_read(command) {
+        return reads;
+    }
+    Set::empty()
+}
+
+// The commands that conflict with the m-th of n: those on its bike but itself and the unopposed. None where there is no such command.
+fn row(
+    book: &[u8],
+    places: &[u16],
+    n: usize,
+    m: usize,
+    on: &[u64],
+    adds: &[u64],
+    reads: &[u64],
+) -> Set
+    requires { ⌜ (n ≡ length (commandsOf (now book))) × (take (length (commandsOf (now book))) (now places) ≡ placesOf (now book))
+        × Gathered anyKind (now book) n (now on) × Gathered isAdd (now book) n (now adds) × Gathered isRead (now book) n (now reads) ⌝ }
     ensures { λ r. ⌜ r ≡ conflictRow (now (book .entry)) m ⌝ }
 {
     if m >= n {
         return Set::empty();
     }
-    let mut found = Set::empty();
-    let mut k: usize = 0;
-    while k < n {
-        let test = conflicting(book, places, m, k);
-        found = with_if(found, k, test);
-        k += 1;
+    let command = commands::indexed(book, places, m);
+    let bike = register::bike_of(command) as usize;
+    let all = Set::load(on, bike);
+    let peaceful = unopposed(command, Set::load(adds, bike), Set::load(reads, bike));
+    all.without(peaceful.with(m))
+}
+
+// The rows of all 64 command numbers, from the sets of each bike.
+fn fill_rows(
+    book: &[u8],
+    places: &[u16],
+    n: usize,
+    on: &[u64],
+    adds: &[u64],
+    reads: &[u64],
+    rows: &mut [u64],
+)
+    requires { ⌜ (length (now rows) ≡ maxCommands) × (n ≡ length (commandsOf (now book)))
+        × (take (length (commandsOf (now book))) (now places) ≡ placesOf (now book))
+        × Gathered anyKind (now book) n (now on) × Gathered isAdd (now book) n (now adds) × Gathered isRead (now book) n (now reads) ⌝ }
+    ensures { λ _. ⌜ now (rows .exit) ≡ conflictRows (now (book .entry)) ⌝ }
+{
+    let mut m: usize = 0;
+    while m < commands::MAX_COMMANDS {
+        let found = row(book, places, n, m, on, adds, reads);
+        rows[m] = found.bits;
+        m += 1;
     }
-    found
 }
 
 // The rows of all 64 command numbers, from the noted places.
@@ -54,12 +120,11 @@ pub fn conflict_rows(book: &[u8], places: &[u16], rows: &mut [u64])
     ensures { λ _. ⌜ now (rows .exit) ≡ conflictRows (now (book .entry)) ⌝ }
 {
     let n = commands::count(book);
-    let mut m: usize = 0;
-    while m < commands::MAX_COMMANDS {
-        let found = row(book, places, n, m);
-        rows[m] = found.bits;
-        m += 1;
-    }
+    let mut on = [0u64; 32];
+    let mut adds = [0u64; 32];
+    let mut reads = [0u64; 32];
+    gather(book, places, n, &mut on, &mut adds, &mut reads);
+    fill_rows(book, places, n, &on, &adds, &reads, rows);
 }
 
 // The rows of all 64 command numbers of a book.

@@ -1,67 +1,56 @@
 use borrow.Author.Needs.{needs}
 use denote.Ref.{now}
-use Prim.Native.Nat.{_-_, _≤_}
-use mathlib.Core.Path.{_≡_, _∙_, sym}
-use native.Mathlib.Omega.{arith}
-use lib.ListN.{length, length-set}
-use lib.Seq.{sets}
-use Rattle.commands.specs.Book.{maxCommands}
-use Rattle.conflicts.specs.Conflicts.{rowsFrom, conflictRows}
-use Rattle.conflicts.proofs.Laws.{rows-start, rows-more, rows-end}
+use Rattle.register.specs.Register.{isAdd, isRead}
+use Rattle.conflicts.specs.Conflicts.{anyKind}
+use Rattle.conflicts.proofs.Gathering.{gathered-none}
 use Rattle.conflicts.proofs.conflict_rows.Statement.{statement}
 use Rattle.conflicts.proofs.conflict_rows.Tie as tie
 
-abbrev Inv-loop : tie.InvT-loop
-Inv-loop book places rows₀ n m₀ rows m = (m ≤ maxCommands) × (length rows ≡ maxCommands) × (sets rows m (rowsFrom book (maxCommands - m) m) ≡ conflictRows book)
-
-abbrev μ-loop : tie.MeasureT-loop
-μ-loop book places rows₀ n m₀ rows m = maxCommands - m
-
-count-requires : tie.Need-count-requires Inv-loop μ-loop
+count-requires : tie.Need-count-requires
 count-requires c κs = search needs
 
-loop-holds : tie.Need-loop-holds Inv-loop μ-loop
-loop-holds c = (omega arith, c .before .before .before .before .pre .0, rows-start (now (c .before .before .before .before .args .book)) (now (c .before .before .before .before .args .rows)) (c .before .before .before .before .pre .0))
+slice-aggregate-gather : tie.Need-slice-aggregate-gather
+slice-aggregate-gather c = search needs
 
-row-requires : tie.Need-row-requires Inv-loop μ-loop
-row-requires c κs = (c .before .before .count .ensures, c .before .before .before .before .before .before .pre .1)
+slice-aggregate-gather-2 : tie.Need-slice-aggregate-gather-2
+slice-aggregate-gather-2 c = search needs
 
-mul-rows : tie.Need-mul-rows Inv-loop μ-loop
-mul-rows c = search needs
+slice-aggregate-gather-3 : tie.Need-slice-aggregate-gather-3
+slice-aggregate-gather-3 c = search needs
 
-slice-write-rows : tie.Need-slice-write-rows Inv-loop μ-loop
-slice-write-rows c = search needs
+gather-requires : tie.Need-gather-requires
+gather-requires c κs = let s = now (c .before .before .before .before .before .before .before .args .book) in (c .before .before .before .count .ensures, c .before .before .before .before .before .before .before .pre .1, gathered-none anyKind s, gathered-none isAdd s, gathered-none isRead s)
 
-add-m : tie.Need-add-m Inv-loop μ-loop
-add-m c = search needs
+slice-aggregate-fill-rows : tie.Need-slice-aggregate-fill-rows
+slice-aggregate-fill-rows c = search needs
 
-loop-less : tie.Need-loop-less Inv-loop μ-loop
-loop-less c = search needs
+slice-aggregate-fill-rows-2 : tie.Need-slice-aggregate-fill-rows-2
+slice-aggregate-fill-rows-2 c = search needs
 
-loop-again : tie.Need-loop-again Inv-loop μ-loop
-loop-again c =
-    let l = c .before .before .loop in
-    (omega arith, simp length-set (l .inv .1), rows-more (now (c .before .before .before .before .before .before .before .args .book)) (l .rows) (l .m) (omega arith) (c .row .ensures) (l .inv .2))
+slice-aggregate-fill-rows-3 : tie.Need-slice-aggregate-fill-rows-3
+slice-aggregate-fill-rows-3 c = search needs
 
-same-length : tie.Need-same-length Inv-loop μ-loop
-same-length c = c .before .loop .inv .1 ∙ sym (c .before .before .before .before .before .before .pre .0)
+fill-rows-requires : tie.Need-fill-rows-requires
+fill-rows-requires c κs = search needs
 
-returns : tie.Need-returns Inv-loop μ-loop
-returns c = rows-end (now (c .before .before .before .before .before .before .args .book)) (c .before .loop .rows) (c .before .loop .m) (omega arith) (c .before .loop .inv .2)
+same-length : tie.Need-same-length
+same-length c = search needs
+
+returns : tie.Need-returns
+returns c = search needs
 
 pub conflict-rows-spec : {M : Type 1} → statement M
 conflict-rows-spec =
     tie.close
     (tie.spec
-    Inv-loop
-    μ-loop
     count-requires
-    loop-holds
-    row-requires
-    mul-rows
-    slice-write-rows
-    add-m
-    loop-less
-    loop-again
+    slice-aggregate-gather
+    slice-aggregate-gather-2
+    slice-aggregate-gather-3
+    gather-requires
+    slice-aggregate-fill-rows
+    slice-aggregate-fill-rows-2
+    slice-aggregate-fill-rows-3
+    fill-rows-requires
     same-length
     returns)

@@ -1,66 +1,67 @@
 use borrow.Author.Needs.{needs}
 use denote.Ref.{now}
-use Prim.Native.Nat.{_-_, _≤_}
-use mathlib.Core.Path.{_≡_, ap, _∙_}
+use mathlib.Core.Path.{_∙_}
 use native.Mathlib.Omega.{arith}
-use Rattle.sets.specs.Sets.{setOf}
 use Rattle.commands.proofs.Walk.{few-commands}
-use Rattle.conflicts.specs.Conflicts.{conflictIn}
-use Rattle.conflicts.proofs.Laws.{row-none, row-start, row-more, row-end}
+use Rattle.conflicts.proofs.Laws.{row-none}
+use Rattle.conflicts.proofs.Gathering.{bike-below, bike-place, row-told}
 use Rattle.conflicts.proofs.row.Statement.{statement}
 use Rattle.conflicts.proofs.row.Tie as tie
 
-abbrev Inv-loop : tie.InvT-loop
-Inv-loop book places n m found₀ k₀ found k = (k ≤ n) × (found ≡ setOf k (conflictIn book m))
-
-abbrev μ-loop : tie.MeasureT-loop
-μ-loop book places n m found₀ k₀ found k = n - k
-
-empty-requires : tie.Need-empty-requires Inv-loop μ-loop
+empty-requires : tie.Need-empty-requires
 empty-requires c κs = search needs
 
-returns : tie.Need-returns Inv-loop μ-loop
-returns c = c .empty .ensures ∙ row-none (now (c .before .before .before .before .args .book)) (c .before .before .before .before .args .m) (omega arith)
+returns : tie.Need-returns
+returns c = c .empty .ensures ∙ row-none (now (c .before .before .before .before .before .before .before .args .book)) (c .before .before .before .before .before .before .before .args .m) (omega arith)
 
-empty-requires-2 : tie.Need-empty-requires-2 Inv-loop μ-loop
-empty-requires-2 c κs = search needs
+indexed-requires : tie.Need-indexed-requires
+indexed-requires c κs = search needs
 
-loop-holds : tie.Need-loop-holds Inv-loop μ-loop
-loop-holds c = (omega arith, c .empty2 .ensures ∙ row-start (now (c .before .before .before .before .args .book)) (c .before .before .before .before .args .m))
+bike-of-requires : tie.Need-bike-of-requires
+bike-of-requires c κs = search needs
 
-conflicting-requires : tie.Need-conflicting-requires Inv-loop μ-loop
-conflicting-requires c κs = (omega arith, omega arith, c .before .before .before .before .before .before .pre .1)
+cast-bike : tie.Need-cast-bike
+cast-bike c = search needs
 
-with-if-requires : tie.Need-with-if-requires Inv-loop μ-loop
-with-if-requires c κs = omega (arith, few-commands (now (c .before .before .before .before .before .before .before .args .book)))
+load-requires : tie.Need-load-requires
+load-requires c κs = bike-place (now (c .before .before .before .before .before .before .before .before .args .book)) (c .before .before .before .before .before .before .before .before .args .m) (omega arith) (c .before .indexed .ensures) (c .bike-of .ensures) (c .before .before .before .before .before .before .before .before .pre .2 .size)
 
-add-k : tie.Need-add-k Inv-loop μ-loop
-add-k c = omega arith
+load-requires-2 : tie.Need-load-requires-2
+load-requires-2 c κs = bike-place (now (c .before .before .before .before .before .before .before .before .before .args .book)) (c .before .before .before .before .before .before .before .before .before .args .m) (omega arith) (c .before .before .indexed .ensures) (c .before .bike-of .ensures) (c .before .before .before .before .before .before .before .before .before .pre .3 .size)
 
-loop-less : tie.Need-loop-less Inv-loop μ-loop
-loop-less c = omega arith
+load-requires-3 : tie.Need-load-requires-3
+load-requires-3 c κs = bike-place (now (c .before .before .before .before .before .before .before .before .before .before .args .book)) (c .before .before .before .before .before .before .before .before .before .before .args .m) (omega arith) (c .before .before .before .indexed .ensures) (c .before .before .bike-of .ensures) (c .before .before .before .before .before .before .before .before .before .before .pre .4 .size)
 
-loop-again : tie.Need-loop-again Inv-loop μ-loop
-loop-again c =
-    let l = c .before .before .before .loop in
-    (omega arith, row-more (now (c .before .before .before .before .before .before .before .before .args .book)) (c .before .before .before .before .before .before .before .before .args .m) (l .k) (c .before .conflicting .result) (c .before .conflicting .ensures) (c .with-if .ensures) (l .inv .1))
+unopposed-requires : tie.Need-unopposed-requires
+unopposed-requires c κs = search needs
 
-returns-2 : tie.Need-returns-2 Inv-loop μ-loop
-returns-2 c = let s = now (c .before .before .before .before .before .before .args .book) in row-end s (c .before .before .before .before .before .before .args .m) (c .before .loop .k) (omega arith) (omega (arith, few-commands s)) (c .before .loop .inv .1)
+with-requires : tie.Need-with-requires
+with-requires c κs = omega (arith, few-commands (now (c .before .before .before .before .before .before .before .before .before .before .before .before .args .book)))
+
+without-requires : tie.Need-without-requires
+without-requires c κs = search needs
+
+returns-2 : tie.Need-returns-2
+returns-2 c =
+    let s = now (c .before .before .before .before .before .before .before .before .before .before .before .before .before .before .args .book) in
+    let b = bike-below s (c .before .before .before .before .before .before .before .before .before .before .before .before .before .before .args .m) (omega arith) (c .before .before .before .before .before .before .before .indexed .ensures) (c .before .before .before .before .before .before .bike-of .ensures) in
+    row-told s (c .before .before .before .before .before .before .before .before .before .before .before .before .before .before .args .m) (few-commands s) (omega arith) (c .before .before .before .before .before .before .before .before .before .before .before .before .before .before .pre .0) (c .before .before .before .before .before .before .before .indexed .ensures) (c .before .before .before .before .before .before .bike-of .ensures)
+    (c .before .before .before .before .before .load .ensures ∙ c .before .before .before .before .before .before .before .before .before .before .before .before .before .before .pre .2 .at _ b) (c .before .before .before .before .load2 .ensures ∙ c .before .before .before .before .before .before .before .before .before .before .before .before .before .before .pre .3 .at _ b) (c .before .before .before .load3 .ensures ∙ c .before .before .before .before .before .before .before .before .before .before .before .before .before .before .pre .4 .at _ b)
+    (c .before .before .unopposed .ensures) (c .before .with .ensures) (c .without .ensures)
 
 pub row-spec : {M : Type 1} → statement M
 row-spec =
     tie.close
     (tie.spec
-    Inv-loop
-    μ-loop
     empty-requires
     returns
-    empty-requires-2
-    loop-holds
-    conflicting-requires
-    with-if-requires
-    add-k
-    loop-less
-    loop-again
+    indexed-requires
+    bike-of-requires
+    cast-bike
+    load-requires
+    load-requires-2
+    load-requires-3
+    unopposed-requires
+    with-requires
+    without-requires
     returns-2)
