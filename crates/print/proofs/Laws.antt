@@ -4,7 +4,7 @@ use mathlib.Core.Bool.{true, false}
 use mathlib.Core.Path.{_≡_, refl, sym, ap, subst, _∙_}
 use mathlib.Core.List.{List, [], _∷_, _++_, append-assoc, append-nil}
 use Prim.Native.Nat.{ℕ, zero, suc, _+_, _-_, _/_, _%_, _^_, _≤_, _<_}
-use native.Mathlib.Nat.{pow-suc, div-lt-iff-lt-mul}
+use native.Mathlib.Nat.{pow-suc, div-lt-iff-lt-mul, le-div-iff-mul-le}
 use native.Mathlib.Decide.{decLt}
 use native.Mathlib.Numerals.{add-one}
 use native.Mathlib.Omega.{arith}
@@ -44,6 +44,17 @@ pub width-more : (x : ℕ) → 9 < x → width x ≡ suc (width (x / 10))
 unfolding width widthTo
 width-more zero h = absurd (omega arith)
 width-more (suc x) h = rw (lt-leb (suc x) 9 h, width-enough x (suc x / 10) (suc x / 10) (omega arith) (omega arith)) refl
+
+-- A number of suc k digits.
+pub width-between : (k x : ℕ) → 10 ^ k ≤ x → x < 10 ^ suc k → width x ≡ suc k
+width-between zero x l h = width-one x (omega arith)
+width-between (suc k) x l h =
+    elim (decLt 9 x) [
+      | yes g ↦
+          width-more x g
+          ∙ ap suc (width-between k (x / 10) (le-div-iff-mul-le {k = 10} (omega arith) .1 (rw pow-suc at l)) (div-lt-iff-lt-mul {k = 10} (omega arith) .1 (rw pow-suc at h)))
+      | no g ↦ absurd (omega (arith, pow-suc 10 k))
+    ]
 
 pub width-short : (k x : ℕ) → x < 10 ^ suc k → width x ≤ suc k
 width-short zero x h = omega (arith, width-one x (omega arith))

@@ -4,10 +4,25 @@ ghost use Prim.Native.Nat.{_+_, _≤_};
 ghost use lib.ListN.{length};
 ghost use Rattle.print.specs.Print.{digits, width, decimal, signedDecimal, Wrote};
 
-// How many digits a number has.
+// How many digits a number has. Up to five are told by comparing, without a division.
 fn digit_count(x: usize) -> usize
     ensures { λ r. ⌜ r ≡ width x ⌝ }
 {
+    if x < 10 {
+        return 1;
+    }
+    if x < 100 {
+        return 2;
+    }
+    if x < 1000 {
+        return 3;
+    }
+    if x < 10000 {
+        return 4;
+    }
+    if x < 100000 {
+        return 5;
+    }
     let mut left = x;
     let mut n: usize = 1;
     while left > 9 {
