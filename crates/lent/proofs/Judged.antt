@@ -22,13 +22,6 @@ use Rattle.layout.specs.declared.Site.{Site}
 use Rattle.layout.specs.Layout.{siteSize, phasePlace, countPlace, positionPlace, ncPlace, cPlace, registerPlace, siteRounds, heardSets, heardAt, slot, headOf, proposalOf}
 use Rattle.layout.specs.Good.{GoodHead, GoodTables, Good, goodHead, goodHeard, goodSlot, goodPhase, goodSite}
 
--- What the code makes of one set heard.
-pub heard-test : (b : List ℕ) (sites commands k : ℕ) {set : Set} {t : Bool} → set ≡ readSet b (heardAt k) → t ≡ withinOf set commands
-    → (t && (ltb k (siteRounds * sites) || eqb (set .bits) 0)) ≡ goodHeard sites commands b k
-unfolding readSet
-heard-test b sites commands k es et =
-    λ i. (et ∙ ap (λ (s : Set). withinOf s commands) es) i && (ltb k (siteRounds * sites) || eqb (es i .bits) 0)
-
 -- A loop over a test: one that fails, one more that holds, and all.
 pub loop-not : (n : ℕ) (p : ℕ → Bool) (k : ℕ) {t : Bool} → k < n → t ≡ p k → t ≡ false → false ≡ all n p
 loop-not n p k l e h = sym (all-not n p k l (sym e ∙ h))

@@ -1,7 +1,7 @@
 // A lent site judged byte by byte, and a fresh site written over a lent buffer.
 ghost use mathlib.Core.Path.{_≡_};
 ghost use mathlib.Core.List.{List};
-ghost use Prim.Native.Nat.{_≤_, _<_, ℕ};
+ghost use Prim.Native.Nat.{_-_, _≤_, _<_, ℕ};
 ghost use lib.ListN.{length, getD};
 ghost use Rattle.theory.specs.Sets.{all};
 ghost use Rattle.sets.specs.Sets.{capacity};
@@ -12,6 +12,7 @@ ghost use Rattle.protocol.specs.Site as protocol;
 ghost use Rattle.system.specs.Dash.{dash};
 ghost use Rattle.layout.specs.Layout.{siteSize, heardSets};
 ghost use Rattle.lent.specs.Fresh.{freshHead};
+ghost use Rattle.lent.specs.Joined.{joined};
 ghost use Rattle.layout.specs.Good.{goodHead, goodHeard, goodSlot, goodPhase, goodSite, Holds};
 use layout::Phase;
 use layout::Site;
@@ -48,22 +49,30 @@ fn judge_header(header: Site, commands: usize) -> bool
         & proposed.c.within(commands)
 }
 
+// The commands of the sets heard from one place up to another, all together.
+fn heard_between(site: &[u8], from: usize, to: usize) -> Set
+    requires { ⌜ (length (now site) ≡ siteSize) × (from ≤ to) × (to ≤ heardSets) ⌝ }
+    ensures { λ r. ⌜ r ≡ joined (now (site .entry)) from (to - from) ⌝ }
+{
+    let mut all = Set::empty();
+    let mut k = from;
+    while k < to {
+        let set = Set::read(site, Site::HEARD + Set::BYTES * k);
+        all = all.union(set);
+        k += 1;
+    }
+    all
+}
+
 // Whether every set heard is within the book, and those of senders that there are not are empty.
 fn judge_heard(site: &[u8], sites: usize, commands: usize) -> bool
     requires { ⌜ (length (now site) ≡ siteSize) × (sites ≤ maxSites) ⌝ }
     ensures { λ r. ⌜ r ≡ all heardSets (goodHeard sites commands (now (site .entry))) ⌝ }
 {
     let senders = Site::ROUNDS * sites;
-    let mut k = 0;
-    while k < Site::HEARD_SETS {
-        let set = Set::read(site, Site::HEARD + Set::BYTES * k);
-        let good = set.within(commands) & ((k < senders) | (set.bits == 0));
-        if !good {
-            return false;
-        }
-        k += 1;
-    }
-    true
+    let heard = heard_between(site, 0, senders);
+    let silent = heard_between(site, senders, Site::HEARD_SETS);
+    heard.within(commands) & silent.is_empty()
 }
 
 // Whether the place k for a delivery holds a command of the book where it is recorded, and else nothing.
