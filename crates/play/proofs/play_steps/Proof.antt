@@ -10,7 +10,7 @@ use Rattle.commands.specs.Book.{commandsOf}
 use Rattle.world.specs.Parts.{lent}
 use Rattle.play.specs.Played.{lineRoom}
 use Rattle.play.proofs.Laws.{within, Playing, playing-none, playing-next, playing-end}
-use Rattle.play.proofs.Room.{entries-few, acks-few}
+use Rattle.play.proofs.Room.{entries-few, entries-twice, pending-free, acks-few}
 use Rattle.play.proofs.play_steps.Statement.{statement}
 use Rattle.play.proofs.play_steps.Tie as tie
 
@@ -69,6 +69,8 @@ carry-out-requires c κs =
         table = g;
         conflicts = a .pre .conflicts;
         world = p .world .good;
+        pending = pending-free t s g (p .past) (p .world);
+        twice = entries-twice t s g (p .past) (p .world);
         room = omega (arith, a .pre .log, l .inv .5);
         acks = acks-few t s g (p .past) (p .world) u;
       }),
