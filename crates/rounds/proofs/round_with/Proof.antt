@@ -1,48 +1,72 @@
+-- `round_with` meets its contract, one law for each answer.
+-- Assumes nothing.
 use borrow.Author.Needs.{needs}
+use denote.Ref.{now}
+use native.Mathlib.Omega.{arith}
+use Rattle.table.proofs.Laws.{good-limits}
+use Rattle.rounds.proofs.Entering.{some-first, from-within, none-before, entered-decided, entered-waiting, entered-deciding}
 use Rattle.rounds.proofs.round_with.Statement.{statement}
 use Rattle.rounds.proofs.round_with.Tie as tie
-use Rattle.rounds.proofs.round_with.Reads as reads
-use Rattle.rounds.proofs.round_with.Lts as lts
-use Rattle.entries.proofs.site_of.Reads as site-of-reads
-use Rattle.recovery.proofs.decided_sets.Reads as decided-sets-reads
-use Rattle.rounds.proofs.counted.Reads as counted-reads
-use Rattle.standing.proofs.with_entry.Reads as with-entry-reads
 
--- src/lib.rt:117:9
 site-of-requires : tie.Need-site-of-requires
 site-of-requires c κs = search needs
 
--- src/lib.rt:118:17
 add-place : tie.Need-add-place
 add-place c = search needs
 
--- src/lib.rt:119:9
 counted-requires : tie.Need-counted-requires
-counted-requires c κs = ?
+counted-requires c κs =
+    let s = c .before .before .before in
+    omega (arith, s .pre .3, good-limits (s .args .table) (s .pre .0), c .site-of .ensures)
 
--- src/lib.rt:121:9
 returns : tie.Need-returns
-returns c = ?
+returns c =
+    let s = c .before .before .before .before .before .before in
+    let a = s .args in
+    entered-decided (a .table) (now (a .rows)) (now (a .log)) (a .k) (a .round) (a .before) (s .pre .0) (s .pre .3) (s .pre .4) (s .pre .5) (s .pre .6)
+    (c .before .before .before .site-of .ensures) (c .before .before .counted .ensures) (c .if1 .taken)
 
--- src/lib.rt:131:9
 with-entry-requires : tie.Need-with-entry-requires
 with-entry-requires c κs = search needs
 
--- src/lib.rt:135:9
 returns-2 : tie.Need-returns-2
-returns-2 c = ?
+returns-2 c =
+    let s = c .before .before .before .before .before .before .before .before .before .before .before .before in
+    let a = s .args in
+    entered-waiting (a .table) (now (a .rows)) (now (a .log)) (a .k) (a .round) (a .before) (s .pre .0) (s .pre .3) (s .pre .4) (s .pre .5) (s .pre .6)
+    (c .before .before .before .before .before .before .before .before .before .site-of .ensures)
+    (c .before .before .before .before .before .before .before .before .counted .ensures) (c .before .before .before .before .before .before .if1 .left)
+    (c .before .before .before .with-entry .ensures) (c .if2 .taken)
 
--- src/lib.rt:137:17
 sub-from : tie.Need-sub-from
-sub-from c = ?
+sub-from c =
+    let s = c .before .before .before .before .before .before .before .before .before .before .before .before .before in
+    let a = s .args in
+    some-first (a .table) (now (a .rows)) (now (a .log)) (a .k) (a .round) (a .before) (s .pre .0) (s .pre .3) (s .pre .4) (s .pre .5) (s .pre .6)
+    (c .before .before .before .before .before .before .before .before .before .before .site-of .ensures)
+    (c .before .before .before .before .before .before .before .before .before .counted .ensures)
 
--- src/lib.rt:138:9
 decided-sets-requires : tie.Need-decided-sets-requires
-decided-sets-requires c κs = ?
+decided-sets-requires c κs =
+    let s = c .before .before .before .before .before .before .before .before .before .before .before .before .before in
+    let a = s .args in
+    let site = c .before .before .before .before .before .before .before .before .before .before .site-of .ensures in
+    let noted = c .before .before .before .before .before .before .before .before .before .counted .ensures in
+    (s .pre .0,
+    omega (arith, s .pre .1),
+    from-within (a .table) (now (a .rows)) (now (a .log)) (a .k) (a .round) (a .before) (s .pre .0) (s .pre .3) (s .pre .4) (s .pre .5) (s .pre .6) site noted,
+    none-before (a .table) (now (a .rows)) (now (a .log)) (a .k) (a .round) (a .before) (s .pre .0) (s .pre .3) (s .pre .4) (s .pre .5) (s .pre .6) site noted)
 
--- src/lib.rt:104:1
 returns-3 : tie.Need-returns-3
-returns-3 c = ?
+returns-3 c =
+    let s = c .before .before .before .before .before .before .before .before .before .before .before .before .before .before .before .before in
+    let a = s .args in
+    entered-deciding (a .table) (now (a .rows)) (now (a .log)) (a .k) (a .round) (a .before) (s .pre .0) (s .pre .3) (s .pre .4) (s .pre .5) (s .pre .6)
+    (c .before .before .before .before .before .before .before .before .before .before .before .before .before .site-of .ensures)
+    (c .before .before .before .before .before .before .before .before .before .before .before .before .counted .ensures)
+    (c .before .before .before .before .before .before .before .before .before .before .if1 .left)
+    (c .before .before .before .before .before .before .before .with-entry .ensures) (c .before .before .before .before .if2 .left)
+    (c .before .before .decided-sets .ensures)
 
 pub round-with-spec : {M : Type 1} → statement M
 round-with-spec =
