@@ -14,11 +14,11 @@ use borrow.Author.Tests.{lt-ltb, le-ltb, le-leb, lt-leb, eq-eqb}
 use Rattle.theory.specs.Sets.{pick}
 use Rattle.theory.specs.Counting.{both, not-true, last-or-below}
 use Rattle.sets.specs.declared.Set.{Set}
-use Rattle.sets.specs.Sets.{inSet, emptyOf, withOf, withoutOf}
+use Rattle.sets.specs.Sets.{withOf}
 use Rattle.table.specs.declared.SiteTable.{SiteTable}
 use Rattle.table.specs.Table.{isGood}
 use Rattle.protocol.specs.Recovery.{Tally, Log, decide}
-use Rattle.calm.specs.Rows.{freeBy, rowsSystem}
+use Rattle.calm.specs.Rows.{rowsSystem}
 use Rattle.entries.specs.declared.Entry.{Entry}
 use Rattle.entries.specs.Entries.{entryOf, logTo}
 use Rattle.entries.proofs.Logs.{log-same}
@@ -85,11 +85,12 @@ module _ (t : SiteTable) (rows log : List ℕ) (k r : ℕ) where
           → (s ≡ standingOf t rows r log (k + 1)) × (s .seen ≡ withOf (x .once) (entryOf log k .site)) × (s .entries ≡ k + 1)
       standing-own er ls es =
           let e = entryOf log k in
-          let m = es ∙ entry-marks e (record { seen = x .once; valid = x .valid; decided = false; entries = k }) er ls in
-          (m ∙ sym (same-marked e (standingOf t rows r log k) (h .seen z) (h .valid z)) ∙ sym (entry-marks e (standingOf t rows r log k) er ls)
-          ∙ standing-next (h .waits z),
-          ap (λ (s : Standing). s .seen) m,
-          ap (λ (s : Standing). s .entries) m)
+          let m = es ∙ entry-marks e (record { seen = x .once; valid = x .valid; decided = false; entries = k }) er ls in (
+            m ∙ sym (same-marked e (standingOf t rows r log k) (h .seen z) (h .valid z)) ∙ sym (entry-marks e (standingOf t rows r log k) er ls)
+                ∙ standing-next (h .waits z),
+            ap (λ (s : Standing). s .seen) m,
+            ap (λ (s : Standing). s .entries) m,
+          )
 
       -- and with one of another.
       standing-other : (entryOf log k .round ≡ r → ⊥) → standingOf t rows r log k ≡ standingOf t rows r log (k + 1)

@@ -1,14 +1,13 @@
 -- The round of an entry that is taken in: one law for each answer of the code.
 -- Assumes nothing.
-use mathlib.Core.Path.{_≡_, refl, sym, ap, _∙_, subst}
-use mathlib.Core.Bool.{Bool, true, false, not}
+use mathlib.Core.Path.{_≡_, sym, ap, _∙_, subst}
+use mathlib.Core.Bool.{true, false, not}
 use mathlib.Core.List.{List}
 use Prim.Native.Nat.{ℕ, _+_, _-_, _≤_, _<_}
 use native.Mathlib.Omega.{arith}
-use Rattle.sets.specs.declared.Set.{Set}
 use Rattle.sets.specs.Sets.{withOf}
 use Rattle.table.specs.declared.SiteTable.{SiteTable}
-use Rattle.table.specs.Table.{maxSites, isGood}
+use Rattle.table.specs.Table.{isGood}
 use Rattle.table.proofs.Laws.{good-limits}
 use Rattle.entries.specs.Entries.{entryOf}
 use Rattle.standing.specs.declared.Standing.{Standing}
@@ -32,7 +31,7 @@ module _ (t : SiteTable) (rows log : List ℕ) (k r : ℕ) (x : Round) (good : i
   pub some-first : 1 ≤ y .first
   some-first = noted .first k (omega arith) er .0
 
-  pub from-within : y .first - 1 ≤ k + 1
+  pub from-within : y .first - 1 ≤ k
   from-within = omega (arith, noted .within)
 
   pub none-before : (i : ℕ) → i < y .first - 1 → entryOf log i .round ≡ r → ⊥
@@ -43,10 +42,11 @@ module _ (t : SiteTable) (rows log : List ℕ) (k r : ℕ) (x : Round) (good : i
   -- A decided round.
   pub entered-decided : (x .decided ≡ 0 → ⊥) → Counts log (k + 1) r y × Decides log (k + 1) r t rows y
   entered-decided n =
-      let c = countedOf x site (k + 1) in
-      (noted,
-      subst (λ (w : Round). Decides log (k + 1) r t rows w) (sym ey)
-      (decided-stays t rows log k r x hd (omega arith) (c .once) (c .twice) (c .first)))
+      let c = countedOf x site (k + 1) in (
+        noted,
+        subst (λ (w : Round). Decides log (k + 1) r t rows w) (sym ey)
+            (decided-stays t rows log k r x hd (omega arith) (c .once) (c .twice) (c .first)),
+      )
 
   module _ (z : x .decided ≡ 0) {s : Standing}
       (ew : s ≡ withEntry t rows r (k + 1) (entryOf log k) (record { seen = x .once; valid = x .valid; decided = false; entries = k })) where
@@ -58,7 +58,7 @@ module _ (t : SiteTable) (rows log : List ℕ) (k r : ℕ) (x : Round) (good : i
         let own = standing-own t rows log k r x hd z er ls ew in
         let seen : s .seen ≡ y .once = own .1 ∙ ap (withOf (x .once)) (sym es) ∙ ap (λ (w : Round). w .once) (sym ey) in
         let same : _≡_ {A = Round} (record { once = s .seen; twice = y .twice; valid = s .valid; decided = x .decided; nc = x .nc; c = x .c; first = y .first })
-            (record { once = y .once; twice = y .twice; valid = s .valid; decided = y .decided; nc = y .nc; c = y .c; first = y .first }) =
+        (record { once = y .once; twice = y .twice; valid = s .valid; decided = y .decided; nc = y .nc; c = y .c; first = y .first }) =
         λ i. record {
           once = seen i;
           twice = y .twice;
@@ -67,16 +67,18 @@ module _ (t : SiteTable) (rows log : List ℕ) (k r : ℕ) (x : Round) (good : i
           nc = sym ey i .nc;
           c = sym ey i .c;
           first = y .first;
-        } in
-        (record { once = noted .once; twice = noted .twice; first = noted .first; within = noted .within },
-        subst (λ (w : Round). Decides log (k + 1) r t rows w) same
-        (still-waits t rows log k r x hd good z (own .0) d (y .twice) (y .first)))
+        } in (
+          record { once = noted .once; twice = noted .twice; first = noted .first; within = noted .within },
+          subst (λ (w : Round). Decides log (k + 1) r t rows w) same
+              (still-waits t rows log k r x hd good z (own .0) d (y .twice) (y .first)),
+        )
 
     -- One that it decides.
     pub entered-deciding : not (s .decided) ≡ false → {found : Sets} → found ≡ foundSets t log r (s .valid) (k + 1)
         → Counts log (k + 1) r (record { once = y .once; twice = y .twice; valid = s .valid; decided = k + 1; nc = found .nc; c = found .c; first = y .first })
         × Decides log (k + 1) r t rows (record { once = y .once; twice = y .twice; valid = s .valid; decided = k + 1; nc = found .nc; c = found .c; first = y .first })
     entered-deciding d {found} ef =
-        let own = standing-own t rows log k r x hd z er ls ew in
-        (record { once = noted .once; twice = noted .twice; first = noted .first; within = noted .within },
-        now-decided t rows log k r x hd good z (own .0) d (own .2) found ef (y .once) (y .twice) (s .valid) (y .first))
+        let own = standing-own t rows log k r x hd z er ls ew in (
+          record { once = noted .once; twice = noted .twice; first = noted .first; within = noted .within },
+          now-decided t rows log k r x hd good z (own .0) d (own .2) found ef (y .once) (y .twice) (s .valid) (y .first),
+        )

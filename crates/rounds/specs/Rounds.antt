@@ -70,8 +70,8 @@ abbrev pub answerAt : Round → ℕ → Decision
 answerAt x p = pick (ltb 0 (x .decided) && leb (x .decided) p) (Decided (record { nc = x .nc; c = x .c })) Undecided
 
 module _ (log : List ℕ) (k r : ℕ) where
-  -- Of the first k entries: the sites with one of round r and those with two; and no entry of the round is before the first,
-  -- which is 1 for the log's first entry, 0 where there is none.
+  -- Of the first k entries: the sites with one of round r, those with two, and a place before which the round has none
+  -- (the place of an entry is how many entries the log has with it).
   pub record Counts (x : Round) : Type 0 where
     pub once : (j : ℕ) → j < maxSites → inSet (x .once) j ≡ ltb 0 (entries j r (logTo log k))
     pub twice : (j : ℕ) → j < maxSites → inSet (x .twice) j ≡ not (ltb (entries j r (logTo log k)) 2)

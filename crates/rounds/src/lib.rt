@@ -20,20 +20,23 @@ use sets::Set;
 use standing::Standing;
 use table::SiteTable;
 
-// The words that are kept of a log: for rounds 0 to 33.
+// The words that are kept of a log, for rounds 0 to 33.
 pub const WORDS: usize = 272;
 // The words of a round, one line of a cache; the last is not used.
 const ROUND_WORDS: usize = 8;
 
-// What is kept of a round: the sites with an entry of it, and with two; the valid sources while no entry decides it; after how
-// many entries it is decided, 0 while it is not; the decided sets; with how many entries its first is there, 0 while none is.
+// What is kept of a round. The place of an entry is how many entries the log has with it; 0 where there is none.
 pub struct Round {
+    // The sites with an entry of the round, and those with two.
     pub once: Set,
     pub twice: Set,
+    // The valid sources, while no entry decides the round.
     pub valid: Set,
+    // The place of the entry that decides it, and the decided sets.
     pub decided: u64,
     pub nc: Set,
     pub c: Set,
+    // The place of its first entry.
     pub first: u64,
 }
 
@@ -72,7 +75,11 @@ fn twice_with(once: Set, twice: Set, site: usize) -> Set
     requires { ⌜ site < capacity ⌝ }
     ensures { λ r. ⌜ r ≡ pick (inSet once site) (withOf twice site) twice ⌝ }
 {
-    if once.has(site) { twice.with(site) } else { twice }
+    if once.has(site) {
+        twice.with(site)
+    } else {
+        twice
+    }
 }
 
 // The place of a round's first entry, with an entry at a place.

@@ -22,14 +22,15 @@ round-with-requires c κs =
     let s = c .before .before .before .before .before .before in
     let a = s .args in
     let r = c .before .before .round-of .result in
-    let l : r < keptRounds = omega (arith, s .pre .5, c .before .before .round-of .ensures) in
-    (s .pre .0,
-    s .pre .2,
-    s .pre .3,
-    s .pre .4,
-    sym (c .before .before .round-of .ensures),
-    subst (λ (x : Round). Counts (now (a .log)) (a .k) r x) (sym (c .read-round .ensures)) (s .pre .1 .counts r l),
-    subst (λ (x : Round). Decides (now (a .log)) (a .k) r (a .table) (now (a .rows)) x) (sym (c .read-round .ensures)) (s .pre .1 .decides r l))
+    let l : r < keptRounds = omega (arith, s .pre .5, c .before .before .round-of .ensures) in (
+      s .pre .0,
+      s .pre .2,
+      s .pre .3,
+      s .pre .4,
+      sym (c .before .before .round-of .ensures),
+      subst (λ (x : Round). Counts (now (a .log)) (a .k) r x) (sym (c .read-round .ensures)) (s .pre .1 .counts r l),
+      subst (λ (x : Round). Decides (now (a .log)) (a .k) r (a .table) (now (a .rows)) x) (sym (c .read-round .ensures)) (s .pre .1 .decides r l),
+    )
 
 write-round-requires : tie.Need-write-round-requires
 write-round-requires c κs = search needs

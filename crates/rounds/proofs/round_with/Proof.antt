@@ -51,11 +51,12 @@ decided-sets-requires c κs =
     let s = c .before .before .before .before .before .before .before .before .before .before .before .before .before in
     let a = s .args in
     let site = c .before .before .before .before .before .before .before .before .before .before .site-of .ensures in
-    let noted = c .before .before .before .before .before .before .before .before .before .counted .ensures in
-    (s .pre .0,
-    omega (arith, s .pre .1),
-    from-within (a .table) (now (a .rows)) (now (a .log)) (a .k) (a .round) (a .before) (s .pre .0) (s .pre .3) (s .pre .4) (s .pre .5) (s .pre .6) site noted,
-    none-before (a .table) (now (a .rows)) (now (a .log)) (a .k) (a .round) (a .before) (s .pre .0) (s .pre .3) (s .pre .4) (s .pre .5) (s .pre .6) site noted)
+    let noted = c .before .before .before .before .before .before .before .before .before .counted .ensures in (
+      s .pre .0,
+      omega (arith, s .pre .1),
+      omega (arith, from-within (a .table) (now (a .rows)) (now (a .log)) (a .k) (a .round) (a .before) (s .pre .0) (s .pre .3) (s .pre .4) (s .pre .5) (s .pre .6) site noted),
+      none-before (a .table) (now (a .rows)) (now (a .log)) (a .k) (a .round) (a .before) (s .pre .0) (s .pre .3) (s .pre .4) (s .pre .5) (s .pre .6) site noted,
+    )
 
 returns-3 : tie.Need-returns-3
 returns-3 c =
