@@ -199,5 +199,13 @@ module _ (b : List ℕ) (r : ℕ) (valid : Set) where
         go true e = levels-counted (entry-fits b small k h) e
         go false e = levels-passed e
 
+  -- Entries of other rounds leave the levels empty.
+  pub levels-before : (n : ℕ) → ((i : ℕ) → i < n → entryOf b i .round ≡ r → ⊥) → noLevels ≡ levelsOf b r valid n
+  levels-before zero h = levels-none
+  levels-before (suc n) h =
+      levels-before n (λ i l. h i (omega arith))
+      ∙ levels-passed n (ap (λ (x : Bool). x && inSet valid (entryOf b n .site)) (ne-eqb (entryOf b n .round) r (h n (omega arith))))
+      ∙ ap (levelsOf b r valid) (add-one n)
+
   pub levels-end : (k n : ℕ) {l : Levels} → k ≡ n → l ≡ levelsOf b r valid k → l ≡ levelsOf b r valid n
   levels-end k n q e = e ∙ ap (levelsOf b r valid) q

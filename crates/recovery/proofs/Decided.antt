@@ -33,7 +33,7 @@ use Rattle.recovery.specs.declared.Sets.{Sets}
 use Rattle.recovery.specs.declared.Decision.{Decision}
 use Rattle.recovery.specs.declared.Decision.the-variants.{Undecided, Decided}
 use Rattle.recovery.specs.declared.Levels.{Levels}
-use Rattle.recovery.specs.Decisions.{setsOf, decisionOf, ncCount, inAny, atLeast, levelsOf, levelOf}
+use Rattle.recovery.specs.Decisions.{setsOf, decisionOf, ncCount, inAny, atLeast, levelsOf, levelOf, foundSets}
 use Rattle.recovery.proofs.Counts.{set-is, set-of-ext}
 use Rattle.recovery.proofs.Sources.{count-all-sources, any-all-sources}
 
@@ -59,6 +59,15 @@ without-is p q =
     (without-fits (setOf capacity p) (setOf capacity q) (word-lt capacity p) (word-lt capacity q))
     (λ m l. in-without (setOf capacity p) (setOf capacity q) m ∙ (λ i. in-setOf capacity p m l i && not (in-setOf capacity q m l i)))
 
+-- What the code makes of the levels.
+pub made-sets : (t : SiteTable) (b : List ℕ) (r : ℕ) (sources : Set) (n : ℕ) {levels : Levels} {m : ℕ} {nc c : Set} → levels ≡ levelsOf b r sources n
+    → m ≡ majorityOf t → nc ≡ levelOf levels m → c ≡ withoutOf (levels .proposed) nc
+    → _≡_ {A = Sets} (record { nc = nc; c = c }) (foundSets t b r sources n)
+unfolding foundSets
+made-sets t b r sources n el em en ec =
+    let q = en ∙ (λ i. levelOf (el i) (em i)) in
+    λ i. record { nc = q i; c = (ec ∙ (λ j. withoutOf (el j .proposed) (q j))) i }
+
 module _ (t : SiteTable) (rows : List ℕ) (r : ℕ) (b : List ℕ) where
   -- The sets that are found from the valid sources after n entries are the protocol's.
   module _ (n : ℕ) (sources : Set) (within : (j : ℕ) → j < t .sites → inSet sources j ≡ isValid (tallyTo (rowsSystem t rows) r b n j))
@@ -73,14 +82,13 @@ module _ (t : SiteTable) (rows : List ℕ) (r : ℕ) (b : List ℕ) where
         set-of-ext (inAny b r sources n) (proposed (rowsSystem t rows) (tallyTo (rowsSystem t rows) r b n))
         (λ m l. any-all-sources t rows r b n sources within beyond (λ x. ncOf x m || cOf x m) refl refl)
 
-    found : {levels : Levels} {nc c : Set} → 1 ≤ majorityOf t → majorityOf t ≤ 6 → levels ≡ levelsOf b r sources n
-        → nc ≡ levelOf levels (majorityOf t) → c ≡ withoutOf (levels .proposed) nc
-        → _≡_ {A = Sets} (record { nc = nc; c = c }) (setsOf (rowsSystem t rows) (tallyTo (rowsSystem t rows) r b n))
-    found h l el en ec =
-        let q = en ∙ ap (λ (x : Levels). levelOf x (majorityOf t)) el ∙ level-is b r sources n (majorityOf t) h l ∙ found-nc in
-        let p = ap (λ (x : Levels). x .proposed) el ∙ proposed-is b r sources n ∙ found-proposed in
+    found : 1 ≤ majorityOf t → majorityOf t ≤ 6 → foundSets t b r sources n ≡ setsOf (rowsSystem t rows) (tallyTo (rowsSystem t rows) r b n)
+    unfolding foundSets
+    found h l =
+        let q = level-is b r sources n (majorityOf t) h l ∙ found-nc in
+        let p = proposed-is b r sources n ∙ found-proposed in
         let T : Tally = tallyTo (rowsSystem t rows) r b n in
-        let z = ec ∙ (λ i. withoutOf (p i) (q i)) ∙ without-is (proposed (rowsSystem t rows) T) (ncSet (rowsSystem t rows) T) in
+        let z = (λ i. withoutOf (p i) (q i)) ∙ without-is (proposed (rowsSystem t rows) T) (ncSet (rowsSystem t rows) T) in
         λ i. record { nc = q i; c = z i }
 
   -- One law for each answer.
@@ -97,14 +105,13 @@ module _ (t : SiteTable) (rows : List ℕ) (r : ℕ) (b : List ℕ) where
     pub decided-place : not (s .decided) ≡ false → s .entries ≤ k
     decided-place h = agreed .place (not-false (s .decided) h)
 
-    pub is-decided : {levels : Levels} {m : ℕ} {nc c : Set} → not (s .decided) ≡ false → levels ≡ levelsOf b r (s .valid) (s .entries)
-        → m ≡ majorityOf t → nc ≡ levelOf levels m → c ≡ withoutOf (levels .proposed) nc
-        → Decided (record { nc = nc; c = c }) ≡ decisionOf (rowsSystem t rows) (decide (rowsSystem t rows) r (logTo b k))
-    is-decided {levels} h el em en ec =
+    pub is-decided : {sets : Sets} → not (s .decided) ≡ false → sets ≡ foundSets t b r (s .valid) (s .entries)
+        → Decided sets ≡ decisionOf (rowsSystem t rows) (decide (rowsSystem t rows) r (logTo b k))
+    is-decided h ef =
         let d = not-false (s .decided) h in
         let l = good-limits t good in
         let marks = subst (λ (x : Bool). Marks t rows s (tallyTo (rowsSystem t rows) r b (pick x (s .entries) k))) d (agreed .marks) in
-        ap Decided (found (s .entries) (s .valid) (marks .valid) (marks .beyond) (omega arith) (omega arith) el (en ∙ ap (levelOf levels) em) ec)
+        ap Decided (ef ∙ found (s .entries) (s .valid) (marks .valid) (marks .beyond) (omega arith) (omega arith))
         ∙ ap (λ (x : Bool). decisionOf (rowsSystem t rows) (pick x (some (tallyTo (rowsSystem t rows) r b (s .entries))) none)) (sym d)
         ∙ ap (decisionOf (rowsSystem t rows)) (sym (agreed .decides))
 

@@ -7,7 +7,9 @@ use Prim.Native.Nat.{ℕ, zero, suc}
 use lib.Dec.{eqb, leb}
 use Rattle.theory.specs.Sets.{pick, any, count}
 use Rattle.sets.specs.declared.Set.{Set}
-use Rattle.sets.specs.Sets.{capacity, inSet, setOf, emptyOf, unionOf, commonOf}
+use Rattle.sets.specs.Sets.{capacity, inSet, setOf, emptyOf, unionOf, commonOf, withoutOf}
+use Rattle.table.specs.declared.SiteTable.{SiteTable}
+use Rattle.table.specs.Table.{majorityOf}
 use Rattle.protocol.specs.System.{System}
 use Rattle.protocol.specs.Recovery.{Tally, ncSet, cSet}
 use Rattle.entries.specs.declared.Entry.{Entry}
@@ -89,3 +91,10 @@ levelOf l (suc (suc (suc (suc (suc zero))))) = l .five
 levelOf l (suc (suc (suc (suc (suc (suc zero)))))) = l .six
 levelOf l zero = emptyOf
 levelOf l (suc (suc (suc (suc (suc (suc (suc n))))))) = emptyOf
+
+-- The sets that the sources' entries among the first n make: the commands in at least a majority of the NC sets, and every other
+-- command of the sets.
+unfoldable pub foundSets : SiteTable → List ℕ → ℕ → Set → ℕ → Sets
+foundSets t b r valid n =
+    let nc = levelOf (levelsOf b r valid n) (majorityOf t) in
+    record { nc = nc; c = withoutOf (levelsOf b r valid n .proposed) nc }

@@ -1,14 +1,14 @@
 // The decision of a round by the log: the recovery consensus of 004 (algorithm C_absign).
 ghost use mathlib.Core.Bool.{true};
 ghost use mathlib.Core.Path.{_≡_};
-ghost use Prim.Native.Nat.{_+_, _*_, _≤_};
+ghost use Prim.Native.Nat.{ℕ, _+_, _*_, _≤_, _<_};
 ghost use lib.ListN.{length};
 ghost use Rattle.sets.specs.Sets.{capacity};
 ghost use Rattle.table.specs.Table.{isGood};
 ghost use Rattle.calm.specs.Rows.{rowsSystem};
 ghost use Rattle.protocol.specs.Recovery.{decide};
 ghost use Rattle.entries.specs.Entries.{entrySize, entryOf, logTo};
-ghost use Rattle.recovery.specs.Decisions.{levelWith, levelsWith, levelsAfter, levelsOf, noLevels, levelOf, decisionOf};
+ghost use Rattle.recovery.specs.Decisions.{levelWith, levelsWith, levelsAfter, levelsOf, noLevels, levelOf, foundSets, decisionOf};
 use sets::Set;
 use table::SiteTable;
 
@@ -99,13 +99,13 @@ fn levels_after(levels: Levels, log: &[u8], k: usize, round: usize, valid: Set) 
     levels_with(levels, nc, c)
 }
 
-// The levels of the valid sources' entries among the first n.
-fn gather(log: &[u8], n: usize, round: usize, valid: Set) -> Levels
-    requires { ⌜ n * entrySize ≤ length (now log) ⌝ }
+// The levels of the valid sources' entries among the first n; no entry before `from` is of the round.
+fn gather(log: &[u8], from: usize, n: usize, round: usize, valid: Set) -> Levels
+    requires { ⌜ (n * entrySize ≤ length (now log)) × (from ≤ n) × ((i : ℕ) → i < from → entryOf (now log) i .round ≡ round → ⊥) ⌝ }
     ensures { λ r. ⌜ r ≡ levelsOf (now (log .entry)) round valid n ⌝ }
 {
     let mut levels = no_levels();
-    let mut k: usize = 0;
+    let mut k: usize = from;
     while k < n {
         levels = levels_after(levels, log, k, round, valid);
         k += 1;
@@ -128,8 +128,27 @@ fn at_least(levels: Levels, n: usize) -> Set
     }
 }
 
-// What the first k entries decide of a round. NC are the commands in at least a majority of the valid NC sets,
-// C every other command of the valid sets.
+// The sets that the valid sources' entries among the first n make; no entry before `from` is of the round.
+// NC are the commands in at least a majority of the valid NC sets, C every other command of the valid sets.
+pub fn decided_sets(
+    log: &[u8],
+    from: usize,
+    n: usize,
+    round: usize,
+    valid: Set,
+    table: SiteTable,
+) -> Sets
+    requires { ⌜ (isGood table ≡ true) × (n * entrySize ≤ length (now log)) × (from ≤ n) × ((i : ℕ) → i < from → entryOf (now log) i .round ≡ round → ⊥) ⌝ }
+    ensures { λ r. ⌜ r ≡ foundSets table (now (log .entry)) round valid n ⌝ }
+{
+    let levels = gather(log, from, n, round, valid);
+    let nc = at_least(levels, table.majority());
+    let proposed = levels.proposed;
+    let c = proposed.without(nc);
+    Sets { nc: nc, c: c }
+}
+
+// What the first k entries decide of a round.
 pub fn decide(log: &[u8], k: usize, round: usize, table: SiteTable, rows: &[u64]) -> Decision
     requires { ⌜ (isGood table ≡ true) × (k * entrySize ≤ length (now log)) × (length (now rows) ≡ capacity) ⌝ }
     ensures { λ r. ⌜ r ≡ decisionOf (rowsSystem table (now (rows .entry)))
@@ -140,9 +159,6 @@ pub fn decide(log: &[u8], k: usize, round: usize, table: SiteTable, rows: &[u64]
         return Decision::Undecided;
     }
     let valid = sources.valid;
-    let levels = gather(log, sources.entries, round, valid);
-    let nc = at_least(levels, table.majority());
-    let proposed = levels.proposed;
-    let c = proposed.without(nc);
-    Decision::Decided(Sets { nc: nc, c: c })
+    let sets = decided_sets(log, 0, sources.entries, round, valid, table);
+    Decision::Decided(sets)
 }

@@ -45,10 +45,10 @@ unfolding count
 count-nobody zero = refl
 count-nobody (suc n) = omega (arith, count-nobody n)
 
-with-same : (s : Set) (m : ℕ) → inSet (withOf s m) m ≡ true
+pub with-same : (s : Set) (m : ℕ) → inSet (withOf s m) m ≡ true
 with-same s m = in-with s m m ∙ or-true (inSet s m) (eqb m m) (eq-eqb m m refl)
 
-with-other : (s : Set) (m j : ℕ) → (j ≡ m → ⊥) → inSet (withOf s m) j ≡ inSet s j
+pub with-other : (s : Set) (m j : ℕ) → (j ≡ m → ⊥) → inSet (withOf s m) j ≡ inSet s j
 with-other s m j n = in-with s m j ∙ ap (λ (b : Bool). inSet s j || b) (ne-eqb j m n) ∙ or-none (inSet s j)
   where
     or-none : (b : Bool) → (b || false) ≡ b

@@ -38,7 +38,7 @@ fn valid_after(before: Standing, rows: &[u64], site: usize, nc: Set) -> Set
 }
 
 // The standing with the k-th entry added. An entry of another round, or of a site beyond the table, changes nothing.
-fn with_entry(
+pub fn with_entry(
     before: Standing,
     log: &[u8],
     k: usize,

@@ -6,21 +6,21 @@ use mathlib.Core.Path.{_≡_, _∙_}
 use Prim.Native.Nat.{_-_, _≤_}
 use native.Mathlib.Omega.{arith}
 use Rattle.recovery.specs.Decisions.{levelsOf}
-use Rattle.recovery.proofs.Counts.{levels-none, levels-more, levels-end}
+use Rattle.recovery.proofs.Counts.{levels-before, levels-more, levels-end}
 use Rattle.recovery.proofs.gather.Statement.{statement}
 use Rattle.recovery.proofs.gather.Tie as tie
 
 abbrev Inv-loop : tie.InvT-loop
-Inv-loop log n round valid levels₀ k₀ levels k = (k ≤ n) × (levels ≡ levelsOf log round valid k)
+Inv-loop log from n round valid levels₀ k₀ levels k = (k ≤ n) × (levels ≡ levelsOf log round valid k)
 
 abbrev μ-loop : tie.MeasureT-loop
-μ-loop log n round valid levels₀ k₀ levels k = n - k
+μ-loop log from n round valid levels₀ k₀ levels k = n - k
 
 no-levels-requires : tie.Need-no-levels-requires Inv-loop μ-loop
 no-levels-requires c κs = search needs
 
 loop-holds : tie.Need-loop-holds Inv-loop μ-loop
-loop-holds c = let a = c .before .before .args in (omega arith, c .no-levels .ensures ∙ levels-none (now (a .log)) (a .round) (a .valid))
+loop-holds c = let a = c .before .before .args in (c .before .before .pre .1, c .no-levels .ensures ∙ levels-before (now (a .log)) (a .round) (a .valid) (a .from) (c .before .before .pre .2))
 
 levels-after-requires : tie.Need-levels-after-requires Inv-loop μ-loop
 levels-after-requires c κs = search needs
