@@ -29,20 +29,6 @@ use Rattle.site.specs.declared.Turn.the-variants as turn
 
 -- ---- the header after each step, by value
 
--- A set joins what was received.
-abbrev pub withReceived : Site → Set → Site
-withReceived h x =
-    record {
-      round = h .round;
-      phase = h .phase;
-      position = h .position;
-      deliveries = h .deliveries;
-      received = unionOf (h .received) x;
-      delivered = h .delivered;
-      pending = h .pending;
-      fast = h .fast;
-    }
-
 abbrev pub withPosition : Site → ℕ → Site
 withPosition h n =
     record {

@@ -6,7 +6,7 @@ ghost use lib.ListN.{length};
 ghost use Rattle.sets.specs.Sets.{capacity};
 ghost use Rattle.table.specs.Table.{maxSites};
 ghost use Rattle.layout.specs.Layout.{siteSize, siteRounds, headOf};
-ghost use Rattle.site.specs.Steps.{withReceived, withPosition, afterTurn, chosen, Received, Commanded, Heard, TookTurn, ReadEntry};
+ghost use Rattle.site.specs.Steps.{withPosition, afterTurn, chosen, Received, Commanded, Heard, TookTurn, ReadEntry};
 use layout::Phase;
 use layout::Proposal;
 use layout::Site;
@@ -26,33 +26,13 @@ pub const LAST_ROUND: u8 = 32;
 // The log takes two entries of a site in a round.
 const MAX_ENTRIES: usize = 2;
 
-fn with_received(header: Site, set: Set) -> Site
-    ensures { λ r. ⌜ r ≡ withReceived header set ⌝ }
-{
-    let phase = header.phase;
-    let received = header.received.union(set);
-    let delivered = header.delivered;
-    let pending = header.pending;
-    let fast = header.fast;
-    Site {
-        round: header.round,
-        phase,
-        position: header.position,
-        deliveries: header.deliveries,
-        received,
-        delivered,
-        pending,
-        fast,
-    }
-}
-
 // A set joins Received, whatever round it came in.
 pub fn receive(site: &mut [u8], set: Set)
     requires { ⌜ length (now site) ≡ siteSize ⌝ }
     ensures { λ _. ⌜ Received set (now (site .entry)) (now (site .exit)) ⌝ }
 {
-    let header = Site::read(&site[..]);
-    with_received(header, set).write(site);
+    let received = layout::received(&site[..]);
+    layout::set_received(site, received.union(set));
 }
 
 // A command joins Received.
@@ -68,9 +48,9 @@ pub fn hear(site: &mut [u8], sender: usize, round: usize, set: Set)
     requires { ⌜ (length (now site) ≡ siteSize) × (sender < maxSites) × (1 ≤ round) × (round ≤ siteRounds) ⌝ }
     ensures { λ _. ⌜ Heard sender round set (now (site .entry)) (now (site .exit)) ⌝ }
 {
-    let header = Site::read(&site[..]);
+    let received = layout::received(&site[..]);
     layout::hear(site, sender, round, set);
-    with_received(header, set).write(site);
+    layout::set_received(site, received.union(set));
 }
 
 // What a turn does, by the conflict test of what is undelivered and the number of the site's entries of its round.
