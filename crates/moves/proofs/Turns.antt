@@ -17,7 +17,7 @@ use Rattle.theory.specs.Sets as theory
 use Rattle.theory.specs.Sets.{pick, any}
 use Rattle.theory.specs.Counting.{both, never}
 use Rattle.sets.specs.declared.Set.{Set}
-use Rattle.sets.specs.Sets.{capacity, inSet, setOf, withoutOf, withinOf}
+use Rattle.sets.specs.Sets.{capacity, inSet, setOf, withinOf}
 use Rattle.sets.proofs.Laws.{in-without, word-lt}
 use Rattle.table.specs.declared.SiteTable.{SiteTable}
 use Rattle.table.specs.Table.{maxSites, faultyOf}
@@ -33,13 +33,13 @@ use Rattle.protocol.specs.World.{World, turn, judge, step, settle, put, append,
 use Rattle.register.specs.declared.Command.{Command}
 use Rattle.system.specs.Dash.{dash, lastRound}
 use Rattle.layout.specs.declared.Proposal.{Proposal}
-use Rattle.layout.specs.declared.Site.{Site}
 use Rattle.layout.specs.Layout.{siteRounds, headOf, view}
 use Rattle.layout.specs.Good.{Good, Holds}
 use Rattle.layout.specs.Step.{settled}
 use Rattle.site.specs.declared.Turn.{Turn}
 use Rattle.site.specs.declared.Turn.the-variants as turns
-use Rattle.site.specs.Steps.{TookTurn, Turned, answerTo}
+use Rattle.site.specs.Steps.{undeliveredOf, TookTurn, Turned, answerTo}
+use Rattle.site.proofs.Turning.{third-entry}
 use Rattle.entries.specs.declared.Entry.{Entry}
 use Rattle.entries.specs.Entries.{entrySize, logTo, writeEntry, viewEntry, inRangeOf}
 use Rattle.entries.proofs.Bytes.{Fits}
@@ -56,16 +56,15 @@ use Rattle.moves.proofs.Words.{undelivered-word, unacknowledged-word, p
 -- ---- the site's part
 
 -- The conflict test by the rows and the number of entries by the log are those that the turn asks for.
-pub turned-by : (rows log : List ℕ) (entries i : ℕ) (b : List ℕ) {h : Site} {u : Set} {f : Bool} {own : ℕ} {r : Turn} {after : List ℕ} → h ≡ headOf b
-    → u ≡ withoutOf (h .received) (h .delivered) → f ≡ freeBy rows (inSet u) → own ≡ recovery.entries i (h .round) (logTo log entries)
-    → TookTurn f own b r after → TurnedBy rows log entries i r b after
-turned-by rows log entries i b {u = u} eh eu ef eo took =
-    λ t book er g.
+pub turned-by : (rows log : List ℕ) (entries i : ℕ) (b : List ℕ) {u : Set} {f : Bool} {round own : ℕ} {r : Turn} {after : List ℕ} → u ≡ undeliveredOf (headOf b)
+    → f ≡ freeBy rows (inSet u) → round ≡ headOf b .round → own ≡ recovery.entries i round (logTo log entries)
+    → TookTurn f (leb 2 own) b r after → TurnedBy rows log entries i r b after
+turned-by rows log entries i b {u = u} {own = own} eu ef er eo took =
+    λ t book ec g.
     took t (commandsOf book) i (logTo log entries) g
-    (ef ∙ (λ k. freeBy (er k) (inSet u)) ∙ free-rows book t (inSet u)
-    ∙ ap (free (dash t (commandsOf book)))
-    ((λ k. inSet ((eu ∙ (λ z. withoutOf (eh z .received) (eh z .delivered))) k)) ∙ (λ k m. in-without (headOf b .received) (headOf b .delivered) m k)))
-    (eo ∙ (λ k. recovery.entries i (eh k .round) (logTo log entries)))
+    (ef ∙ (λ k. freeBy (ec k) (inSet u)) ∙ free-rows book t (inSet u)
+    ∙ ap (free (dash t (commandsOf book))) (ap inSet eu ∙ (λ k m. in-without (headOf b .received) (headOf b .delivered) m k)))
+    (third-entry own ∙ (λ k. ltb ((eo ∙ (λ z. recovery.entries i (er z) (logTo log entries))) k) 2))
 
 -- ---- what an answer tells
 

@@ -29,11 +29,11 @@ fn turn_at(sites: &mut [u8], log: &[u8], entries: usize, rows: &[u64], i: usize)
 {
     let from = i * Site::SIZE;
     let to = from + Site::SIZE;
-    let header = Site::read(&sites[from..to]);
-    let undelivered = header.received.without(header.delivered);
+    let undelivered = site::undelivered(&sites[from..to]);
     let free = calm::is_free(rows, undelivered);
-    let own = entries::entries_of(log, entries, i, header.round as usize);
-    site::take_turn(&mut sites[from..to], free, own)
+    let round = layout::round(&sites[from..to]);
+    let own = entries::entries_of(log, entries, i, round as usize);
+    site::take_turn(&mut sites[from..to], free, own >= 2)
 }
 
 // 07: site i takes its turn. What it sends is kept, and what it proposes is appended to the log.

@@ -1,4 +1,4 @@
--- `moves::turn_at`: the part of site i is lent, with the conflict test and the number of its entries.
+-- `moves::turn_at`: the part of site i is lent, with the conflict test and whether it has two entries of its round.
 -- Assumes nothing.
 use borrow.Author.Needs.{needs}
 use native.Mathlib.Omega.{arith}
@@ -17,23 +17,32 @@ mul-from c = search needs
 add-to : tie.Need-add-to
 add-to c = search needs
 
-sub-read : tie.Need-sub-read
-sub-read c = search needs
+sub-undelivered : tie.Need-sub-undelivered
+sub-undelivered c = search needs
 
-part-read-start : tie.Need-part-read-start
-part-read-start c = search needs
+part-undelivered-start : tie.Need-part-undelivered-start
+part-undelivered-start c = search needs
 
-part-read-end : tie.Need-part-read-end
-part-read-end c = search needs
+part-undelivered-end : tie.Need-part-undelivered-end
+part-undelivered-end c = search needs
 
-read-requires : tie.Need-read-requires
-read-requires c κs = search needs
-
-without-requires : tie.Need-without-requires
-without-requires c κs = search needs
+undelivered-requires : tie.Need-undelivered-requires
+undelivered-requires c κs = search needs
 
 is-free-requires : tie.Need-is-free-requires
 is-free-requires c κs = search needs
+
+sub-round : tie.Need-sub-round
+sub-round c = search needs
+
+part-round-start : tie.Need-part-round-start
+part-round-start c = search needs
+
+part-round-end : tie.Need-part-round-end
+part-round-end c = search needs
+
+round-requires : tie.Need-round-requires
+round-requires c κs = search needs
 
 cast-entries-of : tie.Need-cast-entries-of
 cast-entries-of c = search needs
@@ -58,10 +67,10 @@ same-length c = search needs
 
 returns : tie.Need-returns
 returns c =
-    let o = c .before .before .before .before .before .before .before .before .before .before .before .before .before .before in
+    let o = c .before .before .before .before .before .before .before .before .before .before .before .before .before .before .before in
     at-site (TurnedBy (now (o .args .rows)) (now (o .args .log)) (o .args .entries) (o .args .i) (c .before .before .take-turn .result)) (now (o .args .sites)) (o .args .i) ((o .args .i * siteSize + siteSize) - o .args .i * siteSize) _ (omega arith) (omega arith)
     (c .before .before .take-turn .kept .0)
-    (turned-by (now (o .args .rows)) (now (o .args .log)) (o .args .entries) (o .args .i) _ (c .before .before .before .before .before .before .before .before .read .ensures) (c .before .before .before .before .before .before .before .without .ensures) (c .before .before .before .before .before .before .is-free .ensures) (c .before .before .before .before .entries-of .ensures) (c .before .before .take-turn .ensures))
+    (turned-by (now (o .args .rows)) (now (o .args .log)) (o .args .entries) (o .args .i) _ (c .before .before .before .before .before .before .before .before .before .undelivered .ensures) (c .before .before .before .before .before .before .before .before .is-free .ensures) (c .before .before .before .before .before .round .ensures) (c .before .before .before .before .entries-of .ensures) (c .before .before .take-turn .ensures))
 
 pub turn-at-spec : {M : Type 1} → statement M
 turn-at-spec =
@@ -69,12 +78,15 @@ turn-at-spec =
     (tie.spec
     mul-from
     add-to
-    sub-read
-    part-read-start
-    part-read-end
-    read-requires
-    without-requires
+    sub-undelivered
+    part-undelivered-start
+    part-undelivered-end
+    undelivered-requires
     is-free-requires
+    sub-round
+    part-round-start
+    part-round-end
+    round-requires
     cast-entries-of
     entries-of-requires
     sub-take-turn
