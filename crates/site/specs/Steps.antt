@@ -81,7 +81,7 @@ module _ (t : SiteTable) (book : List Command) where
         (pick (protocol.acknowledges (dash t book) s) (protocol.acknowledge (dash t book) s) (protocol.propose (dash t book) s))
         s)
 
--- The turn of any site i, where the conflict test of what is undelivered says so, and the log has two entries of the site and its round exactly where a next is a third.
+-- The turn of any site i, where the conflict test of what is undelivered says `free`, and `third` that the log has two entries of the site and its round.
 abbrev pub TookTurn : Bool → Bool → List ℕ → Turn → List ℕ → Type 0
 TookTurn free third b r b′ =
     (t : SiteTable) (book : List Command) (i : ℕ) (log : Log) → Good (t .sites) (length book) b
