@@ -11,7 +11,7 @@ use lib.ListN.{length, length-append}
 use mir.Syntax.{w32}
 use mir.Val.{SFits}
 use Rattle.wire.specs.Wire.{splice}
-use Rattle.wire.proofs.Laws.{length-splice}
+use Rattle.wire.proofs.Laws.{length-splice, part-before}
 use Rattle.sets.specs.declared.Set.{Set}
 use Rattle.sets.specs.Sets.{capacity, isEmptyOf, firstOf}
 use Rattle.register.specs.declared.Command.{Command}
@@ -58,6 +58,7 @@ delivered-one book k m b {b₁} {b₂} {z} size w hk hm small v ec x′ ey eb =
           subst (λ (n : ℕ). GoodTables sites (length book) n (splice b₁ (slot k) (deliveryBytes m z))) (sym one)
           (tables-recorded sites (length book) k b₁ m z s hk hm small fits (tables-executed sites (length book) k (commandAt book m) b size (omega arith) v x g));
       size = long;
+      header = part-before b₁ (slot k) (deliveryBytes m z) heardPlace 0 (omega arith) (omega arith) ∙ a .header;
       readings = subst Within (sym state) (kept-within (commandAt book m) (registerOf b registerPlace) v w);
     })
 
@@ -69,6 +70,7 @@ delivered-none book k b size w =
       heard = refl;
       tables = λ sites g. subst (λ (n : ℕ). GoodTables sites (length book) n b) (sym e) g;
       size = size;
+      header = refl;
       readings = w;
     }
 
@@ -85,6 +87,7 @@ delivered-more book k m l {a} {b} {c} p q =
       heard = q .heard ∙ p .heard;
       tables = λ sites g. subst (λ (n : ℕ). GoodTables sites (length book) n c) (sym e) (q .tables sites (p .tables sites g));
       size = q .size;
+      header = q .header ∙ p .header;
       readings = q .readings;
     }
 
@@ -103,6 +106,7 @@ delivered-append book k l l′ {a} {b} {c} p q =
       heard = q .heard ∙ p .heard;
       tables = λ sites g. subst (λ (n : ℕ). GoodTables sites (length book) n c) (sym e) (q .tables sites (p .tables sites g));
       size = q .size;
+      header = q .header ∙ p .header;
       readings = q .readings;
     }
 

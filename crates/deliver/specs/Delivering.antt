@@ -1,4 +1,4 @@
--- What delivering leaves of a lent site's bytes, its header aside.
+-- What delivering leaves of a lent site's bytes: its header as it was, and more in its ledger.
 -- Assumes nothing.
 use mathlib.Core.Path.{_≡_}
 use mathlib.Core.List.{List, foldl}
@@ -14,7 +14,7 @@ use Rattle.register.specs.Lent.{registerOf}
 use Rattle.commands.specs.Book.{commandsOf, placesOf}
 use Rattle.protocol.specs.Site as protocol
 use Rattle.system.specs.Dash.{dash}
-use Rattle.layout.specs.Layout.{siteSize, registerPlace, heardOf, ledgerOf}
+use Rattle.layout.specs.Layout.{siteSize, heardPlace, registerPlace, heardOf, ledgerOf}
 use Rattle.layout.specs.Good.{GoodTables}
 
 -- The places of a book's commands are noted.
@@ -27,6 +27,7 @@ pub record Delivered (book : List Command) (k : ℕ) (l : List ℕ) (b b′ : Li
   pub heard : heardOf b′ ≡ heardOf b
   pub tables : (sites : ℕ) → GoodTables sites (length book) k b → GoodTables sites (length book) (k + length l) b′
   pub size : length b′ ≡ siteSize
+  pub header : take heardPlace b′ ≡ take heardPlace b
   pub readings : Within (registerOf b′ registerPlace)
 
 -- The commands of a set in number order.

@@ -1,6 +1,6 @@
 -- The end of a round: what is due is what the protocol delivers, and the bytes are those of its site.
 -- Assumes nothing.
-use mathlib.Core.Path.{_≡_, sym, ap, subst, _∙_}
+use mathlib.Core.Path.{_≡_, refl, sym, ap, subst, _∙_}
 use mathlib.Core.Bool.{Bool, true, _&&_, _||_, not}
 use mathlib.Core.List.{List, _++_, foldl}
 use Prim.Native.Nat.{ℕ, _+_, _^_, _≤_, _<_}
@@ -36,7 +36,7 @@ use Rattle.layout.proofs.Finish.{finish, refused, taken}
 use Rattle.deliver.specs.Delivering.{Delivered, inOrder}
 use Rattle.deliver.proofs.Order.{order-within}
 use Rattle.deliver.proofs.Ledger.{delivered-append}
-use Rattle.ending.specs.Ending.{dueOf, ended, judgedEnd, Told}
+use Rattle.ending.specs.Ending.{dueOf, moreOf, ended, judgedEnd, Told}
 use Rattle.ending.proofs.Verdicts.{end-taken, same-verdict}
 
 -- The size of a set is the number of its commands in order.
@@ -47,13 +47,12 @@ pub size-small : (x : Set) {n : ℕ} → n ≡ sizeOf x → n ≤ 64
 size-small x e = let l = count-le capacity (inSet x) in omega arith
 
 -- A round end that the code takes is decided and has room for what it delivers.
-pub ready : (h : Site) (commands : ℕ) (decided : Bool) (x y : Set) {n k : ℕ} {r : Verdict} → n ≡ sizeOf x → k ≡ sizeOf y → r ≡ judgedEnd h commands decided (n + k)
-    → r ≡ Taken
-    → (decided ≡ true) × (h .deliveries + length (inOrder x) + length (inOrder y) ≤ commands)
-ready h commands decided x y {n} {k} en ek er et =
-    let a = size-order x en in
-    let b = size-order y ek in
-    let w = end-taken h commands decided (n + k) (sym er ∙ et) in
+pub ready : (h : Site) (commands : ℕ) (decided : Bool) (nc c : Set) {x y : Set} {n : ℕ} {r : Verdict} → r ≡ judgedEnd h commands decided (moreOf h nc c) → r ≡ Taken
+    → n ≡ h .deliveries → x ≡ dueOf h nc → y ≡ dueOf h c → (decided ≡ true) × (n + length (inOrder x) + length (inOrder y) ≤ commands)
+ready h commands decided nc c {x} {y} er et en ex ey =
+    let a : length (inOrder x) ≡ sizeOf (dueOf h nc) = ap (λ (s : Set). length (inOrder s)) ex ∙ sym (size-order (dueOf h nc) refl) in
+    let b : length (inOrder y) ≡ sizeOf (dueOf h c) = ap (λ (s : Set). length (inOrder s)) ey ∙ sym (size-order (dueOf h c) refl) in
+    let w = end-taken h commands decided (moreOf h nc c) (sym er ∙ et) in
     (w .0, omega (arith, w .1))
 
 pub within-due : (h : Site) (x : Set) (n : ℕ) {d : Set} → d ≡ dueOf h x → withinOf x n ≡ true → withinOf d n ≡ true
@@ -170,34 +169,28 @@ module _ (t : SiteTable) (book : List Command) (few : length book ≤ capacity) 
         })
 
   -- What the code of round_end does, in one step: where the round does not end, and where it does.
-  module _ {h : Site} {x y : Set} {p q commands : ℕ} {r : Verdict} (eh : h ≡ headOf b) (ex : x ≡ dueOf h nc) (ey : y ≡ dueOf h c) (ep : p ≡ sizeOf x) (eq : q ≡ sizeOf y)
-      (en : length book ≡ commands) (er : r ≡ judgedEnd h commands decided (p + q)) where
-    first-is : x ≡ dueOf (headOf b) nc
-    first-is = ex ∙ ap (λ (k : Site). dueOf k nc) eh
-
-    second-is : y ≡ dueOf (headOf b) c
-    second-is = ey ∙ ap (λ (k : Site). dueOf k c) eh
-
-    more-is : p + q ≡ length (inOrder (dueOf (headOf b) nc)) + length (inOrder (dueOf (headOf b) c))
-    more-is = λ i. (size-order x ep ∙ ap (λ (s : Set). length (inOrder s)) first-is) i + (size-order y eq ∙ ap (λ (s : Set). length (inOrder s)) second-is) i
+  module _ {commands : ℕ} {r : Verdict} (en : length book ≡ commands) (er : r ≡ judgedEnd (headOf b) commands decided (moreOf (headOf b) nc c)) where
+    more-is : moreOf (headOf b) nc c ≡ length (inOrder (dueOf (headOf b) nc)) + length (inOrder (dueOf (headOf b) c))
+    more-is = λ i. size-order (dueOf (headOf b) nc) refl i + size-order (dueOf (headOf b) c) refl i
 
     verdict-is : r ≡ verdict (protocol.forRoundEnd (dash t book) (view t book b) log)
-    verdict-is = er ∙ (λ i. judgedEnd (eh i) (sym en i) decided (p + q)) ∙ end-verdict more-is
+    verdict-is = er ∙ (λ i. judgedEnd (headOf b) (sym en i) decided (moreOf (headOf b) nc c)) ∙ end-verdict more-is
 
     pub round-refused : (z : Refusal) → r ≡ Refused z
         → Carried t book (verdict (protocol.forRoundEnd (dash t book) (view t book b) log)) (protocol.finish (dash t book) (protocol.tallyOr (protocol.decision (dash t book) (view t book b) log)) (view t book b)) (view t book b) r b
     round-refused z ez = end-refused z verdict-is ez
 
-    pub round-taken : {k n : ℕ} {b₁ b₂ b₃ : List ℕ} {h′ : Site} → r ≡ Taken → k ≡ h .deliveries + length (inOrder x) → Delivered book (h .deliveries) (inOrder x) b b₁
+    pub round-taken : {h : Site} {x y : Set} {k n : ℕ} {b₁ b₂ b₃ : List ℕ} {h′ : Site} → r ≡ Taken → h ≡ headOf b → x ≡ dueOf (headOf b) nc → y ≡ dueOf (headOf b) c
+        → k ≡ h .deliveries + length (inOrder x) → Delivered book (h .deliveries) (inOrder x) b b₁
         → n ≡ k + length (inOrder y) → Delivered book k (inOrder y) b₁ b₂ → h′ ≡ ended h nc c n → b₃ ≡ splice b₂ 0 (headBytes h′) → ((i : ℕ) → getD b₃ i 0 < 256)
         → Carried t book (verdict (protocol.forRoundEnd (dash t book) (view t book b) log)) (protocol.finish (dash t book) (protocol.tallyOr (protocol.decision (dash t book) (view t book b) log)) (view t book b)) (view t book b) Taken b₃
-    round-taken {k} {n} {b₁} {b₂} {b₃} et ek d₁ em d₂ ea eb small′ =
-        let w = ready h commands decided x y ep eq er et in
+    round-taken {h} {x} {y} {k} {n} {b₁} {b₂} {b₃} et eh ex ey ek d₁ em d₂ ea eb small′ =
+        let w = ready (headOf b) commands decided nc c er et (ap (λ (s : Site). s .deliveries) eh) ex ey in
         let room = w .1 in
         let a = length-append (inOrder x) (inOrder y) in
         let all : Delivered book (h .deliveries) (inOrder x ++ inOrder y) b b₂ =
         delivered-append book (h .deliveries) (inOrder x) (inOrder y) d₁ (subst (λ (j : ℕ). Delivered book j (inOrder y) b₁ b₂) ek d₂) in
-        let list : inOrder x ++ inOrder y ≡ inOrder (dueOf (headOf b) nc) ++ inOrder (dueOf (headOf b) c) = λ i. inOrder (first-is i) ++ inOrder (second-is i) in
+        let list : inOrder x ++ inOrder y ≡ inOrder (dueOf (headOf b) nc) ++ inOrder (dueOf (headOf b) c) = λ i. inOrder (ex i) ++ inOrder (ey i) in
         let total : n ≡ h .deliveries + length (inOrder x ++ inOrder y) = omega arith in
         let same : h .deliveries + length (inOrder x ++ inOrder y) ≡ headOf b .deliveries + length (inOrder (dueOf (headOf b) nc) ++ inOrder (dueOf (headOf b) c)) =
         λ i. eh i .deliveries + length (list i) in

@@ -1,6 +1,6 @@
 -- The verdict on a round end, by the code's tests and by the protocol's.
 -- Assumes nothing.
-use mathlib.Core.Path.{_≡_, refl, ap, _∙_}
+use mathlib.Core.Path.{_≡_, refl, sym, ap, _∙_}
 use mathlib.Core.Bool.{Bool, true, false}
 use Prim.Native.Nat.{ℕ, _+_, _≤_, _<_}
 use native.Mathlib.Omega.{arith}
@@ -10,39 +10,48 @@ use Rattle.refusals.specs.declared.Refusal.the-variants.{Disabled, Size}
 use Rattle.refusals.specs.declared.Verdict.{Verdict}
 use Rattle.refusals.specs.declared.Verdict.the-variants.{Taken, Refused}
 use Rattle.sets.specs.declared.Set.{Set}
-use Rattle.sets.specs.Sets.{unionOf, withoutOf}
+use Rattle.sets.specs.Sets.{unionOf, withoutOf, sizeOf}
 use Rattle.protocol.specs.System.{granted, _else_⨾_, verdict}
 use Rattle.protocol.specs.Site as protocol
-use Rattle.layout.specs.declared.Proposal.{Proposal}
 use Rattle.layout.specs.declared.Phase.{Phase}
 use Rattle.layout.specs.declared.Phase.the-variants.{Acknowledging, Waiting}
 use Rattle.layout.specs.declared.Site.{Site}
-use Rattle.layout.specs.Layout.{phaseSeen}
-use Rattle.ending.specs.Ending.{dueOf, isWaiting, judgedEnd}
+use Rattle.layout.specs.Layout.{phaseSeen, isWaiting}
+use Rattle.ending.specs.Ending.{dueOf, moreOf, judgedEnd}
 
 -- What the code makes of what is due.
-pub due-is : (h : Site) (x : Set) {u r : Set} → u ≡ unionOf (h .delivered) (h .fast) → r ≡ withoutOf x u → r ≡ dueOf h x
-due-is h x eu er = er ∙ ap (withoutOf x) eu
+pub due-is : (h : Site) (x : Set) {d f u r : Set} → d ≡ h .delivered → f ≡ h .fast → u ≡ unionOf d f → r ≡ withoutOf x u → r ≡ dueOf h x
+due-is h x ed ef eu er = er ∙ ap (withoutOf x) (eu ∙ (λ i. unionOf (ed i) (ef i)))
 
 -- ---- the paths of the code
 
-module _ (h : Site) (commands : ℕ) (decided : Bool) (more : ℕ) where
-  pub end-acknowledging : h .phase ≡ Acknowledging → Refused Disabled ≡ judgedEnd h commands decided more
+module _ (h : Site) (commands : ℕ) (decided : Bool) (nc c : Set) {w : Bool} (ew : w ≡ isWaiting (h .phase)) where
+  pub end-acknowledging : w ≡ false → Refused Disabled ≡ judgedEnd h commands decided (moreOf h nc c)
   unfolding judgedEnd
-  end-acknowledging e = simp e
+  end-acknowledging e = let is : isWaiting (h .phase) ≡ false = sym ew ∙ e in simp is
 
-  module _ {p : Proposal} (e : h .phase ≡ Waiting p) where
-    pub end-undecided : decided ≡ false → Refused Disabled ≡ judgedEnd h commands decided more
+  module _ (e : w ≡ true) where
+    pub end-undecided : decided ≡ false → Refused Disabled ≡ judgedEnd h commands decided (moreOf h nc c)
     unfolding judgedEnd
-    end-undecided d = simp (e, d)
+    end-undecided d = let is : isWaiting (h .phase) ≡ true = sym ew ∙ e in simp (is, d)
 
-    pub end-full : decided ≡ true → commands < h .deliveries + more → Refused Size ≡ judgedEnd h commands decided more
-    unfolding judgedEnd
-    end-full d l = simp (e, d, lt-leb (h .deliveries + more) commands l)
+    module _ (d : decided ≡ true) {x y : Set} {p q n : ℕ} (ex : x ≡ dueOf h nc) (ep : p ≡ sizeOf x) (ey : y ≡ dueOf h c) (eq : q ≡ sizeOf y) (en : n ≡ h .deliveries) where
+      total : n + (p + q) ≡ h .deliveries + moreOf h nc c
+      total = λ i. en i + ((ep ∙ ap sizeOf ex) i + (eq ∙ ap sizeOf ey) i)
 
-    pub end-met : decided ≡ true → h .deliveries + more ≤ commands → Taken ≡ judgedEnd h commands decided more
-    unfolding judgedEnd
-    end-met d l = simp (e, d, le-leb (h .deliveries + more) commands l)
+      pub end-full : commands < n + (p + q) → Refused Size ≡ judgedEnd h commands decided (moreOf h nc c)
+      unfolding judgedEnd
+      end-full l =
+          let is : isWaiting (h .phase) ≡ true = sym ew ∙ e in
+          let t = total in
+          simp (is, d, lt-leb (h .deliveries + moreOf h nc c) commands (omega arith))
+
+      pub end-met : n + (p + q) ≤ commands → Taken ≡ judgedEnd h commands decided (moreOf h nc c)
+      unfolding judgedEnd
+      end-met l =
+          let is : isWaiting (h .phase) ≡ true = sym ew ∙ e in
+          let t = total in
+          simp (is, d, le-leb (h .deliveries + moreOf h nc c) commands (omega arith))
 
 -- ---- the verdict by its tests
 

@@ -1,7 +1,7 @@
 -- The end of a round: the header after it, the code's verdict, and what the step promises.
 -- Assumes nothing.
 use mathlib.Core.Path.{_≡_}
-use mathlib.Core.Bool.{Bool, true, false}
+use mathlib.Core.Bool.{Bool, true}
 use mathlib.Core.List.{List}
 use Prim.Native.Nat.{ℕ, _+_, _≤_}
 use lib.Dec.{leb}
@@ -9,23 +9,26 @@ use lib.ListN.{length}
 use Rattle.refusals.specs.declared.Refusal.the-variants.{Disabled, Size}
 use Rattle.refusals.specs.declared.Verdict.{Verdict}
 use Rattle.sets.specs.declared.Set.{Set}
-use Rattle.sets.specs.Sets.{inSet, emptyOf, unionOf, withoutOf}
+use Rattle.sets.specs.Sets.{inSet, emptyOf, unionOf, withoutOf, sizeOf}
 use Rattle.table.specs.declared.SiteTable.{SiteTable}
 use Rattle.register.specs.declared.Command.{Command}
 use Rattle.protocol.specs.System.{granted, _else_⨾_, verdict}
 use Rattle.protocol.specs.Recovery.{Log, ncSet, cSet}
 use Rattle.protocol.specs.Site as protocol
 use Rattle.system.specs.Dash.{dash, lastRound}
-use Rattle.layout.specs.declared.Phase.{Phase}
-use Rattle.layout.specs.declared.Phase.the-variants.{Acknowledging, Waiting}
+use Rattle.layout.specs.declared.Phase.the-variants.{Acknowledging}
 use Rattle.layout.specs.declared.Site.{Site}
-use Rattle.layout.specs.Layout.{view}
+use Rattle.layout.specs.Layout.{isWaiting, view}
 use Rattle.layout.specs.Good.{Good}
 use Rattle.layout.specs.Step.{Carried}
 
 -- What of a set is not yet delivered.
 abbrev pub dueOf : Site → Set → Set
 dueOf h x = withoutOf x (unionOf (h .delivered) (h .fast))
+
+-- How many commands of two sets are due.
+abbrev pub moreOf : Site → Set → Set → ℕ
+moreOf h nc c = sizeOf (dueOf h nc) + sizeOf (dueOf h c)
 
 -- The header after a round that decided nc and c, with n deliveries recorded.
 abbrev pub ended : Site → Set → Set → ℕ → Site
@@ -40,10 +43,6 @@ ended h nc c n =
       pending = emptyOf;
       fast = emptyOf;
     }
-
-abbrev pub isWaiting : Phase → Bool
-isWaiting Acknowledging = false
-isWaiting (Waiting p) = true
 
 -- The verdict, where the round end would deliver so many more.
 unfoldable pub judgedEnd : Site → ℕ → Bool → ℕ → Verdict

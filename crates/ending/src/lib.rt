@@ -1,14 +1,14 @@
 // The end of a round: the commands that the log decided are delivered, and the site acknowledges again, in the next round.
 ghost use mathlib.Core.Bool.{true};
 ghost use mathlib.Core.Path.{_≡_};
-ghost use Prim.Native.Nat.{ℕ, _≤_, _<_};
+ghost use Prim.Native.Nat.{ℕ, _≤_};
 ghost use lib.ListN.{length};
-ghost use Rattle.sets.specs.Sets.{capacity, withinOf};
+ghost use Rattle.sets.specs.Sets.{withinOf};
 ghost use Rattle.commands.specs.Book.{commandsOf};
-ghost use Rattle.layout.specs.Layout.{siteRounds};
+ghost use Rattle.layout.specs.Layout.{siteSize, siteRounds, headOf};
 ghost use Rattle.layout.specs.Good.{Good};
 ghost use Rattle.deliver.specs.Delivering.{Noted};
-ghost use Rattle.ending.specs.Ending.{dueOf, ended, judgedEnd, RoundEnded};
+ghost use Rattle.ending.specs.Ending.{dueOf, moreOf, ended, judgedEnd, RoundEnded};
 use layout::Phase;
 use layout::Site;
 use refusals::Refusal;
@@ -16,25 +16,26 @@ use refusals::Verdict;
 use sets::Set;
 
 // What of a set is not yet delivered.
-fn due(header: Site, set: Set) -> Set
-    ensures { λ r. ⌜ r ≡ dueOf header set ⌝ }
+fn due(site: &[u8], set: Set) -> Set
+    requires { ⌜ length (now site) ≡ siteSize ⌝ }
+    ensures { λ r. ⌜ r ≡ dueOf (headOf (now (site .entry))) set ⌝ }
 {
-    set.without(header.delivered.union(header.fast))
+    set.without(layout::delivered(site).union(layout::fast(site)))
 }
 
-// Whether the round ends with so many more deliveries, and else the refusal.
-fn judge(header: Site, commands: usize, decided: bool, more: usize) -> Verdict
-    requires { ⌜ more ≤ 128 ⌝ }
-    ensures { λ r. ⌜ r ≡ judgedEnd header commands decided more ⌝ }
+// Whether the round ends with the decided sets, and else the refusal.
+fn judge(site: &[u8], commands: usize, decided: bool, nc: Set, c: Set) -> Verdict
+    requires { ⌜ length (now site) ≡ siteSize ⌝ }
+    ensures { λ r. ⌜ r ≡ judgedEnd (headOf (now (site .entry))) commands decided (moreOf (headOf (now (site .entry))) nc c) ⌝ }
 {
-    let phase = header.phase;
-    if let Phase::Acknowledging = phase {
+    if !layout::is_waiting(site) {
         return Verdict::Refused(Refusal::Disabled);
     }
     if !decided {
         return Verdict::Refused(Refusal::Disabled);
     }
-    let recorded = header.deliveries as usize;
+    let more = due(site, nc).size() + due(site, c).size();
+    let recorded = layout::count(site) as usize;
     if recorded + more > commands {
         return Verdict::Refused(Refusal::Size);
     }
@@ -74,13 +75,13 @@ pub fn round_end(
         × (length (commandsOf (now book)) ≡ commands) × (withinOf nc commands ≡ true) × (withinOf c commands ≡ true) ⌝ }
     ensures { λ r. ⌜ RoundEnded (commandsOf (now (book .entry))) decided nc c (now (site .entry)) r (now (site .exit)) ⌝ }
 {
-    let header = Site::read(&site[..]);
-    let first = due(header, nc);
-    let second = due(header, c);
-    let judged = judge(header, commands, decided, first.size() + second.size());
+    let judged = judge(&site[..], commands, decided, nc, c);
     if let Verdict::Refused(_) = judged {
         return judged;
     }
+    let header = Site::read(&site[..]);
+    let first = due(&site[..], nc);
+    let second = due(&site[..], c);
     let recorded = header.deliveries as usize;
     let between = deliver::deliver_all(site, book, places, recorded, first);
     let total = deliver::deliver_all(site, book, places, between, second);

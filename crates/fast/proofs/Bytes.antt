@@ -8,23 +8,23 @@ use lib.ListN.{length, getD}
 use Rattle.refusals.specs.declared.Refusal.{Refusal}
 use Rattle.refusals.specs.declared.Verdict.{Verdict}
 use Rattle.refusals.specs.declared.Verdict.the-variants.{Taken, Refused}
-use Rattle.wire.specs.Wire.{splice}
-use Rattle.sets.specs.Sets.{capacity, inSet}
+use Rattle.wire.specs.Wire.{bytes, splice}
+use Rattle.sets.specs.declared.Set.{Set}
+use Rattle.sets.specs.Sets.{capacity, inSet, withOf, writeSet}
 use Rattle.sets.proofs.Laws.{in-with, with-fits}
 use Rattle.table.specs.declared.SiteTable.{SiteTable}
 use Rattle.register.specs.declared.Command.{Command}
 use Rattle.protocol.specs.System.{verdict}
 use Rattle.protocol.specs.Site as protocol
 use Rattle.system.specs.Dash.{dash}
-use Rattle.layout.specs.declared.Site.{Site}
-use Rattle.layout.specs.Layout.{headOf, headBytes, phaseSeen, view}
+use Rattle.layout.specs.Layout.{countPlace, fastPlace, headOf, phaseSeen, view}
 use Rattle.layout.specs.Good.{Good}
 use Rattle.layout.specs.Step.{Carried}
 use Rattle.layout.proofs.Header.{fit}
+use Rattle.layout.proofs.Fields.{begins, withFast, fast-written}
 use Rattle.layout.proofs.Tables.{within-with}
 use Rattle.layout.proofs.Finish.{finish, refused, taken}
 use Rattle.deliver.specs.Delivering.{Delivered}
-use Rattle.fast.specs.Fast.{withFast}
 use Rattle.fast.proofs.Judging.{taken-room}
 
 module _ (t : SiteTable) (book : List Command) (b : List ℕ) (small : (i : ℕ) → getD b i 0 < 256) (good : Good (t .sites) (length book) b) (m : ℕ) where
@@ -36,26 +36,26 @@ module _ (t : SiteTable) (book : List Command) (b : List ℕ) (small : (i : ℕ)
       (sym h) (refused t book (verdict (protocol.forFastDelivery (dash t book) m (view t book b))) x (sym e ∙ h) good small)
 
   -- There is a place for the delivery.
-  pub fast-space : {r : Verdict} {h : Site} → length book ≤ capacity → r ≡ verdict (protocol.forFastDelivery (dash t book) m (view t book b)) → r ≡ Taken → h ≡ headOf b
-      → h .deliveries < capacity
-  fast-space {h = h} few e et eh =
-      let l = taken-room t book b m (sym e ∙ et) in
-      let q : h .deliveries ≡ headOf b .deliveries = ap (λ (x : Site). x .deliveries) eh in
-      omega arith
+  pub fast-space : {r : Verdict} {n : ℕ} → length book ≤ capacity → r ≡ verdict (protocol.forFastDelivery (dash t book) m (view t book b)) → r ≡ Taken
+      → n ≡ headOf b .deliveries → n < capacity
+  fast-space few e et en = let l = taken-room t book b m (sym e ∙ et) in omega arith
 
-  pub fast-taken : {r : Verdict} {h h′ : Site} {b₁ b₂ : List ℕ} → length book ≤ capacity → m < length book
+  pub fast-taken : {r : Verdict} {n : ℕ} {x y : Set} {b₁ b₂ b₃ : List ℕ} → length book ≤ capacity → m < length book
       → r ≡ verdict (protocol.forFastDelivery (dash t book) m (view t book b)) → r ≡ Taken
-      → h ≡ headOf b → Delivered book (h .deliveries) (m ∷ []) b b₁ → h′ ≡ withFast h m → b₂ ≡ splice b₁ 0 (headBytes h′) → ((i : ℕ) → getD b₂ i 0 < 256)
-      → Carried t book (verdict (protocol.forFastDelivery (dash t book) m (view t book b))) (protocol.deliverFast (dash t book) m (view t book b)) (view t book b) Taken b₂
+      → n ≡ headOf b .deliveries → x ≡ headOf b .fast → Delivered book n (m ∷ []) b b₁ → y ≡ withOf x m
+      → b₂ ≡ writeSet b₁ fastPlace y → b₃ ≡ splice b₂ countPlace (bytes 1 (n + 1)) → ((i : ℕ) → getD b₃ i 0 < 256)
+      → Carried t book (verdict (protocol.forFastDelivery (dash t book) m (view t book b))) (protocol.deliverFast (dash t book) m (view t book b)) (view t book b) Taken b₃
   unfolding headOf
-  fast-taken {h = h} {b₁ = b₁} few lm e et eh d′ er eb small′ =
+  fast-taken {b₁ = b₁} few lm e et en ex d′ ey e₂ e₃ small′ =
       let k = headOf b in
       let f = fit b small (good .size) in
       let g = good .head in
       let more : k .deliveries + 1 ≤ length book = taken-room t book b m (sym e ∙ et) in
-      let d : Delivered book (k .deliveries) (m ∷ []) b b₁ = subst (λ (x : Site). Delivered book (x .deliveries) (m ∷ []) b b₁) eh d′ in
+      let d : Delivered book (k .deliveries) (m ∷ []) b b₁ = subst (λ (n : ℕ). Delivered book n (m ∷ []) b b₁) en d′ in
       taken t book (verdict (protocol.forFastDelivery (dash t book) m (view t book b))) (sym e ∙ et)
-      (finish t book b₁ (withFast k m) (d .size) (eb ∙ ap (λ (x : Site). splice b₁ 0 (headBytes x)) (er ∙ ap (λ (x : Site). withFast x m) eh)) small′
+      (finish t book b₁ (withFast k (k .deliveries + 1) (withOf (k .fast) m)) (d .size)
+      (e₃ ∙ (λ i. splice ((e₂ ∙ ap (writeSet b₁ fastPlace) (ey ∙ ap (λ (s : Set). withOf s m) ex)) i) countPlace (bytes 1 (en i + 1)))
+      ∙ fast-written k b₁ (d .header ∙ begins b good small) (k .deliveries + 1) (withOf (k .fast) m)) small′
       (record {
         round = f .round;
         deliveries = omega arith;

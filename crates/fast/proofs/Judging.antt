@@ -22,7 +22,6 @@ use Rattle.register.specs.declared.Command.{Command}
 use Rattle.protocol.specs.System.{granted, _else_⨾_, verdict}
 use Rattle.protocol.specs.Site as protocol
 use Rattle.system.specs.Dash.{dash}
-use Rattle.layout.specs.declared.Site.{Site}
 use Rattle.layout.specs.Layout.{siteRounds, countPlace, cell, headOf, heardOf, deliveriesOf, view}
 use Rattle.layout.proofs.Senders.{in-table}
 use Rattle.layout.proofs.Deliveries.{length-deliveries}
@@ -90,40 +89,40 @@ module _ (t : SiteTable) (book : List Command) (b : List ℕ) (m : ℕ) where
       let l = leb-true (length (deliveriesOf (readLe 1 b countPlace) b) + 1) (length book) (has-room pending fast enough room (same-verdict ∙ h)) in
       omega arith
 
-  module _ {h : Site} (eh : h ≡ headOf b) where
-    is-pending : {x y : Bool} → x ≡ inSet (h .pending) m → x ≡ y → y ≡ pending
+  -- What the code reads and tests, in its order.
+  module _ {p : Set} {x : Bool} (ep : p ≡ headOf b .pending) (ex : x ≡ inSet p m) where
+    is-pending : {v : Bool} → x ≡ v → v ≡ pending
     unfolding pending
-    is-pending ex ey = sym ey ∙ ex ∙ ap (λ (k : Site). inSet (k .pending) m) eh
+    is-pending hx = sym hx ∙ ex ∙ ap (λ (s : Set). inSet s m) ep
 
-    is-fast : {x y : Bool} → x ≡ inSet (h .fast) m → x ≡ y → y ≡ fast
-    unfolding fast
-    is-fast ex ey = sym ey ∙ ex ∙ ap (λ (k : Site). inSet (k .fast) m) eh
+    pub not-pending : x ≡ false → Refused Disabled ≡ verdict (protocol.forFastDelivery (dash t book) m (view t book b))
+    not-pending hx = (λ i. fastVerdict (is-pending hx i) fast enough room) ∙ same-verdict
 
-    pub not-pending : {x : Bool} → x ≡ inSet (h .pending) m → x ≡ false → Refused Disabled ≡ verdict (protocol.forFastDelivery (dash t book) m (view t book b))
-    not-pending ex hx = (λ i. fastVerdict (is-pending ex hx i) fast enough room) ∙ same-verdict
+    module _ (hx : x ≡ true) {f : Set} {y : Bool} (ef : f ≡ headOf b .fast) (ey : y ≡ inSet f m) where
+      is-fast : {v : Bool} → y ≡ v → v ≡ fast
+      unfolding fast
+      is-fast hy = sym hy ∙ ey ∙ ap (λ (s : Set). inSet s m) ef
 
-    module _ {x : Bool} (ex : x ≡ inSet (h .pending) m) (hx : x ≡ true) where
-      pub already-fast : {y : Bool} → y ≡ inSet (h .fast) m → y ≡ true → Refused Disabled ≡ verdict (protocol.forFastDelivery (dash t book) m (view t book b))
-      already-fast ey hy = (λ i. fastVerdict (is-pending ex hx i) (is-fast ey hy i) enough room) ∙ same-verdict
+      pub already-fast : y ≡ true → Refused Disabled ≡ verdict (protocol.forFastDelivery (dash t book) m (view t book b))
+      already-fast hy = (λ i. fastVerdict (is-pending hx i) (is-fast hy i) enough room) ∙ same-verdict
 
-      module _ {y : Bool} (ey : y ≡ inSet (h .fast) m) (hy : y ≡ false) {n k : ℕ} (en : n ≡ count (t .sites) (λ j. heardOf b j (h .round) m)) (ek : k ≡ nAckOf t) where
+      module _ (hy : y ≡ false) {r n k : ℕ} (er : r ≡ headOf b .round) (en : n ≡ count (t .sites) (λ j. heardOf b j r m)) (ek : k ≡ nAckOf t) where
         is-enough : {v : Bool} → leb k n ≡ v → v ≡ enough
         unfolding enough
-        is-enough e = sym e ∙ (λ i. leb (ek i) ((en ∙ ap (λ (s : Site). count (t .sites) (λ j. heardOf b j (s .round) m)) eh) i))
-
-        is-room : {v : Bool} → leb (h .deliveries + 1) (length book) ≡ v → v ≡ room
-        unfolding room
-        is-room e = sym e ∙ (λ i. leb ((ap (λ (s : Site). s .deliveries) eh ∙ sym recorded) i + 1) (length book))
+        is-enough e = sym e ∙ (λ i. leb (ek i) ((en ∙ ap (λ (q : ℕ). count (t .sites) (λ j. heardOf b j q m)) er) i))
 
         pub too-few : n < k → Refused Disabled ≡ verdict (protocol.forFastDelivery (dash t book) m (view t book b))
-        too-few l = (λ i. fastVerdict (is-pending ex hx i) (is-fast ey hy i) (is-enough (lt-leb k n l) i) room) ∙ same-verdict
+        too-few l = (λ i. fastVerdict (is-pending hx i) (is-fast hy i) (is-enough (lt-leb k n l) i) room) ∙ same-verdict
 
-        pub no-room : k ≤ n → length book ≤ h .deliveries → Refused Size ≡ verdict (protocol.forFastDelivery (dash t book) m (view t book b))
-        no-room l o =
-            (λ i. fastVerdict (is-pending ex hx i) (is-fast ey hy i) (is-enough (le-leb k n l) i) (is-room (lt-leb (h .deliveries + 1) (length book) (omega arith)) i))
-            ∙ same-verdict
+        module _ (l : k ≤ n) {c : ℕ} (ec : c ≡ headOf b .deliveries) where
+          is-room : {v : Bool} → leb (c + 1) (length book) ≡ v → v ≡ room
+          unfolding room
+          is-room e = sym e ∙ (λ i. leb ((ec ∙ sym recorded) i + 1) (length book))
 
-        pub all-met : k ≤ n → h .deliveries < length book → Taken ≡ verdict (protocol.forFastDelivery (dash t book) m (view t book b))
-        all-met l o =
-            (λ i. fastVerdict (is-pending ex hx i) (is-fast ey hy i) (is-enough (le-leb k n l) i) (is-room (le-leb (h .deliveries + 1) (length book) (omega arith)) i))
-            ∙ same-verdict
+          pub no-room : length book ≤ c → Refused Size ≡ verdict (protocol.forFastDelivery (dash t book) m (view t book b))
+          no-room o =
+              (λ i. fastVerdict (is-pending hx i) (is-fast hy i) (is-enough (le-leb k n l) i) (is-room (lt-leb (c + 1) (length book) (omega arith)) i)) ∙ same-verdict
+
+          pub all-met : c < length book → Taken ≡ verdict (protocol.forFastDelivery (dash t book) m (view t book b))
+          all-met o =
+              (λ i. fastVerdict (is-pending hx i) (is-fast hy i) (is-enough (le-leb k n l) i) (is-room (le-leb (c + 1) (length book) (omega arith)) i)) ∙ same-verdict

@@ -5,7 +5,6 @@ ghost use mathlib.Core.Path.{_≡_};
 ghost use Prim.Native.Nat.{_≤_, _<_};
 ghost use lib.ListN.{length};
 ghost use Rattle.theory.specs.Sets.{one, count};
-ghost use Rattle.sets.specs.Sets.{capacity};
 ghost use Rattle.table.specs.Table.{maxSites, isGood};
 ghost use Rattle.register.specs.declared.Command.{Command};
 ghost use Rattle.commands.specs.Book.{commandsOf};
@@ -16,8 +15,6 @@ ghost use Rattle.layout.specs.Layout.{siteSize, siteRounds, heardOf, view};
 ghost use Rattle.layout.specs.Good.{Good};
 ghost use Rattle.layout.specs.Step.{Carried};
 ghost use Rattle.deliver.specs.Delivering.{Noted};
-ghost use Rattle.fast.specs.Fast.{withFast};
-use layout::Site;
 use refusals::Refusal;
 use refusals::Verdict;
 use table::SiteTable;
@@ -48,44 +45,22 @@ fn judge(site: &[u8], table: SiteTable, commands: usize, m: usize) -> Verdict
     requires { ⌜ Good (table .sites) commands (now site) × (isGood table ≡ true) ⌝ }
     ensures { λ r. ⌜ ((book : List Command) → length book ≡ commands → r ≡ verdict (protocol.forFastDelivery (dash table book) m (view table book (now (site .entry))))) ⌝ }
 {
-    let header = Site::read(site);
-    if !header.pending.has(m) {
+    if !layout::pending(site).has(m) {
         return Verdict::Refused(Refusal::Disabled);
     }
-    if header.fast.has(m) {
+    if layout::fast(site).has(m) {
         return Verdict::Refused(Refusal::Disabled);
     }
-    let round = header.round as usize;
+    let round = layout::round(site) as usize;
     let n = senders(site, table.sites, round, m);
     if n < table.n_ack() {
         return Verdict::Refused(Refusal::Disabled);
     }
-    let recorded = header.deliveries as usize;
+    let recorded = layout::count(site) as usize;
     if recorded >= commands {
         return Verdict::Refused(Refusal::Size);
     }
     Verdict::Taken
-}
-
-fn with_fast(header: Site, m: usize) -> Site
-    requires { ⌜ (header .deliveries < capacity) × (m < capacity) ⌝ }
-    ensures { λ r. ⌜ r ≡ withFast header m ⌝ }
-{
-    let phase = header.phase;
-    let received = header.received;
-    let delivered = header.delivered;
-    let pending = header.pending;
-    let fast = header.fast.with(m);
-    Site {
-        round: header.round,
-        phase,
-        position: header.position,
-        deliveries: header.deliveries + 1,
-        received,
-        delivered,
-        pending,
-        fast,
-    }
 }
 
 // Command m of the book is delivered fast, or the step is refused.
@@ -108,9 +83,10 @@ pub fn fast_delivery(
     if let Verdict::Refused(_) = judged {
         return judged;
     }
-    let header = Site::read(&site[..]);
-    let recorded = header.deliveries as usize;
-    deliver::deliver(site, book, places, recorded, m);
-    with_fast(header, m).write(site);
+    let recorded = layout::count(&site[..]);
+    let fast = layout::fast(&site[..]);
+    deliver::deliver(site, book, places, recorded as usize, m);
+    layout::set_fast(site, fast.with(m));
+    layout::set_count(site, recorded + 1);
     Verdict::Taken
 }

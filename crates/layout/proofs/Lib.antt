@@ -1,4 +1,5 @@
 pub mod Header
+pub mod Fields
 pub mod Agree
 pub mod Senders
 pub mod Deliveries

@@ -9,13 +9,13 @@ use native.Mathlib.Omega.{arith}
 use native.Mathlib.Decide.{decLt, ℕ-discrete}
 use lib.IntN.{ℤ}
 use lib.Dec.{eqb}
-use lib.ListN.{length, getD}
+use lib.ListN.{length, take, getD}
 use borrow.Author.Tests.{eqb-true}
 use mir.Syntax.{w32}
 use mir.Val.{SFits}
 use Rattle.theory.specs.Counting.{left, either, never, last-or-below}
 use Rattle.wire.specs.Wire.{readLe, bytes, splice}
-use Rattle.wire.proofs.Laws.{length-bytes, length-splice}
+use Rattle.wire.proofs.Laws.{length-bytes, length-splice, part-before}
 use Rattle.sets.specs.declared.Set.{Set}
 use Rattle.sets.specs.Sets.{capacity, inSet, emptyOf, withOf, unionOf, withoutOf, withinOf, readSet, writeSet}
 use Rattle.sets.proofs.Laws.{in-empty, in-with, in-union, in-without, within-at, within-of, read-other}
@@ -102,6 +102,7 @@ module _ (sites commands n : ℕ) where
 
 -- A command is executed on the register.
 pub record Apart (b b′ : List ℕ) : Type 0 where
+  pub header : take heardPlace b′ ≡ take heardPlace b
   pub heard : Agree b b′ heardPlace registerPlace
   pub deliveries : Agree b b′ deliveriesPlace siteSize
   pub size : length b′ ≡ siteSize
@@ -113,6 +114,7 @@ executed-apart c b {b′} size v x =
     let at = registerPlace + bikeSize * bikeOf c in
     let bs = bikeBytes (registerOf b′ registerPlace (bikeOf c)) in
     record {
+      header = ap (take heardPlace) (x .elsewhere) ∙ part-before b at bs heardPlace 0 (omega arith) (omega arith);
       heard = agree-trans (agree-part heardPlace registerPlace (agree-before b at bs heardPlace (omega arith)) (omega arith) (omega arith)) (agree-equal heardPlace registerPlace (x .elsewhere));
       deliveries = agree-trans (agree-after b at bs deliveriesPlace siteSize (omega arith) (omega arith)) (agree-equal deliveriesPlace siteSize (x .elsewhere));
       size = ap length (x .elsewhere) ∙ length-splice b at bs (omega arith) ∙ size;

@@ -1,13 +1,13 @@
 -- One site in lent bytes: where each field stands, the site that the bytes are seen as, and the bytes of a site.
 -- Assumes nothing.
-use mathlib.Core.Bool.{Bool, _&&_}
+use mathlib.Core.Bool.{Bool, true, false, _&&_}
 use mathlib.Core.List.{List, [], _∷_, _++_}
 use Prim.Native.Nat.{ℕ, zero, suc, _+_, _*_, _-_, _/_, _%_}
 use lib.Dec.{leb, ltb}
 use lib.IntN.{ℤ}
 use lib.ListN.{length, replicate}
 use Rattle.theory.specs.Machine.{Delivery}
-use Rattle.wire.specs.Wire.{bytes, readLe}
+use Rattle.wire.specs.Wire.{bytes, readLe, splice}
 use Rattle.signed.specs.Signed.{signed32, word32}
 use Rattle.sets.specs.declared.Set.{Set}
 use Rattle.sets.specs.Sets.{has, capacity, inSet, setOf, emptyOf, setBytes, readSet, writeSet, unionOf}
@@ -114,6 +114,10 @@ headOf b =
       fast = readSet b fastPlace;
     }
 
+abbrev pub isWaiting : Phase → Bool
+isWaiting Acknowledging = false
+isWaiting (Waiting p) = true
+
 -- A sender and a round that the bytes have a set for.
 abbrev pub inTable : ℕ → ℕ → Bool
 inTable j r = ltb j maxSites && (leb 1 r && leb r siteRounds)
@@ -164,6 +168,10 @@ setsBytes h =
 
 abbrev pub headBytes : Site → List ℕ
 headBytes h = numbersBytes h ++ setsBytes h
+
+-- The bytes with the site waiting with two sets.
+abbrev pub waitsWith : List ℕ → Set → Set → List ℕ
+waitsWith b nc c = writeSet (writeSet (splice b phasePlace (bytes 1 1)) ncPlace nc) cPlace c
 
 -- The first n of the sets heard: that of sender 0 and round 1 first.
 unfoldable pub heardBytes : ℕ → (ℕ → ℕ → ℕ → Bool) → List ℕ

@@ -1,11 +1,12 @@
-// One site's state in lent bytes at fixed places: a header read and written as a struct, and the sets heard, the register and the deliveries in place.
+// One site's state in lent bytes at fixed places: a header read and written as a struct or field by field, and the sets heard, the register and the deliveries in place.
 ghost use mathlib.Core.Path.{_≡_};
 ghost use Prim.Native.Nat.{_+_, _≤_, _<_};
 ghost use lib.ListN.{length};
-ghost use Rattle.wire.specs.Wire.{splice};
-ghost use Rattle.sets.specs.Sets.{capacity, readSet};
+ghost use Rattle.wire.specs.Wire.{bytes, splice};
+ghost use Rattle.sets.specs.Sets.{capacity, readSet, writeSet};
 ghost use Rattle.table.specs.Table.{maxSites};
 ghost use Rattle.layout.specs.Layout.{siteSize, siteRounds, registerPlace, cell, slot, headOf, phaseFrom, tagOf, proposalOf, numbersBytes, setsBytes, headBytes, deliveryOf, deliveryBytes, deliverySeen, heardMore};
+ghost use Rattle.layout.specs.Layout.{countPlace, positionPlace, receivedPlace, pendingPlace, fastPlace, isWaiting, waitsWith};
 use sets::Set;
 
 // What a site proposed.
@@ -168,6 +169,110 @@ fn write_sets(site: &mut [u8], header: Site)
     header.fast.write(site, Site::FAST);
     proposed.nc.write(site, Site::NC);
     proposed.c.write(site, Site::C);
+}
+
+// The fields of the header, one at a time.
+pub fn round(site: &[u8]) -> u8
+    requires { ⌜ length (now site) ≡ siteSize ⌝ }
+    ensures { λ r. ⌜ r ≡ headOf (now (site .entry)) .round ⌝ }
+{
+    wire::get1(site, Site::ROUND)
+}
+
+pub fn is_waiting(site: &[u8]) -> bool
+    requires { ⌜ length (now site) ≡ siteSize ⌝ }
+    ensures { λ r. ⌜ r ≡ isWaiting (headOf (now (site .entry)) .phase) ⌝ }
+{
+    let tag = wire::get1(site, Site::PHASE);
+    tag != 0
+}
+
+// How many deliveries are recorded.
+pub fn count(site: &[u8]) -> u8
+    requires { ⌜ length (now site) ≡ siteSize ⌝ }
+    ensures { λ r. ⌜ r ≡ headOf (now (site .entry)) .deliveries ⌝ }
+{
+    wire::get1(site, Site::COUNT)
+}
+
+pub fn position(site: &[u8]) -> u16
+    requires { ⌜ length (now site) ≡ siteSize ⌝ }
+    ensures { λ r. ⌜ r ≡ headOf (now (site .entry)) .position ⌝ }
+{
+    wire::get2(site, Site::POSITION)
+}
+
+pub fn received(site: &[u8]) -> Set
+    requires { ⌜ length (now site) ≡ siteSize ⌝ }
+    ensures { λ r. ⌜ r ≡ headOf (now (site .entry)) .received ⌝ }
+{
+    Set::read(site, Site::RECEIVED)
+}
+
+pub fn delivered(site: &[u8]) -> Set
+    requires { ⌜ length (now site) ≡ siteSize ⌝ }
+    ensures { λ r. ⌜ r ≡ headOf (now (site .entry)) .delivered ⌝ }
+{
+    Set::read(site, Site::DELIVERED)
+}
+
+pub fn pending(site: &[u8]) -> Set
+    requires { ⌜ length (now site) ≡ siteSize ⌝ }
+    ensures { λ r. ⌜ r ≡ headOf (now (site .entry)) .pending ⌝ }
+{
+    Set::read(site, Site::PENDING)
+}
+
+pub fn fast(site: &[u8]) -> Set
+    requires { ⌜ length (now site) ≡ siteSize ⌝ }
+    ensures { λ r. ⌜ r ≡ headOf (now (site .entry)) .fast ⌝ }
+{
+    Set::read(site, Site::FAST)
+}
+
+pub fn set_count(site: &mut [u8], count: u8)
+    requires { ⌜ length (now site) ≡ siteSize ⌝ }
+    ensures { λ _. ⌜ now (site .exit) ≡ splice (now (site .entry)) countPlace (bytes 1 count) ⌝ }
+{
+    wire::put1(site, Site::COUNT, count);
+}
+
+pub fn set_position(site: &mut [u8], position: u16)
+    requires { ⌜ length (now site) ≡ siteSize ⌝ }
+    ensures { λ _. ⌜ now (site .exit) ≡ splice (now (site .entry)) positionPlace (bytes 2 position) ⌝ }
+{
+    wire::put2(site, Site::POSITION, position);
+}
+
+pub fn set_received(site: &mut [u8], set: Set)
+    requires { ⌜ length (now site) ≡ siteSize ⌝ }
+    ensures { λ _. ⌜ now (site .exit) ≡ writeSet (now (site .entry)) receivedPlace set ⌝ }
+{
+    set.write(site, Site::RECEIVED);
+}
+
+pub fn set_pending(site: &mut [u8], set: Set)
+    requires { ⌜ length (now site) ≡ siteSize ⌝ }
+    ensures { λ _. ⌜ now (site .exit) ≡ writeSet (now (site .entry)) pendingPlace set ⌝ }
+{
+    set.write(site, Site::PENDING);
+}
+
+pub fn set_fast(site: &mut [u8], set: Set)
+    requires { ⌜ length (now site) ≡ siteSize ⌝ }
+    ensures { λ _. ⌜ now (site .exit) ≡ writeSet (now (site .entry)) fastPlace set ⌝ }
+{
+    set.write(site, Site::FAST);
+}
+
+// The site waits with the sets that it proposed.
+pub fn wait_with(site: &mut [u8], nc: Set, c: Set)
+    requires { ⌜ length (now site) ≡ siteSize ⌝ }
+    ensures { λ _. ⌜ now (site .exit) ≡ waitsWith (now (site .entry)) nc c ⌝ }
+{
+    wire::put1(site, Site::PHASE, 1);
+    nc.write(site, Site::NC);
+    c.write(site, Site::C);
 }
 
 // The place of what a sender acknowledged in a round.

@@ -16,10 +16,10 @@ use Rattle.refusals.specs.declared.Verdict.the-variants.{Taken, Refused}
 use Rattle.refusals.specs.declared.Refusal.the-variants.{Range, Role, Disabled, ThirdEntry, LastRound}
 use Rattle.theory.specs.Sets as theory
 use Rattle.theory.specs.Sets.{pick, any}
-use Rattle.theory.specs.Counting.{both, right, never}
+use Rattle.theory.specs.Counting.{both, left, never}
 use Rattle.sets.specs.declared.Set.{Set}
-use Rattle.sets.specs.Sets.{capacity, inSet, setOf, unionOf, withoutOf, withinOf}
-use Rattle.sets.proofs.Laws.{in-union, in-without, word-lt}
+use Rattle.sets.specs.Sets.{capacity, inSet, setOf, withoutOf, withinOf}
+use Rattle.sets.proofs.Laws.{in-without, word-lt}
 use Rattle.table.specs.declared.SiteTable.{SiteTable}
 use Rattle.table.specs.Table.{maxSites, faultyOf}
 use Rattle.table.proofs.Laws.{good-limits}
@@ -36,13 +36,13 @@ use Rattle.protocol.specs.World.{World, turn, judge, step, settle, put, append,
 use Rattle.register.specs.declared.Command.{Command}
 use Rattle.system.specs.Dash.{dash, lastRound}
 use Rattle.layout.specs.declared.Proposal.{Proposal}
-use Rattle.layout.specs.declared.Site.{Site}
 use Rattle.layout.specs.Layout.{siteRounds, headOf, view}
 use Rattle.layout.specs.Good.{Good, Holds}
 use Rattle.layout.specs.Step.{settled}
 use Rattle.site.specs.declared.Turn.{Turn}
 use Rattle.site.specs.declared.Turn.the-variants as turns
-use Rattle.site.specs.Steps.{undeliveredOf, newOf, TookTurn, Turned, answerTo}
+use Rattle.site.specs.Steps.{undeliveredOf, TookTurn, Turned, answerTo}
+use Rattle.rounds.specs.Rounds.{Kept}
 use Rattle.entries.specs.declared.Entry.{Entry}
 use Rattle.entries.specs.Entries.{entrySize, logTo, writeEntry, viewEntry, inRangeOf}
 use Rattle.entries.proofs.Bytes.{Fits}
@@ -58,48 +58,37 @@ use Rattle.moves.proofs.Words.{undelivered-word, unacknowledged-word, p
 
 -- ---- the site's part
 
--- What is undelivered is pending or new, and what is new is undelivered.
-new-or-pending : (r d p : Bool) → (r && not d) ≡ true → (p ≡ true) ⊎ ((r && not (d || p)) ≡ true)
-new-or-pending r d true h = inl refl
-new-or-pending r true false h = inr h
-new-or-pending r false false h = inr h
-
-new-undelivered : (r d p : Bool) → (r && not (d || p)) ≡ true → (r && not d) ≡ true
-new-undelivered r true p h = h
-new-undelivered r false true h = absurd (never false (right r false h) refl)
-new-undelivered r false false h = h
-
-in-new : (h : Site) (m : ℕ) → inSet (newOf h) m ≡ (inSet (h .received) m && not (inSet (h .delivered) m || inSet (h .pending) m))
-in-new h m =
-    in-without (h .received) (unionOf (h .delivered) (h .pending)) m
-    ∙ ap (λ (x : Bool). inSet (h .received) m && not x) (in-union (h .delivered) (h .pending) m)
+-- What is undelivered is pending or new.
+new-or-pending : (u p : Bool) → u ≡ true → (p ≡ true) ⊎ ((u && not p) ≡ true)
+new-or-pending u true h = inl refl
+new-or-pending u false h = inr (both u true h refl)
 
 -- Where what is pending is free of conflicts, the test of the new commands by the rows is that of all that is undelivered.
-free-new : (t : SiteTable) (bytes : List ℕ) (h : Site) → free (dash t (commandsOf bytes)) (inSet (h .pending)) ≡ true
-    → freeBetween (conflictRows bytes) (inSet (newOf h)) (inSet (undeliveredOf h)) ≡ free (dash t (commandsOf bytes)) (inSet (undeliveredOf h))
-free-new t bytes h calm =
-    free-grown bytes (inSet (h .pending)) (inSet (newOf h)) (inSet (undeliveredOf h)) (free-rows bytes t (inSet (h .pending)) ∙ calm)
-    (λ m k.
-    in-without (h .received) (h .delivered) m
-    ∙ new-undelivered (inSet (h .received) m) (inSet (h .delivered) m) (inSet (h .pending) m) (sym (in-new h m) ∙ k))
-    (λ m k.
-    ⊎-map (λ e. e) (λ e. in-new h m ∙ e)
-    (new-or-pending (inSet (h .received) m) (inSet (h .delivered) m) (inSet (h .pending) m) (sym (in-without (h .received) (h .delivered) m) ∙ k)))
-    ∙ free-rows bytes t (inSet (undeliveredOf h))
+free-new : (t : SiteTable) (bytes : List ℕ) (u p : Set) → free (dash t (commandsOf bytes)) (inSet p) ≡ true
+    → freeBetween (conflictRows bytes) (inSet (withoutOf u p)) (inSet u) ≡ free (dash t (commandsOf bytes)) (inSet u)
+free-new t bytes u p calm =
+    free-grown bytes (inSet p) (inSet (withoutOf u p)) (inSet u) (free-rows bytes t (inSet p) ∙ calm)
+    (λ m k. left (inSet u m) (not (inSet p m)) (sym (in-without u p m) ∙ k))
+    (λ m k. ⊎-map (λ e. e) (λ e. in-without u p m ∙ e) (new-or-pending (inSet u m) (inSet p m) k))
+    ∙ free-rows bytes t (inSet u)
 
--- The conflict test by the rows and the number of entries by the log are those that the turn asks for.
-pub turned-by : (rows log : List ℕ) (entries i : ℕ) (b : List ℕ) {h : Site} {u n v : Set} {f : Bool} {own : ℕ} {r : Turn} {after : List ℕ} → h ≡ headOf b
-    → u ≡ withoutOf (h .received) (h .delivered) → v ≡ unionOf (h .delivered) (h .pending) → n ≡ withoutOf (h .received) v
-    → f ≡ freeBetween rows (inSet n) (inSet u) → own ≡ recovery.entries i (h .round) (logTo log entries)
-    → TookTurn f own b r after → TurnedBy rows log entries i r b after
-turned-by rows log entries i b {h = h} eh eu ev en ef eo took =
-    λ t book er g calm.
+not-not : (x : Bool) → not (not x) ≡ x
+not-not true = refl
+not-not false = refl
+
+-- The conflict test by the rows and the number of entries by what is kept of the log are those that the turn asks for.
+pub turned-by : (rows kept : List ℕ) (i : ℕ) (b : List ℕ) {u p n : Set} {f third : Bool} {round : ℕ} {r : Turn} {after : List ℕ}
+    → u ≡ undeliveredOf (headOf b) → p ≡ headOf b .pending → n ≡ withoutOf u p → f ≡ freeBetween rows (inSet n) (inSet u) → round ≡ headOf b .round
+    → ((t : SiteTable) (rows log : List ℕ) (k : ℕ) → Kept t rows log k kept → third ≡ not (ltb (recovery.entries i round (logTo log k)) 2))
+    → TookTurn f third b r after → TurnedBy rows kept i r b after
+turned-by rows kept i b {u} {p} eu ep en ef er et took =
+    λ t book log entries ec ek g calm.
     took t (commandsOf book) i (logTo log entries) g
-    (ef ∙ (λ k. freeBetween (er k) (inSet ((en ∙ ap (withoutOf (h .received)) ev) k)) (inSet (eu k)))
-    ∙ (λ k. freeBetween (conflictRows book) (inSet (newOf (eh k))) (inSet (undeliveredOf (eh k))))
-    ∙ free-new t book (headOf b) calm
-    ∙ (λ k. free (dash t (commandsOf book)) (λ m. in-without (headOf b .received) (headOf b .delivered) m k)))
-    (eo ∙ (λ k. recovery.entries i (eh k .round) (logTo log entries)))
+    (ef
+    ∙ (λ k. freeBetween (ec k) (inSet (en k)) (inSet u))
+    ∙ free-new t book u p (ap (λ (x : Set). free (dash t (commandsOf book)) (inSet x)) ep ∙ calm)
+    ∙ ap (free (dash t (commandsOf book))) (ap inSet eu ∙ (λ k m. in-without (headOf b .received) (headOf b .delivered) m k)))
+    (ap not (et t rows log entries ek) ∙ not-not (ltb (recovery.entries i _ (logTo log entries)) 2) ∙ (λ k. ltb (recovery.entries i (er k) (logTo log entries)) 2))
 
 -- ---- what an answer tells
 
@@ -177,10 +166,11 @@ module _ (t : SiteTable) (bytes rows : List ℕ) (b : Buffers) (i : ℕ) (ready 
         subst (λ (s : protocol.Site (dash t book)). knownTo (length book) (some (undelivered (dash t book) s)) ≡ true) (sym at)
         (undelivered-known t book (siteAt (b .sites) i) part-good part-small)
 
-    module _ {f : Bool} (ef : f ≡ faultyOf t i) (hf : f ≡ false) {r : Turn} {sites : List ℕ} (h : AtSite i (TurnedBy rows (b .log) (b .entries) i r) (b .sites) sites) where
+    module _ {f : Bool} (ef : f ≡ faultyOf t i) (hf : f ≡ false) {r : Turn} {sites kept : List ℕ} (ek : Kept t rows (b .log) (b .entries) kept)
+        (h : AtSite i (TurnedBy rows kept i r) (b .sites) sites) where
       turned : Turned t book i (world .log) (world .site i) r (h .new)
       turned =
-          subst (λ (s : protocol.Site (dash t book)). Turned t book i (world .log) s r (h .new)) (sym at) (h .did t bytes (ready .conflicts) part-good (ready .pending i inside))
+          subst (λ (s : protocol.Site (dash t book)). Turned t book i (world .log) s r (h .new)) (sym at) (h .did t bytes (b .log) (b .entries) (ready .conflicts) ek part-good (ready .pending i inside))
 
       judged : judge (dash t book) world (turn i) ≡ verdict (forTurn (dash t book) i (world .site i) (world .log))
       judged =

@@ -19,6 +19,7 @@ use Rattle.layout.specs.Layout.{view}
 use Rattle.layout.specs.Good.{Good}
 use Rattle.site.specs.declared.Turn.{Turn}
 use Rattle.site.specs.Steps.{Turned}
+use Rattle.rounds.specs.Rounds.{Kept}
 use Rattle.entries.specs.Entries.{entrySize, logTo}
 use Rattle.sent.specs.Sent.{maxAcknowledgments}
 use Rattle.world.specs.World.{Buffers, siteAt, GoodWorld, worldOf, Outcome}
@@ -38,10 +39,10 @@ pub record Ready (t : SiteTable) (book rows : List ℕ) (b : Buffers) (u : Step)
   -- and for the acknowledgments that there are after the step
   pub acks : (j r : ℕ) → length (step (dash t (commandsOf book)) (worldOf t (commandsOf book) b) u .acks j r) ≤ maxAcknowledgments
 
--- The turn of a site with the bytes b, by the rows of a book and the first entries of a log, where what is pending is free of conflicts.
-abbrev pub TurnedBy : List ℕ → List ℕ → ℕ → ℕ → Turn → List ℕ → List ℕ → Type 0
-TurnedBy rows log entries i r b after =
-    (t : SiteTable) (book : List ℕ) → rows ≡ conflictRows book → Good (t .sites) (length (commandsOf book)) b
+-- The turn of a site with the bytes b, by the rows of a book and what is kept of a log, where what is pending is free of conflicts.
+abbrev pub TurnedBy : List ℕ → List ℕ → ℕ → Turn → List ℕ → List ℕ → Type 0
+TurnedBy rows kept i r b after =
+    (t : SiteTable) (book log : List ℕ) (entries : ℕ) → rows ≡ conflictRows book → Kept t rows log entries kept → Good (t .sites) (length (commandsOf book)) b
     → free (dash t (commandsOf book)) (view t (commandsOf book) b .pending) ≡ true
     → Turned t (commandsOf book) i (logTo log entries) (view t (commandsOf book) b) r after
 

@@ -5,11 +5,12 @@ ghost use mathlib.Core.List.{List};
 ghost use Prim.Native.Nat.{_+_, _*_, _≤_, _<_, ℕ};
 ghost use lib.ListN.{length};
 ghost use Rattle.sets.specs.Sets.{capacity};
+ghost use Rattle.table.specs.Table.{maxSites};
 ghost use Rattle.commands.specs.Book.{commandsOf};
 ghost use Rattle.protocol.specs.World as protocol;
 ghost use Rattle.layout.specs.Layout.{siteSize, headOf};
 ghost use Rattle.site.specs.Steps.{ReadEntry};
-ghost use Rattle.entries.specs.Entries.{entrySize};
+ghost use Rattle.rounds.specs.Rounds.{keptRounds, keptWords, Kept};
 ghost use Rattle.world.specs.World.{siteAt, Outcome};
 ghost use Rattle.world.specs.Parts.{lent, AtSite};
 ghost use Rattle.moves.specs.Moves.{Ready, TurnedBy, LogRead};
@@ -21,21 +22,21 @@ use site::Turn;
 use table::SiteTable;
 use world::Stepped;
 
-// Site i takes its turn, by the rows of conflicts and the first entries of the log. What is pending has no conflict, so only what is new is tested.
-fn turn_at(sites: &mut [u8], log: &[u8], entries: usize, rows: &[u64], i: usize) -> Turn
-    requires { ⌜ (i * siteSize + siteSize ≤ length (now sites)) × (entries * entrySize ≤ length (now log)) × (length (now rows) ≡ capacity) ⌝ }
-    ensures { λ r. ⌜ AtSite i (TurnedBy (now (rows .entry)) (now (log .entry)) entries i r) (now (sites .entry)) (now (sites .exit)) ⌝ }
+// Site i takes its turn, by the rows of conflicts and what is kept of the log.
+fn turn_at(sites: &mut [u8], kept: &[u64], rows: &[u64], i: usize) -> Turn
+    requires { ⌜ (i * siteSize + siteSize ≤ length (now sites)) × (length (now kept) ≡ keptWords) × (length (now rows) ≡ capacity) × (i < maxSites)
+        × (headOf (siteAt (now sites) i) .round < keptRounds) ⌝ }
+    ensures { λ r. ⌜ AtSite i (TurnedBy (now (rows .entry)) (now (kept .entry)) i r) (now (sites .entry)) (now (sites .exit)) ⌝ }
 {
     let from = i * Site::SIZE;
     let to = from + Site::SIZE;
-    let header = Site::read(&sites[from..to]);
-    let undelivered = header.received.without(header.delivered);
-    let new = header
-        .received
-        .without(header.delivered.union(header.pending));
+    let undelivered = site::undelivered(&sites[from..to]);
+    let pending = layout::pending(&sites[from..to]);
+    let new = undelivered.without(pending);
     let free = calm::is_free_between(rows, new, undelivered);
-    let own = entries::entries_of(log, entries, i, header.round as usize);
-    site::take_turn(&mut sites[from..to], free, own)
+    let round = layout::round(&sites[from..to]);
+    let third = rounds::third(kept, i, round as usize);
+    site::take_turn(&mut sites[from..to], free, third)
 }
 
 // 07: site i takes its turn. What it sends is kept, and what it proposes is appended to the log.
@@ -44,11 +45,13 @@ pub fn turn(
     log: &mut [u8],
     sent: &mut [u8],
     entries: usize,
+    kept: &[u64],
     table: SiteTable,
     rows: &[u64],
     i: usize,
 ) -> Stepped
-    requires { ⌜ ((book : List ℕ) × Ready table book (now rows) (lent (now sites) (now log) entries (now sent)) (protocol.turn i)) ⌝ }
+    requires { ⌜ ((book : List ℕ) × Ready table book (now rows) (lent (now sites) (now log) entries (now sent)) (protocol.turn i))
+        × Kept table (now rows) (now log) entries (now kept) ⌝ }
     ensures { λ r. ⌜ ((book : List ℕ) → Ready table book (now (rows .entry)) (lent (now (sites .entry)) (now (log .entry)) entries (now (sent .entry))) (protocol.turn i)
         → Outcome table (commandsOf book) (protocol.turn i) (lent (now (sites .entry)) (now (log .entry)) entries (now (sent .entry)))
         (r .verdict) (lent (now (sites .exit)) (now (log .exit)) (r .entries) (now (sent .exit)))) ⌝ }
@@ -66,7 +69,7 @@ pub fn turn(
         };
     }
     let round = world::round_of(&sites[..], i);
-    let answer = turn_at(sites, &log[..], entries, rows, i);
+    let answer = turn_at(sites, kept, rows, i);
     match answer {
         Turn::Refused(refusal) => Stepped {
             verdict: Verdict::Refused(refusal),

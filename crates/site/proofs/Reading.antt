@@ -8,16 +8,16 @@ use native.Mathlib.Numerals.{add-one}
 use lib.ListN.{getD, take}
 use Rattle.refusals.specs.declared.Refusal.the-variants.{Disabled, ThirdEntry}
 use Rattle.refusals.specs.declared.Verdict.the-variants.{Taken, Refused}
-use Rattle.wire.specs.Wire.{splice}
+use Rattle.wire.specs.Wire.{bytes, splice}
 use Rattle.sets.specs.Sets.{inSet}
 use Rattle.protocol.specs.System.{granted, _else_⨾_, verdict}
 use Rattle.protocol.specs.Site as protocol
 use Rattle.system.specs.Dash.{dash}
-use Rattle.layout.specs.declared.Site.{Site}
-use Rattle.layout.specs.Layout.{headOf, headBytes, heardOf, phaseSeen, view}
+use Rattle.layout.specs.Layout.{positionPlace, headOf, heardOf, phaseSeen, view}
 use Rattle.layout.proofs.Header.{fit}
+use Rattle.layout.proofs.Fields.{begins, withPosition, position-written}
 use Rattle.layout.proofs.Finish.{finish, refused, taken}
-use Rattle.site.specs.Steps.{withPosition, ReadEntry}
+use Rattle.site.specs.Steps.{ReadEntry}
 
 module _ (b : List ℕ) (small : (i : ℕ) → getD b i 0 < 256) (left third : Bool) where
   pub nothing-left : left ≡ false → ReadEntry left third b (Refused Disabled) b
@@ -30,15 +30,15 @@ module _ (b : List ℕ) (small : (i : ℕ) → getD b i 0 < 256) (left third : B
   third-left e h t book log g el et =
       refused t book _ ThirdEntry (λ i. verdict ((sym el ∙ e) i else Disabled ⨾ (sym et ∙ ap not h) i else ThirdEntry ⨾ granted)) g small
 
-  pub entry-read : {h h′ : Site} {n : ℕ} {b′ : List ℕ} → left ≡ true → third ≡ false → h ≡ headOf b → n ≡ headOf b .position + 1 → n < 65536 → h′ ≡ withPosition h n
-      → b′ ≡ splice b 0 (headBytes h′) → ((i : ℕ) → getD b′ i 0 < 256) → ReadEntry left third b Taken b′
+  pub entry-read : {n : ℕ} {b′ : List ℕ} → left ≡ true → third ≡ false → n ≡ headOf b .position + 1 → n < 65536 → b′ ≡ splice b positionPlace (bytes 2 n)
+      → ((i : ℕ) → getD b′ i 0 < 256) → ReadEntry left third b Taken b′
   unfolding headOf
-  entry-read {n = n} e h eh en l er eb small′ t book log g el et =
+  entry-read {n = n} e h en l eb small′ t book log g el et =
       let f = fit b small (g .size) in
       let o = g .head in
       let k = headOf b in
       taken t book _ (λ i. verdict ((sym el ∙ e) i else Disabled ⨾ (sym et ∙ ap not h) i else ThirdEntry ⨾ granted))
-      (finish t book b (withPosition k n) (g .size) (eb ∙ ap (λ (x : Site). splice b 0 (headBytes x)) (er ∙ ap (λ (x : Site). withPosition x n) eh)) small′
+      (finish t book b (withPosition k n) (g .size) (eb ∙ position-written k b (begins b g small) n) small′
       (record {
         round = f .round;
         deliveries = f .deliveries;

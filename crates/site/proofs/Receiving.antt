@@ -8,9 +8,9 @@ use native.Mathlib.Omega.{arith}
 use lib.Dec.{eqb}
 use lib.ListN.{length, getD}
 use Rattle.theory.specs.Sets.{only}
-use Rattle.wire.specs.Wire.{splice}
+use Rattle.wire.specs.Wire.{bytes}
 use Rattle.sets.specs.declared.Set.{Set}
-use Rattle.sets.specs.Sets.{inSet, emptyOf, withOf, unionOf, withinOf, readSet}
+use Rattle.sets.specs.Sets.{inSet, emptyOf, withOf, unionOf, withinOf, readSet, writeSet}
 use Rattle.sets.proofs.Laws.{in-empty, in-with, in-union, union-fits, length-write}
 use Rattle.table.specs.declared.SiteTable.{SiteTable}
 use Rattle.table.specs.Table.{maxSites}
@@ -18,17 +18,22 @@ use Rattle.register.specs.declared.Command.{Command}
 use Rattle.protocol.specs.Site as protocol
 use Rattle.system.specs.Dash.{dash}
 use Rattle.layout.specs.declared.Site.{Site}
-use Rattle.layout.specs.Layout.{siteSize, registerPlace, deliveriesPlace, siteRounds, cell, slot, headOf, headBytes, heardOf, heardMore, phaseSeen, ledgerOf, view}
+use Rattle.layout.specs.Layout.{siteSize, receivedPlace, registerPlace, deliveriesPlace, siteRounds, cell, slot, headOf, heardOf, heardMore, phaseSeen, ledgerOf, view}
 use Rattle.layout.specs.Good.{Fit, GoodHead, Holds}
 use Rattle.layout.proofs.Header.{fit}
+use Rattle.layout.proofs.Fields.{Begins, begins, begins-still, withReceived, received-written}
 use Rattle.layout.proofs.Agree.{agree-part, register-agree, deliveries-agree}
 use Rattle.layout.proofs.Senders.{heard-set}
 use Rattle.layout.proofs.Tables.{within-empty, within-with, within-union, heard-apart, tables-heard}
 use Rattle.layout.proofs.Finish.{finish}
-use Rattle.site.specs.Steps.{withReceived, Received, Commanded, Heard}
+use Rattle.site.specs.Steps.{Received, Commanded, Heard}
+
+-- The header with more received.
+abbrev more : Site → Set → Site
+more h x = withReceived h (unionOf (h .received) x)
 
 module _ (h : Site) (x : Set) where
-  received-fit : Fit h → x .bits < 2 ^ 64 → Fit (withReceived h x)
+  received-fit : Fit h → x .bits < 2 ^ 64 → Fit (more h x)
   received-fit f l =
       record {
         round = f .round;
@@ -42,7 +47,7 @@ module _ (h : Site) (x : Set) where
         c = f .c;
       }
 
-  received-good : (commands : ℕ) → GoodHead commands h → withinOf x commands ≡ true → GoodHead commands (withReceived h x)
+  received-good : (commands : ℕ) → GoodHead commands h → withinOf x commands ≡ true → GoodHead commands (more h x)
   received-good commands g w =
       record {
         first = g .first;
@@ -58,11 +63,12 @@ module _ (h : Site) (x : Set) where
       }
 
 module _ (b : List ℕ) (small : (i : ℕ) → getD b i 0 < 256) (size : length b ≡ siteSize) (x : Set) (l : x .bits < 2 ^ 64) where
-  pub receive-holds : {h h′ : Site} {b′ : List ℕ} → h ≡ headOf b → h′ ≡ withReceived h x → b′ ≡ splice b 0 (headBytes h′) → ((i : ℕ) → getD b′ i 0 < 256)
+  pub receive-holds : {r u : Set} {b′ : List ℕ} → r ≡ headOf b .received → u ≡ unionOf r x → b′ ≡ writeSet b receivedPlace u → ((i : ℕ) → getD b′ i 0 < 256)
       → Received x b b′
   unfolding headOf
-  receive-holds {h} {h′} {b′} eh er eb small′ t book g w =
-      finish t book b (withReceived (headOf b) x) size (eb ∙ ap (λ (k : Site). splice b 0 (headBytes k)) (er ∙ ap (λ (k : Site). withReceived k x) eh)) small′
+  receive-holds er eu eb small′ t book g w =
+      finish t book b (more (headOf b) x) size
+      (eb ∙ ap (writeSet b receivedPlace) (eu ∙ ap (λ (s : Set). unionOf s x) er) ∙ received-written (headOf b) b (begins b g small) (unionOf (headOf b .received) x)) small′
       (received-fit (headOf b) x (fit b small size) l) (received-good (headOf b) x (length book) (g .head) w) (g .tables)
       (λ i.
       record {
@@ -90,12 +96,18 @@ module _ (b : List ℕ) (small : (i : ℕ) → getD b i 0 < 256) (size : length 
           deliveries = deliveries-agree n (agree-part deliveriesPlace (slot n) a (omega arith) (omega arith)) i;
         }
 
-    pub hear-holds : {h h′ : Site} {b₁ b′ : List ℕ} → h ≡ headOf b → b₁ ≡ heardMore b j r x → h′ ≡ withReceived h x → b′ ≡ splice b₁ 0 (headBytes h′)
+    -- The header is as it was where the acknowledgment is kept.
+    heard-begins : Begins (headOf b) b → Begins (headOf b) (heardMore b j r x)
+    unfolding writeSet
+    heard-begins e = begins-still b (headOf b) (cell j r) (bytes 8 (unionOf (readSet b (cell j r)) x .bits)) (omega arith) (omega arith) e
+
+    pub hear-holds : {k u : Set} {b₁ b′ : List ℕ} → k ≡ headOf b .received → b₁ ≡ heardMore b j r x → u ≡ unionOf k x → b′ ≡ writeSet b₁ receivedPlace u
         → ((i : ℕ) → getD b′ i 0 < 256) → Heard j r x b b′
     unfolding headOf
-    hear-holds eh e₁ er eb small′ t book g hs w =
-        finish t book (heardMore b j r x) (withReceived (headOf b) x) heard-length
-        (eb ∙ (λ i. splice (e₁ i) 0 (headBytes ((er ∙ ap (λ (k : Site). withReceived k x) eh) i)))) small′
+    hear-holds ek e₁ eu eb small′ t book g hs w =
+        finish t book (heardMore b j r x) (more (headOf b) x) heard-length
+        (eb ∙ (λ i. writeSet (e₁ i) receivedPlace ((eu ∙ ap (λ (s : Set). unionOf s x) ek) i))
+        ∙ received-written (headOf b) (heardMore b j r x) (heard-begins (begins b g small)) (unionOf (headOf b .received) x)) small′
         (received-fit (headOf b) x (fit b small size) l) (received-good (headOf b) x (length book) (g .head) w)
         (tables-heard b small size j r x l hj h1 h33 (t .sites) (length book) (headOf b .deliveries) (g .head .room) hs w (g .tables))
         (λ i.

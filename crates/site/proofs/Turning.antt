@@ -1,21 +1,22 @@
 -- A turn: the code's choice is the protocol's verdict, and the header after it is that of the protocol's site.
 -- Assumes nothing.
-use mathlib.Core.Path.{_≡_, refl, sym, ap, _∙_}
+use mathlib.Core.Path.{_≡_, refl, sym, ap, subst, _∙_}
 use mathlib.Core.Bool.{Bool, true, false, _&&_, _||_, not}
-use mathlib.Core.Logic.{_⊎_, inl, inr}
+use mathlib.Core.Logic.{_⊎_, inl, inr, ⊎-elim}
 use mathlib.Core.List.{List}
 use Prim.Native.Nat.{ℕ, _^_, _≤_, _<_}
+use native.Mathlib.Omega.{arith}
 use lib.Dec.{leb, ltb}
 use lib.ListN.{length, getD}
+use borrow.Author.Tests.{lt-ltb, le-ltb, le-leb, lt-leb}
 use Rattle.refusals.specs.declared.Refusal.the-variants.{Disabled, ThirdEntry, LastRound}
 use Rattle.refusals.specs.declared.Verdict.{Verdict}
 use Rattle.refusals.specs.declared.Verdict.the-variants.{Taken, Refused}
 use Rattle.theory.specs.Sets.{pick, any}
 use Rattle.theory.specs.Counting.{never, same-test, lt-or-le, any-some, any-at, any-ext}
-use Rattle.wire.specs.Wire.{splice}
 use Rattle.sets.specs.declared.Set.{Set}
-use Rattle.sets.specs.Sets.{capacity, inSet, setOf, unionOf, withoutOf, isEmptyOf, withinOf}
-use Rattle.sets.proofs.Laws.{in-union, in-without, in-above, union-fits, without-fits, within-at, set-of-members}
+use Rattle.sets.specs.Sets.{capacity, inSet, setOf, withoutOf, isEmptyOf, withinOf, writeSet}
+use Rattle.sets.proofs.Laws.{in-without, in-above, without-fits, within-at, set-of-members}
 use Rattle.table.specs.declared.SiteTable.{SiteTable}
 use Rattle.register.specs.declared.Command.{Command}
 use Rattle.protocol.specs.System.{granted, _else_⨾_, verdict}
@@ -27,56 +28,59 @@ use Rattle.layout.specs.declared.Proposal.{Proposal}
 use Rattle.layout.specs.declared.Phase.{Phase}
 use Rattle.layout.specs.declared.Phase.the-variants.{Acknowledging, Waiting}
 use Rattle.layout.specs.declared.Site.{Site}
-use Rattle.layout.specs.Layout.{headOf, headBytes, heardOf, phaseSeen, siteOf, view}
+use Rattle.layout.specs.Layout.{pendingPlace, headOf, heardOf, phaseSeen, isWaiting, waitsWith, siteOf, view}
 use Rattle.layout.specs.Good.{Fit, GoodHead, Good, Holds}
 use Rattle.layout.specs.Step.{settled}
 use Rattle.layout.proofs.Header.{fit}
+use Rattle.layout.proofs.Fields.{begins, withPending, withPhase, pending-written, waiting-written}
 use Rattle.layout.proofs.Tables.{within-without}
-use Rattle.layout.proofs.Finish.{finish}
+use Rattle.layout.proofs.Finish.{finish, unchanged}
 use Rattle.site.specs.declared.Turn.{Turn}
 use Rattle.site.specs.declared.Turn.the-variants as turn
-use Rattle.site.specs.Steps.{undeliveredOf, newOf, afterTurn, isIdle, chosen, answerTo, Turned}
+use Rattle.site.specs.Steps.{undeliveredOf, newOf, chosen, answerTo, Turned}
 
 -- ---- the paths of the code
 
--- The header after an answer that is known.
-pub after-of : (h : Site) {r r′ : Turn} → r ≡ r′ → afterTurn h r′ ≡ afterTurn h r
-after-of h e = ap (afterTurn h) (sym e)
+pub undelivered-is : (h : Site) {r d u : Set} → r ≡ h .received → d ≡ h .delivered → u ≡ withoutOf r d → u ≡ undeliveredOf h
+undelivered-is h er ed eu = eu ∙ (λ i. withoutOf (er i) (ed i))
 
--- What the code makes of what is new, and its test.
-module _ (h : Site) {x y : Set} (ex : x ≡ unionOf (h .delivered) (h .pending)) (ey : y ≡ withoutOf (h .received) x) where
-  pub new-is : y ≡ newOf h
-  new-is = ey ∙ ap (withoutOf (h .received)) ex
-
-  pub new-test : {e v : Bool} → e ≡ isEmptyOf y → e ≡ v → isEmptyOf (newOf h) ≡ v
-  new-test ee ev = sym (ee ∙ ap isEmptyOf new-is) ∙ ev
-
-module _ (h : Site) (free : Bool) (own : ℕ) where
-  pub choose-waiting : {p : Proposal} → h .phase ≡ Waiting p → turn.Refused Disabled ≡ chosen h free own
+module _ (h : Site) (free third : Bool) {w : Bool} (ew : w ≡ isWaiting (h .phase)) where
+  pub choose-waiting : w ≡ true → turn.Refused Disabled ≡ chosen h free third
   unfolding chosen
-  choose-waiting e = simp e
+  choose-waiting e = let is : isWaiting (h .phase) ≡ true = sym ew ∙ e in simp is
 
-  pub choose-nothing : h .phase ≡ Acknowledging → isEmptyOf (newOf h) ≡ true → turn.Refused Disabled ≡ chosen h free own
-  unfolding chosen
-  choose-nothing e n = simp (e, n)
+  -- What the code makes of the sets.
+  module _ (e : w ≡ false) {u p n : Set} {v : Bool} (eu : u ≡ undeliveredOf h) (ep : p ≡ h .pending) (en : n ≡ withoutOf u p) (ev : v ≡ isEmptyOf n) where
+    new-is : n ≡ newOf h
+    new-is = en ∙ (λ i. withoutOf (eu i) (ep i))
 
-  pub choose-free : {u : Set} → h .phase ≡ Acknowledging → isEmptyOf (newOf h) ≡ false → free ≡ true → u ≡ undeliveredOf h → turn.Acknowledged u ≡ chosen h free own
-  unfolding chosen
-  choose-free e n f eu = simp (e, n, f, eu)
+    tests : {x : Bool} → v ≡ x → (isWaiting (h .phase) ≡ false) × (isEmptyOf (newOf h) ≡ x)
+    tests ex = (sym ew ∙ e, ap isEmptyOf (sym new-is) ∙ sym ev ∙ ex)
 
-  pub choose-third : h .phase ≡ Acknowledging → isEmptyOf (newOf h) ≡ false → free ≡ false → ltb own 2 ≡ false → turn.Refused ThirdEntry ≡ chosen h free own
-  unfolding chosen
-  choose-third e n f o = simp (e, n, f, o)
+    pub choose-nothing : v ≡ true → turn.Refused Disabled ≡ chosen h free third
+    unfolding chosen
+    choose-nothing ex = let t = tests ex in simp (t .0, t .1)
 
-  pub choose-last : h .phase ≡ Acknowledging → isEmptyOf (newOf h) ≡ false → free ≡ false → ltb own 2 ≡ true → leb (h .round) lastRound ≡ false
-      → turn.Refused LastRound ≡ chosen h free own
-  unfolding chosen
-  choose-last e n f o r = simp (e, n, f, o, r)
+    module _ (ex : v ≡ false) where
+      pub choose-free : free ≡ true → turn.Acknowledged u ≡ chosen h free third
+      unfolding chosen
+      choose-free f = let t = tests ex in simp (t .0, t .1, f, eu)
 
-  pub choose-propose : {u n′ : Set} → h .phase ≡ Acknowledging → isEmptyOf (newOf h) ≡ false → free ≡ false → ltb own 2 ≡ true → leb (h .round) lastRound ≡ true
-      → u ≡ undeliveredOf h → n′ ≡ newOf h → turn.Proposed u (record { nc = h .pending; c = n′ }) ≡ chosen h free own
-  unfolding chosen
-  choose-propose e n f o r eu en = simp (e, n, f, o, r, eu, en)
+      pub choose-third : free ≡ false → third ≡ true → turn.Refused ThirdEntry ≡ chosen h free third
+      unfolding chosen
+      choose-third f o = let t = tests ex in simp (t .0, t .1, f, o)
+
+      module _ (f : free ≡ false) (o : third ≡ false) {r : ℕ} (er : r ≡ h .round) where
+        pub choose-last : lastRound < r → turn.Refused LastRound ≡ chosen h free third
+        unfolding chosen
+        choose-last l = let t = tests ex in let k : leb (h .round) lastRound ≡ false = lt-leb (h .round) lastRound (omega arith) in simp (t .0, t .1, f, o, k)
+
+        pub choose-propose : r ≤ lastRound → turn.Proposed u (record { nc = p; c = n }) ≡ chosen h free third
+        unfolding chosen
+        choose-propose l =
+            let t = tests ex in
+            let k : leb (h .round) lastRound ≡ true = le-leb (h .round) lastRound (omega arith) in
+            (λ i. turn.Proposed (eu i) (record { nc = ep i; c = new-is i })) ∙ simp (t .0, t .1, f, o, k)
 
 -- ---- the choice is the verdict
 
@@ -87,20 +91,30 @@ answered Taken false u p = turn.Proposed u p
 answered (Refused r) free u p = turn.Refused r
 
 -- By the tests alone.
-by-tests : (p : Phase) (empty free few low : Bool) (u : Set) (q : Proposal)
-    → pick (isIdle p) (pick empty (turn.Refused Disabled) (pick free (turn.Acknowledged u) (pick few (pick low (turn.Proposed u q) (turn.Refused LastRound)) (turn.Refused ThirdEntry)))) (turn.Refused Disabled)
-    ≡ answered (verdict (protocol.isAcknowledging (phaseSeen p) else Disabled ⨾ not empty else Disabled ⨾ free || few else ThirdEntry ⨾ free || low else LastRound ⨾ granted)) free u q
+by-tests : (p : Phase) (empty free third low : Bool) (u : Set) (q : Proposal)
+    → pick (isWaiting p) (turn.Refused Disabled) (pick empty (turn.Refused Disabled) (pick free (turn.Acknowledged u) (pick third (turn.Refused ThirdEntry) (pick low (turn.Proposed u q) (turn.Refused LastRound)))))
+    ≡ answered (verdict (protocol.isAcknowledging (phaseSeen p) else Disabled ⨾ not empty else Disabled ⨾ free || not third else ThirdEntry ⨾ free || low else LastRound ⨾ granted)) free u q
 unfolding answered
-by-tests Acknowledging true free few low u q = refl
-by-tests Acknowledging false true few low u q = refl
-by-tests Acknowledging false false true true u q = refl
-by-tests Acknowledging false false true false u q = refl
-by-tests Acknowledging false false false low u q = refl
-by-tests (Waiting p) empty free few low u q = refl
+by-tests Acknowledging true free third low u q = refl
+by-tests Acknowledging false true third low u q = refl
+by-tests Acknowledging false false false true u q = refl
+by-tests Acknowledging false false false false u q = refl
+by-tests Acknowledging false false true low u q = refl
+by-tests (Waiting p) empty free third low u q = refl
 
 not-not : (a : Bool) → not (not a) ≡ a
 not-not true = refl
 not-not false = refl
+
+-- What is in one set and neither of two others.
+neither : (r d p : Bool) → (r && not d && not p) ≡ (r && not (d || p))
+neither true true p = refl
+neither true false p = refl
+neither false d p = refl
+
+-- Two entries of a site and its round make the next a third.
+pub third-entry : (n : ℕ) → not (leb 2 n) ≡ ltb n 2
+third-entry n = ⊎-elim (λ l. ap not (lt-leb 2 n l) ∙ sym (lt-ltb n 2 l)) (λ l. ap not (le-leb 2 n l) ∙ sym (le-ltb n 2 l)) (lt-or-le n 2)
 
 -- A set within the book has a command below the number of commands where it has one at all.
 pub any-within : (x : Set) (n : ℕ) → x .bits < 2 ^ 64 → withinOf x n ≡ true → any 64 (inSet x) ≡ any n (inSet x)
@@ -118,15 +132,16 @@ module _ (t : SiteTable) (book : List Command) (h : Site) (heard : ℕ → ℕ �
   undelivered-fits = without-fits (h .received) (h .delivered) (f .received) (f .delivered)
 
   new-fits : newOf h .bits < 2 ^ 64
-  new-fits = without-fits (h .received) (unionOf (h .delivered) (h .pending)) (f .received) (union-fits (h .delivered) (h .pending) (f .delivered) (f .pending))
+  new-fits = without-fits (undeliveredOf h) (h .pending) undelivered-fits (f .pending)
 
   new-within : withinOf (newOf h) (length book) ≡ true
-  new-within = within-without (h .received) (unionOf (h .delivered) (h .pending)) (length book) (g .received)
+  new-within = within-without (undeliveredOf h) (h .pending) (length book) (within-without (h .received) (h .delivered) (length book) (g .received))
 
   in-new : (m : ℕ) → inSet (newOf h) m ≡ protocol.unacknowledged (dash t book) (siteOf t book h heard ledger) m
   in-new m =
-      in-without (h .received) (unionOf (h .delivered) (h .pending)) m
-      ∙ ap (λ (x : Bool). inSet (h .received) m && not x) (in-union (h .delivered) (h .pending) m)
+      in-without (undeliveredOf h) (h .pending) m
+      ∙ ap (λ (x : Bool). x && not (inSet (h .pending) m)) (in-without (h .received) (h .delivered) m)
+      ∙ neither (inSet (h .received) m) (inSet (h .delivered) m) (inSet (h .pending) m)
 
   some-new : not (isEmptyOf (newOf h)) ≡ any (length book) (protocol.unacknowledged (dash t book) (siteOf t book h heard ledger))
   some-new =
@@ -141,18 +156,18 @@ module _ (t : SiteTable) (book : List Command) (h : Site) (heard : ℕ → ℕ �
   unfolding entry
   entry-is = refl
 
-  choice : (free : Bool) (own i : ℕ) (log : Log) → free ≡ protocol.acknowledges (dash t book) (siteOf t book h heard ledger) → own ≡ entries i (h .round) log
-      → chosen h free own
+  choice : (free third : Bool) (i : ℕ) (log : Log) → free ≡ protocol.acknowledges (dash t book) (siteOf t book h heard ledger) → not third ≡ ltb (entries i (h .round) log) 2
+      → chosen h free third
       ≡ answered (verdict (protocol.forTurn (dash t book) i (siteOf t book h heard ledger) log)) (protocol.acknowledges (dash t book) (siteOf t book h heard ledger)) (undeliveredOf h) entry
   unfolding chosen entry
-  choice free own i log ef eo =
-      by-tests (h .phase) (isEmptyOf (newOf h)) free (ltb own 2) (leb (h .round) lastRound) (undeliveredOf h) entry
+  choice free third i log ef eo =
+      by-tests (h .phase) (isEmptyOf (newOf h)) free third (leb (h .round) lastRound) (undeliveredOf h) entry
       ∙ (λ k.
       answered
       (verdict
       (protocol.isAcknowledging (phaseSeen (h .phase)) else Disabled
       ⨾ some-new k else Disabled
-      ⨾ ef k || ltb (eo k) 2 else ThirdEntry
+      ⨾ ef k || eo k else ThirdEntry
       ⨾ ef k || leb (h .round) lastRound else LastRound
       ⨾ granted))
       (ef k) (undeliveredOf h) entry)
@@ -171,17 +186,27 @@ module _ (t : SiteTable) (book : List Command) (h : Site) (heard : ℕ → ℕ �
 
 -- ---- the bytes after a turn
 
+-- What a turn that answers so writes.
+abbrev pub writtenBy : Turn → List ℕ → List ℕ
+writtenBy (turn.Acknowledged x) b = writeSet b pendingPlace x
+writtenBy (turn.Proposed x p) b = waitsWith b (p .nc) (p .c)
+writtenBy (turn.Refused r) b = b
+
+-- An answer that is known.
+pub written : (b : List ℕ) {b′ : List ℕ} {r r′ : Turn} → r ≡ r′ → b′ ≡ writtenBy r′ b → b′ ≡ writtenBy r b
+written b er eb = eb ∙ ap (λ (r : Turn). writtenBy r b) (sym er)
+
 module _ (t : SiteTable) (book : List Command) (b : List ℕ) (small : (i : ℕ) → getD b i 0 < 256) (good : Good (t .sites) (length book) b) where
   module _ {b′ : List ℕ} (small′ : (i : ℕ) → getD b′ i 0 < 256) where
     turn-site : (v : Verdict) (free : Bool) (u : Set) (p : Proposal) → u ≡ undeliveredOf (headOf b) → p ≡ record { nc = headOf b .pending; c = newOf (headOf b) }
-        → b′ ≡ splice b 0 (headBytes (afterTurn (headOf b) (answered v free u p)))
+        → b′ ≡ writtenBy (answered v free u p) b
         → Holds t book b′ (settled v (pick free (protocol.acknowledge (dash t book) (view t book b)) (protocol.propose (dash t book) (view t book b))) (view t book b))
     unfolding answered headOf
     turn-site Taken true u p eu ep eb =
         let f = fit b small (good .size) in
         let g = good .head in
         let h = headOf b in
-        finish t book b (afterTurn h (turn.Acknowledged (undeliveredOf h))) (good .size) (eb ∙ ap (λ (x : Set). splice b 0 (headBytes (afterTurn h (turn.Acknowledged x)))) eu) small′
+        finish t book b (withPending h (undeliveredOf h)) (good .size) (eb ∙ ap (writeSet b pendingPlace) eu ∙ pending-written h b (begins b good small) (undeliveredOf h)) small′
         (record {
           round = f .round;
           deliveries = f .deliveries;
@@ -222,8 +247,8 @@ module _ (t : SiteTable) (book : List Command) (b : List ℕ) (small : (i : ℕ)
         let f = fit b small (good .size) in
         let g = good .head in
         let h = headOf b in
-        finish t book b (afterTurn h (turn.Proposed u (record { nc = h .pending; c = newOf h }))) (good .size)
-        (eb ∙ ap (λ (x : Proposal). splice b 0 (headBytes (afterTurn h (turn.Proposed u x)))) ep) small′
+        finish t book b (withPhase h (Waiting (record { nc = h .pending; c = newOf h }))) (good .size)
+        (eb ∙ ap (λ (x : Proposal). waitsWith b (x .nc) (x .c)) ep ∙ waiting-written h b (begins b good small) (h .pending) (newOf h)) small′
         (record {
           round = f .round;
           deliveries = f .deliveries;
@@ -261,21 +286,21 @@ module _ (t : SiteTable) (book : List Command) (b : List ℕ) (small : (i : ℕ)
           ledger = view t book b .ledger;
         })
     turn-site (Refused r) free u p eu ep eb =
-        finish t book b (headOf b) (good .size) eb small′ (fit b small (good .size)) (good .head) (good .tables) refl
+        subst (λ (l : List ℕ). Holds t book l (view t book b)) (sym eb) (unchanged t book good small)
 
-  pub turn-holds : {h h′ : Site} {r : Turn} {b′ : List ℕ} (free : Bool) (own i : ℕ) (log : Log) → h ≡ headOf b → r ≡ chosen h free own → h′ ≡ afterTurn h r
-      → b′ ≡ splice b 0 (headBytes h′) → ((i : ℕ) → getD b′ i 0 < 256) → free ≡ protocol.acknowledges (dash t book) (view t book b) → own ≡ entries i (view t book b .round) log
+  pub turn-holds : {r : Turn} {b′ : List ℕ} (free third : Bool) (i : ℕ) (log : Log) → r ≡ chosen (headOf b) free third → b′ ≡ writtenBy r b
+      → ((i : ℕ) → getD b′ i 0 < 256) → free ≡ protocol.acknowledges (dash t book) (view t book b) → not third ≡ ltb (entries i (view t book b .round) log) 2
       → Turned t book i log (view t book b) r b′
-  turn-holds {r = r} free own i log eh er ea eb small′ ef eo =
+  turn-holds {r = r} free third i log er eb small′ ef eo =
       let v = verdict (protocol.forTurn (dash t book) i (view t book b) log) in
       let k = protocol.acknowledges (dash t book) (view t book b) in
       let f = fit b small (good .size) in
       let heard = heardOf b in
       let ledger = view t book b .ledger in
-      let e = er ∙ ap (λ (x : Site). chosen x free own) eh ∙ choice t book (headOf b) heard ledger f (good .head) free own i log ef eo in
+      let e = er ∙ choice t book (headOf b) heard ledger f (good .head) free third i log ef eo in
       record {
         answer = e ∙ sent t book (headOf b) heard ledger f (good .head) v k;
         site =
             turn-site small′ v k (undeliveredOf (headOf b)) (entry t book (headOf b) heard ledger f (good .head)) refl (entry-is t book (headOf b) heard ledger f (good .head))
-            (eb ∙ ap (λ (x : Site). splice b 0 (headBytes x)) (ea ∙ (λ j. afterTurn (eh j) (e j))));
+            (eb ∙ ap (λ (x : Turn). writtenBy x b) e);
       }

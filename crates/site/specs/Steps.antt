@@ -11,98 +11,37 @@ use Rattle.refusals.specs.declared.Verdict.{Verdict}
 use Rattle.refusals.specs.declared.Verdict.the-variants.{Taken, Refused}
 use Rattle.theory.specs.Sets.{pick, only}
 use Rattle.sets.specs.declared.Set.{Set}
-use Rattle.sets.specs.Sets.{capacity, inSet, setOf, unionOf, withoutOf, isEmptyOf, withinOf}
+use Rattle.sets.specs.Sets.{capacity, inSet, setOf, withoutOf, isEmptyOf, withinOf}
 use Rattle.table.specs.declared.SiteTable.{SiteTable}
 use Rattle.register.specs.declared.Command.{Command}
 use Rattle.protocol.specs.System.{verdict}
 use Rattle.protocol.specs.Recovery.{Log, entries}
 use Rattle.protocol.specs.Site as protocol
 use Rattle.system.specs.Dash.{dash, lastRound}
-use Rattle.layout.specs.declared.Phase.{Phase}
-use Rattle.layout.specs.declared.Phase.the-variants.{Acknowledging, Waiting}
 use Rattle.layout.specs.declared.Site.{Site}
-use Rattle.layout.specs.Layout.{view}
+use Rattle.layout.specs.Layout.{isWaiting, view}
 use Rattle.layout.specs.Good.{Good, Holds}
 use Rattle.layout.specs.Step.{settled, Carried}
 use Rattle.site.specs.declared.Turn.{Turn}
 use Rattle.site.specs.declared.Turn.the-variants as turn
 
--- ---- the header after each step, by value
-
--- A set joins what was received.
-abbrev pub withReceived : Site → Set → Site
-withReceived h x =
-    record {
-      round = h .round;
-      phase = h .phase;
-      position = h .position;
-      deliveries = h .deliveries;
-      received = unionOf (h .received) x;
-      delivered = h .delivered;
-      pending = h .pending;
-      fast = h .fast;
-    }
-
-abbrev pub withPosition : Site → ℕ → Site
-withPosition h n =
-    record {
-      round = h .round;
-      phase = h .phase;
-      position = n;
-      deliveries = h .deliveries;
-      received = h .received;
-      delivered = h .delivered;
-      pending = h .pending;
-      fast = h .fast;
-    }
+-- ---- what a turn answers
 
 -- Received without what was delivered, and what of it is not pending.
 abbrev pub undeliveredOf : Site → Set
 undeliveredOf h = withoutOf (h .received) (h .delivered)
 
 abbrev pub newOf : Site → Set
-newOf h = withoutOf (h .received) (unionOf (h .delivered) (h .pending))
+newOf h = withoutOf (undeliveredOf h) (h .pending)
 
--- The header after a turn that answered so.
-abbrev pub afterTurn : Site → Turn → Site
-afterTurn h (turn.Acknowledged x) =
-    record {
-      round = h .round;
-      phase = h .phase;
-      position = h .position;
-      deliveries = h .deliveries;
-      received = h .received;
-      delivered = h .delivered;
-      pending = x;
-      fast = h .fast;
-    }
-afterTurn h (turn.Proposed x p) =
-    record {
-      round = h .round;
-      phase = Waiting p;
-      position = h .position;
-      deliveries = h .deliveries;
-      received = h .received;
-      delivered = h .delivered;
-      pending = h .pending;
-      fast = h .fast;
-    }
-afterTurn h (turn.Refused r) = h
-
-abbrev pub isIdle : Phase → Bool
-isIdle Acknowledging = true
-isIdle (Waiting p) = false
-
--- What a turn answers, by the header, the conflict test and the number of the site's entries of its round.
-unfoldable pub chosen : Site → Bool → ℕ → Turn
-chosen h free own =
-    pick (isIdle (h .phase))
+-- What a turn answers, by the header, the conflict test and whether the site has two entries of its round.
+unfoldable pub chosen : Site → Bool → Bool → Turn
+chosen h free third =
+    pick (isWaiting (h .phase)) (turn.Refused Disabled)
     (pick (isEmptyOf (newOf h)) (turn.Refused Disabled)
     (pick free (turn.Acknowledged (undeliveredOf h))
-    (pick (ltb own 2)
-    (pick (leb (h .round) lastRound) (turn.Proposed (undeliveredOf h) (record { nc = h .pending; c = newOf h })) (turn.Refused LastRound))
-    (turn.Refused ThirdEntry))))
-    (turn.Refused Disabled)
+    (pick third (turn.Refused ThirdEntry)
+    (pick (leb (h .round) lastRound) (turn.Proposed (undeliveredOf h) (record { nc = h .pending; c = newOf h })) (turn.Refused LastRound)))))
 
 -- ---- the steps
 
@@ -142,11 +81,11 @@ module _ (t : SiteTable) (book : List Command) where
         (pick (protocol.acknowledges (dash t book) s) (protocol.acknowledge (dash t book) s) (protocol.propose (dash t book) s))
         s)
 
--- The turn of any site i that has so many entries of its round in the log, where the conflict test of what is undelivered says so.
-abbrev pub TookTurn : Bool → ℕ → List ℕ → Turn → List ℕ → Type 0
-TookTurn free own b r b′ =
+-- The turn of any site i, where the conflict test of what is undelivered says `free`, and `third` that the log has two entries of the site and its round.
+abbrev pub TookTurn : Bool → Bool → List ℕ → Turn → List ℕ → Type 0
+TookTurn free third b r b′ =
     (t : SiteTable) (book : List Command) (i : ℕ) (log : Log) → Good (t .sites) (length book) b
-    → free ≡ protocol.acknowledges (dash t book) (view t book b) → own ≡ entries i (view t book b .round) log
+    → free ≡ protocol.acknowledges (dash t book) (view t book b) → not third ≡ ltb (entries i (view t book b .round) log) 2
     → Turned t book i log (view t book b) r b′
 
 -- The next entry of a log is read, where there is one and it is no third of its site and round.

@@ -6,10 +6,8 @@ ghost use lib.ListN.{length};
 ghost use Rattle.sets.specs.Sets.{capacity};
 ghost use Rattle.table.specs.Table.{maxSites};
 ghost use Rattle.layout.specs.Layout.{siteSize, siteRounds, headOf};
-ghost use Rattle.site.specs.Steps.{withReceived, withPosition, afterTurn, chosen, Received, Commanded, Heard, TookTurn, ReadEntry};
-use layout::Phase;
+ghost use Rattle.site.specs.Steps.{undeliveredOf, chosen, Received, Commanded, Heard, TookTurn, ReadEntry};
 use layout::Proposal;
-use layout::Site;
 use refusals::Refusal;
 use refusals::Verdict;
 use sets::Set;
@@ -23,36 +21,14 @@ pub enum Turn {
 
 // The last round that the log takes.
 pub const LAST_ROUND: u8 = 32;
-// The log takes two entries of a site in a round.
-const MAX_ENTRIES: usize = 2;
-
-fn with_received(header: Site, set: Set) -> Site
-    ensures { λ r. ⌜ r ≡ withReceived header set ⌝ }
-{
-    let phase = header.phase;
-    let received = header.received.union(set);
-    let delivered = header.delivered;
-    let pending = header.pending;
-    let fast = header.fast;
-    Site {
-        round: header.round,
-        phase,
-        position: header.position,
-        deliveries: header.deliveries,
-        received,
-        delivered,
-        pending,
-        fast,
-    }
-}
 
 // A set joins Received, whatever round it came in.
 pub fn receive(site: &mut [u8], set: Set)
     requires { ⌜ length (now site) ≡ siteSize ⌝ }
     ensures { λ _. ⌜ Received set (now (site .entry)) (now (site .exit)) ⌝ }
 {
-    let header = Site::read(&site[..]);
-    with_received(header, set).write(site);
+    let received = layout::received(&site[..]);
+    layout::set_received(site, received.union(set));
 }
 
 // A command joins Received.
@@ -68,38 +44,44 @@ pub fn hear(site: &mut [u8], sender: usize, round: usize, set: Set)
     requires { ⌜ (length (now site) ≡ siteSize) × (sender < maxSites) × (1 ≤ round) × (round ≤ siteRounds) ⌝ }
     ensures { λ _. ⌜ Heard sender round set (now (site .entry)) (now (site .exit)) ⌝ }
 {
-    let header = Site::read(&site[..]);
+    let received = layout::received(&site[..]);
     layout::hear(site, sender, round, set);
-    with_received(header, set).write(site);
+    layout::set_received(site, received.union(set));
 }
 
-// What a turn does, by the conflict test of what is undelivered and the number of the site's entries of its round.
-fn choose(header: Site, free: bool, own: usize) -> Turn
-    ensures { λ r. ⌜ r ≡ chosen header free own ⌝ }
+// What was received and is not delivered.
+pub fn undelivered(site: &[u8]) -> Set
+    requires { ⌜ length (now site) ≡ siteSize ⌝ }
+    ensures { λ r. ⌜ r ≡ undeliveredOf (headOf (now (site .entry))) ⌝ }
 {
-    let phase = header.phase;
-    let undelivered = header.received.without(header.delivered);
-    let new = header
-        .received
-        .without(header.delivered.union(header.pending));
-    if let Phase::Waiting(_) = phase {
+    layout::received(site).without(layout::delivered(site))
+}
+
+// What a turn does, by the conflict test of what is undelivered and whether the site has two entries of its round.
+fn choose(site: &[u8], free: bool, third: bool) -> Turn
+    requires { ⌜ length (now site) ≡ siteSize ⌝ }
+    ensures { λ r. ⌜ r ≡ chosen (headOf (now (site .entry))) free third ⌝ }
+{
+    if layout::is_waiting(site) {
         return Turn::Refused(Refusal::Disabled);
     }
+    let check = undelivered(site);
+    let pending = layout::pending(site);
+    let new = check.without(pending);
     if new.is_empty() {
         return Turn::Refused(Refusal::Disabled);
     }
     if free {
-        return Turn::Acknowledged(undelivered);
+        return Turn::Acknowledged(check);
     }
-    if own >= MAX_ENTRIES {
+    if third {
         return Turn::Refused(Refusal::ThirdEntry);
     }
-    if header.round > LAST_ROUND {
+    if layout::round(site) > LAST_ROUND {
         return Turn::Refused(Refusal::LastRound);
     }
-    let pending = header.pending;
     Turn::Proposed {
-        check: undelivered,
+        check,
         entry: Proposal {
             nc: pending,
             c: new,
@@ -107,68 +89,22 @@ fn choose(header: Site, free: bool, own: usize) -> Turn
     }
 }
 
-// The header after a turn.
-fn after_turn(header: Site, turn: Turn) -> Site
-    ensures { λ r. ⌜ r ≡ afterTurn header turn ⌝ }
-{
-    let phase = header.phase;
-    let received = header.received;
-    let delivered = header.delivered;
-    let pending = header.pending;
-    let fast = header.fast;
-    match turn {
-        Turn::Acknowledged(raised) => Site {
-            round: header.round,
-            phase,
-            position: header.position,
-            deliveries: header.deliveries,
-            received,
-            delivered,
-            pending: raised,
-            fast,
-        },
-        Turn::Proposed { check: _, entry } => Site {
-            round: header.round,
-            phase: Phase::Waiting(entry),
-            position: header.position,
-            deliveries: header.deliveries,
-            received,
-            delivered,
-            pending,
-            fast,
-        },
-        Turn::Refused(_) => header,
-    }
-}
-
 // A turn: the site acknowledges what it received, or proposes where that has a conflict, or is refused.
-pub fn take_turn(site: &mut [u8], free: bool, own: usize) -> Turn
+pub fn take_turn(site: &mut [u8], free: bool, third: bool) -> Turn
     requires { ⌜ length (now site) ≡ siteSize ⌝ }
-    ensures { λ r. ⌜ TookTurn free own (now (site .entry)) r (now (site .exit)) ⌝ }
+    ensures { λ r. ⌜ TookTurn free third (now (site .entry)) r (now (site .exit)) ⌝ }
 {
-    let header = Site::read(&site[..]);
-    let answer = choose(header, free, own);
-    after_turn(header, answer).write(site);
-    answer
-}
-
-fn with_position(header: Site, position: u16) -> Site
-    ensures { λ r. ⌜ r ≡ withPosition header position ⌝ }
-{
-    let phase = header.phase;
-    let received = header.received;
-    let delivered = header.delivered;
-    let pending = header.pending;
-    let fast = header.fast;
-    Site {
-        round: header.round,
-        phase,
-        position,
-        deliveries: header.deliveries,
-        received,
-        delivered,
-        pending,
-        fast,
+    let answer = choose(&site[..], free, third);
+    match answer {
+        Turn::Acknowledged(raised) => {
+            layout::set_pending(site, raised);
+            answer
+        }
+        Turn::Proposed { check: _, entry } => {
+            layout::wait_with(site, entry.nc, entry.c);
+            answer
+        }
+        Turn::Refused(_) => answer,
     }
 }
 
@@ -183,7 +119,7 @@ pub fn read_entry(site: &mut [u8], left: bool, third: bool) -> Verdict
     if third {
         return Verdict::Refused(Refusal::ThirdEntry);
     }
-    let header = Site::read(&site[..]);
-    with_position(header, header.position + 1).write(site);
+    let position = layout::position(&site[..]);
+    layout::set_position(site, position + 1);
     Verdict::Taken
 }

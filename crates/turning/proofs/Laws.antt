@@ -40,6 +40,7 @@ use Rattle.layout.proofs.Header.{next}
 use Rattle.site.specs.declared.Turn.{Turn}
 use Rattle.site.specs.declared.Turn.the-variants as turn
 use Rattle.site.specs.Steps.{answerTo, Turned, TookTurn}
+use Rattle.site.proofs.Turning.{third-entry}
 use Rattle.judging.specs.Outcomes.{Outcome, outcome, answered, _then_}
 use Rattle.judging.specs.Judging.{tableOf, systemOf, siteIn, withSite, forSiteAndLog}
 use Rattle.judging.proofs.Demands.{then-taken, then-refused, answered-refused}
@@ -162,11 +163,12 @@ module _ (n f : ℕ) (book site log : List ℕ) (own : ℕ) (o : List ℕ) {k : 
         done (Refused r) a e w = λ i. outcome (e i .code) (buffers (as-before n f book site (judged .good) small w i) (e i .left))
 
         pub turn-done : {free : Bool} {appended : ℕ} {answer : Turn} → ((t : SiteTable) → free ≡ protocol.acknowledges (dash t (commandsOf book)) (view t (commandsOf book) (take siteSize site)))
-            → appended ≡ entries own round (logTo log (length log / entrySize)) → TookTurn free appended (take siteSize site) answer b
+            → appended ≡ entries own round (logTo log (length log / entrySize)) → TookTurn free (leb 2 appended) (take siteSize site) answer b
             → outcome code l ≡ sent own round answer o → outcome code (buffers (b ++ drop siteSize site) l) ≡ turnCall n f book site log own o
         unfolding turnCall logOf
-        turn-done {answer = answer} ef ea took e =
-            let w = took (tableOf n f) (commandsOf book) own (logOf log) (judged .good) (ef (tableOf n f)) (ea ∙ ap (λ (r : ℕ). entries own r (logTo log (length log / entrySize))) er) in
+        turn-done {appended = appended} ef ea took e =
+            let w = took (tableOf n f) (commandsOf book) own (logOf log) (judged .good) (ef (tableOf n f))
+            (third-entry appended ∙ ap (λ (k : ℕ). ltb k 2) (ea ∙ ap (λ (r : ℕ). entries own r (logTo log (length log / entrySize))) er)) in
             done (verdict (protocol.forTurn (systemOf n f book) own (siteIn n f book site) (logOf log))) (protocol.acknowledges (systemOf n f book) (siteIn n f book site))
             (e ∙ ap (λ (y : Turn). sent own round y o) (w .answer)) (w .site)
             ∙ (λ i. answered (sym (first true (lt-ltb own n h)) i)

@@ -129,6 +129,6 @@ pub fn turn(
     let free = is_calm(book, &site[..Site::SIZE]);
     let round = round_of(&site[..Site::SIZE]);
     let appended = entries::entries_of(log, log.len() / Entry::BYTES, own, round);
-    let answer = site::take_turn(&mut site[..Site::SIZE], free, appended);
+    let answer = site::take_turn(&mut site[..Site::SIZE], free, appended >= 2);
     send(out, own, round, answer)
 }

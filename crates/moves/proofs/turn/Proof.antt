@@ -3,10 +3,12 @@
 use borrow.Author.Needs.{needs}
 use native.Mathlib.Omega.{arith}
 use denote.Ref.{now}
-use mathlib.Core.Path.{ap, _∙_}
+use mathlib.Core.Path.{refl, ap, _∙_}
 use mathlib.Core.List.{List}
 use Prim.Native.Nat.{ℕ}
 use lib.ListN.{length}
+use Rattle.layout.specs.Layout.{headOf}
+use Rattle.world.specs.World.{siteAt}
 use Rattle.world.specs.Parts.{lent}
 use Rattle.moves.proofs.Turns.{turn-range, turn-role, round-told, turn-refused, room-told, acknowledged, proposed}
 use Rattle.conflicts.proofs.Laws.{rows-size}
@@ -15,16 +17,16 @@ use Rattle.moves.proofs.turn.Tie as tie
 
 returns : tie.Need-returns
 returns c =
-    let o = c .before .before .before .before .before .before in
-    λ book ready. turn-range (o .args .table) book (now (o .args .rows)) (lent (now (o .args .sites)) (now (o .args .log)) (o .args .entries) (now (o .args .sent))) (o .args .i) ready (λ k. c .before .before .before .before .before .slice-known .given k .fits) (omega arith)
+    let o = c .before .before .before .before .before .before .before in
+    λ book ready. turn-range (o .args .table) book (now (o .args .rows)) (lent (now (o .args .sites)) (now (o .args .log)) (o .args .entries) (now (o .args .sent))) (o .args .i) ready (λ k. c .before .before .before .before .before .before .slice-known .given k .fits) (omega arith)
 
 is-faulty-requires : tie.Need-is-faulty-requires
 is-faulty-requires c κs = search needs
 
 returns-2 : tie.Need-returns-2
 returns-2 c =
-    let o = c .before .before .before .before .before .before .before .before in
-    λ book ready. turn-role (o .args .table) book (now (o .args .rows)) (lent (now (o .args .sites)) (now (o .args .log)) (o .args .entries) (now (o .args .sent))) (o .args .i) ready (λ k. c .before .before .before .before .before .before .before .slice-known .given k .fits) (omega arith) (c .before .is-faulty .ensures) (c .if2 .taken)
+    let o = c .before .before .before .before .before .before .before .before .before in
+    λ book ready. turn-role (o .args .table) book (now (o .args .rows)) (lent (now (o .args .sites)) (now (o .args .log)) (o .args .entries) (now (o .args .sent))) (o .args .i) ready (λ k. c .before .before .before .before .before .before .before .before .slice-known .given k .fits) (omega arith) (c .before .is-faulty .ensures) (c .if2 .taken)
 
 round-of-requires : tie.Need-round-of-requires
 round-of-requires c κs = search needs
@@ -32,10 +34,10 @@ round-of-requires c κs = search needs
 turn-at-requires : tie.Need-turn-at-requires
 turn-at-requires c κs =
     let o = c .before .before .before .before .before .before .before .before .before .before .before .before in
-    let w = o .pre .1 .world in
+    let w = o .pre .0 .1 .world in
     let z = w .size in
-    let l = w .room in
-    (omega arith, omega arith, ap length (o .pre .1 .conflicts) ∙ rows-size (o .pre .0))
+    let p = round-told (o .args .table) (o .pre .0 .0) (now (o .args .rows)) (lent (now (o .args .sites)) (now (o .args .log)) (o .args .entries) (now (o .args .sent))) (o .args .i) (o .pre .0 .1) (λ k. c .before .before .before .before .before .before .before .before .before .before .before .slice-known .given k .fits) (omega arith) {k = headOf (siteAt (now (o .args .sites)) (o .args .i)) .round} refl in
+    (omega arith, o .pre .1 .size, ap length (o .pre .0 .1 .conflicts) ∙ rows-size (o .pre .0 .0), p .2, omega (arith, p .1))
 
 enum-known-answer : tie.Need-enum-known-answer
 enum-known-answer c = search needs
@@ -46,12 +48,12 @@ enum-known-answer-2 c = search needs
 add-acknowledgment-requires : tie.Need-add-acknowledgment-requires
 add-acknowledgment-requires c κs =
     let o = c .before .before .before .before .before .before .before .before .before .before .before .before .before .before .before .before .before .before .before in
-    let p = round-told (o .args .table) (o .pre .0) (now (o .args .rows)) (lent (now (o .args .sites)) (now (o .args .log)) (o .args .entries) (now (o .args .sent))) (o .args .i) (o .pre .1) (λ k. c .before .before .before .before .before .before .before .before .before .before .before .before .before .before .before .before .before .before .slice-known .given k .fits) (omega arith) (c .before .before .before .before .before .before .before .before .before .round-of .ensures) in (
-      o .pre .1 .world .sent,
+    let p = round-told (o .args .table) (o .pre .0 .0) (now (o .args .rows)) (lent (now (o .args .sites)) (now (o .args .log)) (o .args .entries) (now (o .args .sent))) (o .args .i) (o .pre .0 .1) (λ k. c .before .before .before .before .before .before .before .before .before .before .before .before .before .before .before .before .before .before .slice-known .given k .fits) (omega arith) (c .before .before .before .before .before .before .before .before .round-of .ensures) in (
+      o .pre .0 .1 .world .sent,
       p .2,
       p .0,
       p .1,
-      room-told (o .args .table) (o .pre .0) (now (o .args .rows)) (lent (now (o .args .sites)) (now (o .args .log)) (o .args .entries) (now (o .args .sent))) (o .args .i) (o .pre .1) (λ k. c .before .before .before .before .before .before .before .before .before .before .before .before .before .before .before .before .before .before .slice-known .given k .fits) (omega arith) (c .before .before .before .before .before .before .before .before .before .before .before .before .is-faulty .ensures) (c .before .before .before .before .before .before .before .before .before .before .before .if2 .left) (c .before .before .before .before .before .before .turn-at .ensures) _ (c .before .before .answer2 .given .1) _ (c .before .before .before .before .before .before .before .before .before .round-of .ensures),
+      room-told (o .args .table) (o .pre .0 .0) (now (o .args .rows)) (lent (now (o .args .sites)) (now (o .args .log)) (o .args .entries) (now (o .args .sent))) (o .args .i) (o .pre .0 .1) (λ k. c .before .before .before .before .before .before .before .before .before .before .before .before .before .before .before .before .before .before .slice-known .given k .fits) (omega arith) (c .before .before .before .before .before .before .before .before .before .before .before .is-faulty .ensures) (c .before .before .before .before .before .before .before .before .before .before .if2 .left) (o .pre .1) (c .before .before .before .before .before .before .turn-at .ensures) _ (c .before .before .answer2 .given .1) _ (c .before .before .before .before .before .before .before .before .round-of .ensures),
     )
 
 enum-known-answer-3 : tie.Need-enum-known-answer-3
@@ -60,22 +62,22 @@ enum-known-answer-3 c = search needs
 put-check-requires : tie.Need-put-check-requires
 put-check-requires c κs =
     let o = c .before .before .before .before .before .before .before .before .before .before .before .before .before .before .before .before .before .before .before in
-    let p = round-told (o .args .table) (o .pre .0) (now (o .args .rows)) (lent (now (o .args .sites)) (now (o .args .log)) (o .args .entries) (now (o .args .sent))) (o .args .i) (o .pre .1) (λ k. c .before .before .before .before .before .before .before .before .before .before .before .before .before .before .before .before .before .before .slice-known .given k .fits) (omega arith) (c .before .before .before .before .before .before .before .before .before .round-of .ensures) in
-    (o .pre .1 .world .sent, p .2, p .0, p .1)
+    let p = round-told (o .args .table) (o .pre .0 .0) (now (o .args .rows)) (lent (now (o .args .sites)) (now (o .args .log)) (o .args .entries) (now (o .args .sent))) (o .args .i) (o .pre .0 .1) (λ k. c .before .before .before .before .before .before .before .before .before .before .before .before .before .before .before .before .before .before .slice-known .given k .fits) (omega (arith, c .before .before .before .before .before .before .before .before .before .before .before .before .if1 .left)) (c .before .before .before .before .before .before .before .before .round-of .ensures) in
+    (o .pre .0 .1 .world .sent, p .2, p .0, p .1)
 
 write-entry-requires : tie.Need-write-entry-requires
 write-entry-requires c κs =
     let o = c .before .before .before .before .before .before .before .before .before .before .before .before .before .before .before .before .before .before .before .before .before .before .before .before .before in
-    let p = round-told (o .args .table) (o .pre .0) (now (o .args .rows)) (lent (now (o .args .sites)) (now (o .args .log)) (o .args .entries) (now (o .args .sent))) (o .args .i) (o .pre .1) (λ k. c .before .before .before .before .before .before .before .before .before .before .before .before .before .before .before .before .before .before .before .before .before .before .before .before .slice-known .given k .fits) (omega (arith, c .before .before .before .before .before .before .before .before .before .before .before .before .before .before .before .before .before .before .before .if1 .left)) (c .before .before .before .before .before .before .before .before .before .before .before .before .before .before .before .round-of .ensures) in
-    let l = o .pre .1 .room in
+    let p = round-told (o .args .table) (o .pre .0 .0) (now (o .args .rows)) (lent (now (o .args .sites)) (now (o .args .log)) (o .args .entries) (now (o .args .sent))) (o .args .i) (o .pre .0 .1) (λ k. c .before .before .before .before .before .before .before .before .before .before .before .before .before .before .before .before .before .before .before .before .before .before .before .before .slice-known .given k .fits) (omega (arith, c .before .before .before .before .before .before .before .before .before .before .before .before .before .before .before .before .before .before .if1 .left)) (c .before .before .before .before .before .before .before .before .before .before .before .before .before .before .round-of .ensures) in
+    let l = o .pre .0 .1 .room in
     let a = p .2 in
     let q = p .1 in
     (omega arith, omega arith, omega arith)
 
-add-t41 : tie.Need-add-t41
-add-t41 c =
-    let l = c .before .before .before .before .before .before .before .before .before .before .before .before .before .before .before .before .before .before .before .before .before .before .before .before .before .before .before .before .pre .1 .room in
-    let m = c .before .before .before .before .before .before .before .before .before .before .before .before .before .before .before .before .before .before .before .before .before .before .before .before .before .before .before .before .pre .1 .world .short in
+add-t40 : tie.Need-add-t40
+add-t40 c =
+    let l = c .before .before .before .before .before .before .before .before .before .before .before .before .before .before .before .before .before .before .before .before .before .before .before .before .before .before .before .before .pre .0 .1 .room in
+    let m = c .before .before .before .before .before .before .before .before .before .before .before .before .before .before .before .before .before .before .before .before .before .before .before .before .before .before .before .before .pre .0 .1 .world .short in
     omega arith
 
 same-length : tie.Need-same-length
@@ -87,7 +89,7 @@ same-length-2 c = search needs
 returns-3 : tie.Need-returns-3
 returns-3 c =
     let o = c .before .before .before .before .before .before .before .before .before .before .before .before .before .before .before .before .before .before in
-    λ book ready. turn-refused (o .args .table) book (now (o .args .rows)) (lent (now (o .args .sites)) (now (o .args .log)) (o .args .entries) (now (o .args .sent))) (o .args .i) ready (λ k. c .before .before .before .before .before .before .before .before .before .before .before .before .before .before .before .before .before .slice-known .given k .fits) (omega arith) (c .before .before .before .before .before .before .before .before .before .before .before .is-faulty .ensures) (c .before .before .before .before .before .before .before .before .before .before .if2 .left) (c .before .before .before .before .before .turn-at .ensures) _ (c .before .answer .given .1)
+    λ book ready. turn-refused (o .args .table) book (now (o .args .rows)) (lent (now (o .args .sites)) (now (o .args .log)) (o .args .entries) (now (o .args .sent))) (o .args .i) ready (λ k. c .before .before .before .before .before .before .before .before .before .before .before .before .before .before .before .before .before .slice-known .given k .fits) (omega arith) (c .before .before .before .before .before .before .before .before .before .before .is-faulty .ensures) (c .before .before .before .before .before .before .before .before .before .if2 .left) (o .pre .1) (c .before .before .before .before .before .turn-at .ensures) _ (c .before .answer .given .1)
 
 same-length-3 : tie.Need-same-length-3
 same-length-3 c = search needs
@@ -101,21 +103,15 @@ same-length-5 c = search needs
 returns-4 : tie.Need-returns-4
 returns-4 c =
     let o = c .before .before .before .before .before .before .before .before .before .before .before .before .before .before .before .before .before .before .before .before .before .before in
-    λ book ready. acknowledged (o .args .table) book (now (o .args .rows)) (lent (now (o .args .sites)) (now (o .args .log)) (o .args .entries) (now (o .args .sent))) (o .args .i) ready (λ k. c .before .before .before .before .before .before .before .before .before .before .before .before .before .before .before .before .before .before .before .before .before .slice-known .given k .fits) (omega arith) (c .before .before .before .before .before .before .before .before .before .before .before .before .before .before .before .is-faulty .ensures) (c .before .before .before .before .before .before .before .before .before .before .before .before .before .before .if2 .left) (c .before .before .before .before .before .before .before .before .before .turn-at .ensures) _ (c .before .before .before .before .before .answer2 .given .1) _ (c .before .before .before .before .before .before .before .before .before .before .before .before .round-of .ensures) (c .before .before .add-acknowledgment .ensures)
+    λ book ready. acknowledged (o .args .table) book (now (o .args .rows)) (lent (now (o .args .sites)) (now (o .args .log)) (o .args .entries) (now (o .args .sent))) (o .args .i) ready (λ k. c .before .before .before .before .before .before .before .before .before .before .before .before .before .before .before .before .before .before .before .before .before .slice-known .given k .fits) (omega arith) (c .before .before .before .before .before .before .before .before .before .before .before .before .before .before .is-faulty .ensures) (c .before .before .before .before .before .before .before .before .before .before .before .before .before .if2 .left) (o .pre .1) (c .before .before .before .before .before .before .before .before .before .turn-at .ensures) _ (c .before .before .before .before .before .answer2 .given .1) _ (c .before .before .before .before .before .before .before .before .before .before .before .round-of .ensures) (c .before .before .add-acknowledgment .ensures)
 
 same-length-6 : tie.Need-same-length-6
 same-length-6 c = search needs
 
-same-length-7 : tie.Need-same-length-7
-same-length-7 c = search needs
-
-same-length-8 : tie.Need-same-length-8
-same-length-8 c = search needs
-
 returns-5 : tie.Need-returns-5
 returns-5 c =
     let o = c .before .before .before .before .before .before .before .before .before .before .before .before .before .before .before .before .before .before .before .before .before .before .before .before .before .before .before .before in
-    λ book ready. proposed (o .args .table) book (now (o .args .rows)) (lent (now (o .args .sites)) (now (o .args .log)) (o .args .entries) (now (o .args .sent))) (o .args .i) ready (λ k. c .before .before .before .before .before .before .before .before .before .before .before .before .before .before .before .before .before .before .before .before .before .before .before .before .before .before .before .slice-known .given k .fits) (omega (arith, c .before .before .before .before .before .before .before .before .before .before .before .before .before .before .before .before .before .before .before .before .before .before .if1 .left)) (c .before .before .before .before .before .before .before .before .before .before .before .before .before .before .before .before .before .before .before .before .before .is-faulty .ensures) (c .before .before .before .before .before .before .before .before .before .before .before .before .before .before .before .before .before .before .before .before .if2 .left) (c .before .before .before .before .before .before .before .before .before .before .before .before .before .before .before .turn-at .ensures) _ _ (c .before .before .before .before .before .before .before .before .before .before .before .answer3 .given .1) _ (c .before .before .before .before .before .before .before .before .before .before .before .before .before .before .before .before .before .before .round-of .ensures) (c .before .before .before .before .before .before .before .before .put-check .ensures) (c .before .before .write-entry .ensures)
+    λ book ready. proposed (o .args .table) book (now (o .args .rows)) (lent (now (o .args .sites)) (now (o .args .log)) (o .args .entries) (now (o .args .sent))) (o .args .i) ready (λ k. c .before .before .before .before .before .before .before .before .before .before .before .before .before .before .before .before .before .before .before .before .before .before .before .before .before .before .before .slice-known .given k .fits) (omega (arith, c .before .before .before .before .before .before .before .before .before .before .before .before .before .before .before .before .before .before .before .before .before .if1 .left)) (c .before .before .before .before .before .before .before .before .before .before .before .before .before .before .before .before .before .before .before .before .is-faulty .ensures) (c .before .before .before .before .before .before .before .before .before .before .before .before .before .before .before .before .before .before .before .if2 .left) (o .pre .1) (c .before .before .before .before .before .before .before .before .before .before .before .before .before .before .before .turn-at .ensures) _ _ (c .before .before .before .before .before .before .before .before .before .before .before .answer3 .given .1) _ (c .before .before .before .before .before .before .before .before .before .before .before .before .before .before .before .before .before .round-of .ensures) (c .before .before .before .before .before .before .before .before .put-check .ensures) (c .before .before .write-entry .ensures)
 
 pub turn-spec : {M : Type 1} → statement M
 turn-spec =
@@ -132,15 +128,13 @@ turn-spec =
     enum-known-answer-3
     put-check-requires
     write-entry-requires
-    add-t41
+    add-t40
     same-length
-    same-length-2
     returns-3
+    same-length-2
     same-length-3
+    returns-4
     same-length-4
     same-length-5
-    returns-4
     same-length-6
-    same-length-7
-    same-length-8
     returns-5)

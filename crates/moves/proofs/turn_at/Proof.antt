@@ -1,11 +1,13 @@
--- `moves::turn_at`: the part of site i is lent, with the conflict test and the number of its entries.
+-- `moves::turn_at`: the part of site i is lent, with the conflict test and whether it has two entries of its round.
 -- Assumes nothing.
 use borrow.Author.Needs.{needs}
 use native.Mathlib.Omega.{arith}
 use denote.Ref.{now}
-use Prim.Native.Nat.{_+_, _*_, _-_}
-use Rattle.layout.specs.Layout.{siteSize}
-use Rattle.world.proofs.Sites.{at-site}
+use mathlib.Core.Path.{_∙_, sym, subst}
+use Prim.Native.Nat.{ℕ, _+_, _*_, _-_, _<_}
+use Rattle.layout.specs.Layout.{siteSize, headOf}
+use Rattle.rounds.specs.Rounds.{keptRounds}
+use Rattle.world.proofs.Sites.{lent-part, at-site}
 use Rattle.moves.specs.Moves.{TurnedBy}
 use Rattle.moves.proofs.Turns.{turned-by}
 use Rattle.moves.proofs.turn_at.Statement.{statement}
@@ -17,35 +19,56 @@ mul-from c = search needs
 add-to : tie.Need-add-to
 add-to c = search needs
 
-sub-read : tie.Need-sub-read
-sub-read c = search needs
+sub-undelivered : tie.Need-sub-undelivered
+sub-undelivered c = search needs
 
-part-read-start : tie.Need-part-read-start
-part-read-start c = search needs
+part-undelivered-start : tie.Need-part-undelivered-start
+part-undelivered-start c = search needs
 
-part-read-end : tie.Need-part-read-end
-part-read-end c = search needs
+part-undelivered-end : tie.Need-part-undelivered-end
+part-undelivered-end c = search needs
 
-read-requires : tie.Need-read-requires
-read-requires c κs = search needs
+undelivered-requires : tie.Need-undelivered-requires
+undelivered-requires c κs = search needs
+
+sub-pending : tie.Need-sub-pending
+sub-pending c = search needs
+
+part-pending-start : tie.Need-part-pending-start
+part-pending-start c = search needs
+
+part-pending-end : tie.Need-part-pending-end
+part-pending-end c = search needs
+
+pending-requires : tie.Need-pending-requires
+pending-requires c κs = search needs
 
 without-requires : tie.Need-without-requires
 without-requires c κs = search needs
 
-union-requires : tie.Need-union-requires
-union-requires c κs = search needs
-
-without-requires-2 : tie.Need-without-requires-2
-without-requires-2 c κs = search needs
-
 is-free-between-requires : tie.Need-is-free-between-requires
 is-free-between-requires c κs = search needs
 
-cast-entries-of : tie.Need-cast-entries-of
-cast-entries-of c = search needs
+sub-round : tie.Need-sub-round
+sub-round c = search needs
 
-entries-of-requires : tie.Need-entries-of-requires
-entries-of-requires c κs = search needs
+part-round-start : tie.Need-part-round-start
+part-round-start c = search needs
+
+part-round-end : tie.Need-part-round-end
+part-round-end c = search needs
+
+round-requires : tie.Need-round-requires
+round-requires c κs = search needs
+
+cast-third : tie.Need-cast-third
+cast-third c = search needs
+
+third-requires : tie.Need-third-requires
+third-requires c κs =
+    let o = c .before .before .before .before .before .before .before .before .before .before .before .before .before .before in
+    let e = c .round .ensures ∙ (λ k. headOf (lent-part (now (o .args .sites)) (o .args .i) ((o .args .i * siteSize + siteSize) - o .args .i * siteSize) (omega arith) k) .round) in
+    (o .pre .1, o .pre .3, subst (λ (n : ℕ). n < keptRounds) (sym e) (o .pre .4))
 
 sub-take-turn : tie.Need-sub-take-turn
 sub-take-turn c = search needs
@@ -64,10 +87,10 @@ same-length c = search needs
 
 returns : tie.Need-returns
 returns c =
-    let o = c .before .before .before .before .before .before .before .before .before .before .before .before .before .before .before .before in
-    at-site (TurnedBy (now (o .args .rows)) (now (o .args .log)) (o .args .entries) (o .args .i) (c .before .before .take-turn .result)) (now (o .args .sites)) (o .args .i) ((o .args .i * siteSize + siteSize) - o .args .i * siteSize) _ (omega arith) (omega arith)
+    let o = c .before .before .before .before .before .before .before .before .before .before .before .before .before .before .before .before .before .before .before in
+    at-site (TurnedBy (now (o .args .rows)) (now (o .args .kept)) (o .args .i) (c .before .before .take-turn .result)) (now (o .args .sites)) (o .args .i) ((o .args .i * siteSize + siteSize) - o .args .i * siteSize) _ (omega arith) (omega arith)
     (c .before .before .take-turn .kept .0)
-    (turned-by (now (o .args .rows)) (now (o .args .log)) (o .args .entries) (o .args .i) _ (c .before .before .before .before .before .before .before .before .before .before .read .ensures) (c .before .before .before .before .before .before .before .before .before .without .ensures) (c .before .before .before .before .before .before .before .before .union .ensures) (c .before .before .before .before .before .before .before .without2 .ensures) (c .before .before .before .before .before .before .is-free-between .ensures) (c .before .before .before .before .entries-of .ensures) (c .before .before .take-turn .ensures))
+    (turned-by (now (o .args .rows)) (now (o .args .kept)) (o .args .i) _ (c .before .before .before .before .before .before .before .before .before .before .before .before .before .undelivered .ensures) (c .before .before .before .before .before .before .before .before .before .before .pending .ensures) (c .before .before .before .before .before .before .before .before .before .without .ensures) (c .before .before .before .before .before .before .before .before .is-free-between .ensures) (c .before .before .before .before .before .round .ensures) (c .before .before .before .before .third .ensures) (c .before .before .take-turn .ensures))
 
 pub turn-at-spec : {M : Type 1} → statement M
 turn-at-spec =
@@ -75,16 +98,22 @@ turn-at-spec =
     (tie.spec
     mul-from
     add-to
-    sub-read
-    part-read-start
-    part-read-end
-    read-requires
+    sub-undelivered
+    part-undelivered-start
+    part-undelivered-end
+    undelivered-requires
+    sub-pending
+    part-pending-start
+    part-pending-end
+    pending-requires
     without-requires
-    union-requires
-    without-requires-2
     is-free-between-requires
-    cast-entries-of
-    entries-of-requires
+    sub-round
+    part-round-start
+    part-round-end
+    round-requires
+    cast-third
+    third-requires
     sub-take-turn
     part-take-turn-start
     part-take-turn-end

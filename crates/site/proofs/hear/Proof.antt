@@ -1,21 +1,21 @@
--- `site::hear`: the acknowledgment is kept in the table, then the header is written.
+-- `site::hear`: the acknowledgment is kept in the table, then what was received is written.
 -- Assumes nothing.
 use borrow.Author.Needs.{needs}
 use Rattle.site.proofs.Receiving.{hear-holds}
 use Rattle.site.proofs.hear.Statement.{statement}
 use Rattle.site.proofs.hear.Tie as tie
 
-read-requires : tie.Need-read-requires
-read-requires c κs = search needs
+received-requires : tie.Need-received-requires
+received-requires c κs = search needs
 
 hear-requires : tie.Need-hear-requires
 hear-requires c κs = search needs
 
-with-received-requires : tie.Need-with-received-requires
-with-received-requires c κs = search needs
+union-requires : tie.Need-union-requires
+union-requires c κs = search needs
 
-write-requires : tie.Need-write-requires
-write-requires c κs = search needs
+set-received-requires : tie.Need-set-received-requires
+set-received-requires c κs = search needs
 
 same-length : tie.Need-same-length
 same-length c = search needs
@@ -25,16 +25,16 @@ returns c =
     let s = c .before .before .before .before .before .before .before .before .before .before .before .before in
     hear-holds _ (λ i. c .before .before .before .before .before .before .before .before .before .before .before .slice-known .given i .fits) (s .pre .0) (s .args .set)
     (s .good .1 .1 .1 .0 .1 .1 .0 .1) (s .args .sender) (s .args .round) (s .pre .1) (s .pre .2) (s .pre .3)
-    (c .before .before .before .before .before .before .before .before .before .read .ensures) (c .before .before .before .before .before .before .before .hear .ensures)
-    (c .before .before .before .before .with-received .ensures) (c .before .before .write .ensures) (λ i. c .slice-known3 .given i .fits)
+    (c .before .before .before .before .before .before .before .before .before .received .ensures) (c .before .before .before .before .before .before .before .hear .ensures)
+    (c .before .before .before .union .ensures) (c .before .before .set-received .ensures) (λ i. c .slice-known3 .given i .fits)
 
 pub hear-spec : {M : Type 1} → statement M
 hear-spec =
     tie.close
     (tie.spec
-    read-requires
+    received-requires
     hear-requires
-    with-received-requires
-    write-requires
+    union-requires
+    set-received-requires
     same-length
     returns)

@@ -1,0 +1,151 @@
+-- Laws of single fields: a field written where it stands leaves the bytes of the header with that field.
+-- Assumes nothing.
+use mathlib.Core.Path.{_≡_, refl, sym, ap, _∙_}
+use mathlib.Core.Bool.{Bool, not}
+use mathlib.Core.List.{List, _++_}
+use Prim.Native.Nat.{ℕ, zero, suc, _≤_, _<_}
+use native.Mathlib.Omega.{arith}
+use lib.Dec.{eqb}
+use lib.ListN.{length, take, drop, getD, take-append-drop}
+use lib.Seq.{take-at}
+use borrow.Author.Tests.{ne-eqb}
+use Rattle.wire.specs.Wire.{bytes, readLe, splice}
+use Rattle.wire.proofs.Laws.{part-before}
+use Rattle.sets.specs.declared.Set.{Set}
+use Rattle.sets.specs.Sets.{readSet, writeSet}
+use Rattle.layout.specs.declared.Phase.{Phase}
+use Rattle.layout.specs.declared.Phase.the-variants.{Waiting}
+use Rattle.layout.specs.declared.Site.{Site}
+use Rattle.layout.specs.Layout.{phasePlace, countPlace, positionPlace, receivedPlace, pendingPlace, fastPlace, ncPlace, cPlace, heardPlace, headOf, phaseFrom, isWaiting, numbersBytes, setsBytes, headBytes, waitsWith}
+use Rattle.layout.specs.Good.{Good}
+use Rattle.layout.proofs.Header.{length-head, head-bytes}
+
+-- ---- what the code of layout does
+
+pub waiting-tag : (b : List ℕ) {n : ℕ} → n ≡ readLe 1 b phasePlace → not (eqb n 0) ≡ isWaiting (headOf b .phase)
+unfolding headOf
+waiting-tag b e = ap (λ (k : ℕ). not (eqb k 0)) e ∙ by-tag (readLe 1 b phasePlace)
+  where
+    by-tag : (n : ℕ) → not (eqb n 0) ≡ isWaiting (phaseFrom n (readSet b ncPlace) (readSet b cPlace))
+    by-tag zero = refl
+    by-tag (suc n) = ap not (ne-eqb (suc n) 0 (λ e. omega arith))
+
+pub waits : (b : List ℕ) (nc c : Set) {l₁ l₂ l₃ : List ℕ} → l₁ ≡ splice b phasePlace (bytes 1 1) → l₂ ≡ writeSet l₁ ncPlace nc → l₃ ≡ writeSet l₂ cPlace c
+    → l₃ ≡ waitsWith b nc c
+waits b nc c e₁ e₂ e₃ = e₃ ∙ ap (λ (l : List ℕ). writeSet l cPlace c) (e₂ ∙ ap (λ (l : List ℕ). writeSet l ncPlace nc) e₁)
+
+-- ---- the header in front of the bytes
+
+-- The bytes begin with those of a header.
+abbrev pub Begins : Site → List ℕ → Type 0
+Begins h b = take heardPlace b ≡ headBytes h
+
+-- Good bytes begin with those of the header that is read of them.
+pub begins : {sites commands : ℕ} (b : List ℕ) → Good sites commands b → ((i : ℕ) → getD b i 0 < 256) → Begins (headOf b) b
+begins b g small =
+    ap (take heardPlace) (sym (head-bytes b small (g .size) (g .tag) (g .idle))) ∙ take-at (headBytes (headOf b)) (drop heardPlace b) heardPlace (length-head (headOf b))
+
+-- They still do after a write behind it.
+pub begins-still : (b : List ℕ) (h : Site) (at : ℕ) (bs : List ℕ) → at ≤ length b → heardPlace ≤ at → Begins h b → Begins h (splice b at bs)
+begins-still b h at bs l m e = part-before b at bs heardPlace 0 l m ∙ e
+
+-- What is left where a header is written.
+over : (b : List ℕ) (h : Site) → splice b 0 (headBytes h) ≡ headBytes h ++ drop heardPlace b
+unfolding splice numbersBytes setsBytes bytes
+over b h = refl
+
+-- A write that makes the header h of h₀, whatever stands after it, is that of the header h to bytes that begin with h₀.
+pub in-head : (write : List ℕ → List ℕ) (h₀ h : Site) (b : List ℕ) → ((rest : List ℕ) → write (headBytes h₀ ++ rest) ≡ headBytes h ++ rest) → Begins h₀ b
+    → write b ≡ splice b 0 (headBytes h)
+in-head write h₀ h b law e =
+    ap write (sym (take-append-drop heardPlace b) ∙ ap (λ (l : List ℕ). l ++ drop heardPlace b) e) ∙ law (drop heardPlace b) ∙ sym (over b h)
+
+-- ---- one field another
+
+module _ (h : Site) where
+  abbrev pub withReceived : Set → Site
+  withReceived x =
+      record {
+        round = h .round;
+        phase = h .phase;
+        position = h .position;
+        deliveries = h .deliveries;
+        received = x;
+        delivered = h .delivered;
+        pending = h .pending;
+        fast = h .fast;
+      }
+
+  abbrev pub withPosition : ℕ → Site
+  withPosition n =
+      record {
+        round = h .round;
+        phase = h .phase;
+        position = n;
+        deliveries = h .deliveries;
+        received = h .received;
+        delivered = h .delivered;
+        pending = h .pending;
+        fast = h .fast;
+      }
+
+  abbrev pub withPending : Set → Site
+  withPending x =
+      record {
+        round = h .round;
+        phase = h .phase;
+        position = h .position;
+        deliveries = h .deliveries;
+        received = h .received;
+        delivered = h .delivered;
+        pending = x;
+        fast = h .fast;
+      }
+
+  abbrev pub withPhase : Phase → Site
+  withPhase p =
+      record {
+        round = h .round;
+        phase = p;
+        position = h .position;
+        deliveries = h .deliveries;
+        received = h .received;
+        delivered = h .delivered;
+        pending = h .pending;
+        fast = h .fast;
+      }
+
+  -- A delivery recorded, and the commands delivered fast.
+  abbrev pub withFast : ℕ → Set → Site
+  withFast n x =
+      record {
+        round = h .round;
+        phase = h .phase;
+        position = h .position;
+        deliveries = n;
+        received = h .received;
+        delivered = h .delivered;
+        pending = h .pending;
+        fast = x;
+      }
+
+  module _ (b : List ℕ) (e : Begins h b) where
+    pub received-written : (x : Set) → writeSet b receivedPlace x ≡ splice b 0 (headBytes (withReceived x))
+    unfolding writeSet splice numbersBytes setsBytes bytes
+    received-written x = in-head (λ l. writeSet l receivedPlace x) h (withReceived x) b (λ rest. refl) e
+
+    pub position-written : (n : ℕ) → splice b positionPlace (bytes 2 n) ≡ splice b 0 (headBytes (withPosition n))
+    unfolding splice numbersBytes setsBytes bytes
+    position-written n = in-head (λ l. splice l positionPlace (bytes 2 n)) h (withPosition n) b (λ rest. refl) e
+
+    pub pending-written : (x : Set) → writeSet b pendingPlace x ≡ splice b 0 (headBytes (withPending x))
+    unfolding writeSet splice numbersBytes setsBytes bytes
+    pending-written x = in-head (λ l. writeSet l pendingPlace x) h (withPending x) b (λ rest. refl) e
+
+    pub waiting-written : (nc c : Set) → waitsWith b nc c ≡ splice b 0 (headBytes (withPhase (Waiting (record { nc = nc; c = c }))))
+    unfolding writeSet splice numbersBytes setsBytes bytes
+    waiting-written nc c = in-head (λ l. waitsWith l nc c) h (withPhase (Waiting (record { nc = nc; c = c }))) b (λ rest. refl) e
+
+    pub fast-written : (n : ℕ) (x : Set) → splice (writeSet b fastPlace x) countPlace (bytes 1 n) ≡ splice b 0 (headBytes (withFast n x))
+    unfolding writeSet splice numbersBytes setsBytes bytes
+    fast-written n x = in-head (λ l. splice (writeSet l fastPlace x) countPlace (bytes 1 n)) h (withFast n x) b (λ rest. refl) e

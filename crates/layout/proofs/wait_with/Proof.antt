@@ -1,0 +1,27 @@
+-- `layout::wait_with`: the tag and both sets are written.
+-- Assumes nothing.
+use borrow.Author.Needs.{needs}
+use Rattle.layout.proofs.Fields.{waits}
+use Rattle.layout.proofs.wait_with.Statement.{statement}
+use Rattle.layout.proofs.wait_with.Tie as tie
+
+put1-requires : tie.Need-put1-requires
+put1-requires c κs = search needs
+
+write-requires : tie.Need-write-requires
+write-requires c κs = search needs
+
+write-requires-2 : tie.Need-write-requires-2
+write-requires-2 c κs = search needs
+
+same-length : tie.Need-same-length
+same-length c = search needs
+
+returns : tie.Need-returns
+returns c =
+    waits _ _ _ (c .before .before .before .before .before .before .before .before .before .before .put1 .ensures) (c .before .before .before .before .before .before .write .ensures)
+    (c .before .before .write2 .ensures)
+
+pub wait-with-spec : {M : Type 1} → statement M
+wait-with-spec =
+    tie.close (tie.spec put1-requires write-requires write-requires-2 same-length returns)
