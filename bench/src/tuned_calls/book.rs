@@ -39,17 +39,16 @@ impl Noted for Places {
 /// The longest command, a FIT.
 const LONGEST: usize = 10;
 
-/// The size of the command at the front of the bytes; none where there is none.
+/// Whether a FIT's start is a reading.
+#[inline(always)]
+fn is_start(fit: &[u8; LONGEST]) -> bool {
+    fit.last_chunk().is_some_and(|start| u32::from_le_bytes(*start) <= MOST_READING as u32)
+}
+
+/// The size of the command in bytes too few for a FIT; none where there is none.
 #[inline(always)]
 fn size(bytes: &[u8]) -> Option<usize> {
-    let size = match *bytes.first()? {
-        0x02 => {
-            let start = u32::from_le_bytes(*bytes.get(6..)?.first_chunk()?);
-            if start > MOST_READING as u32 {
-                return None;
-            }
-            LONGEST
-        }
+    let size = match bytes.first()? {
         0x01 | 0x04 => 4,
         0x03 => 2,
         _ => return None,
@@ -60,20 +59,32 @@ fn size(bytes: &[u8]) -> Option<usize> {
 /// How many commands a book has; none where it is no book.
 #[inline(always)]
 pub fn measure(book: &[u8], noted: &mut impl Noted) -> Option<usize> {
-    let mut rest = book;
-    for number in 0..COMMANDS {
-        if rest.is_empty() {
-            return Some(number);
+    let (mut rest, mut number, mut bikes) = (book, 0, 0);
+    // Only near the end can an operand be cut. Branches on the kind, which are foretold, are faster than a table of
+    // sizes, which each command would wait for.
+    while let Some(front) = rest.first_chunk::<LONGEST>() {
+        if number == COMMANDS {
+            return None;
         }
         noted.note(number, book.len() - rest.len());
-        // Only near the end can an operand be cut.
-        let size = match rest.first_chunk::<LONGEST>() {
-            Some(front) => size(front)?,
-            None => size(rest)?,
+        bikes |= usize::from(front[1]);
+        rest = match front[0] {
+            0x02 if is_start(front) => &rest[LONGEST..],
+            0x01 | 0x04 => &rest[4..],
+            0x03 => &rest[2..],
+            _ => return None,
         };
-        rest = &rest[size..];
+        number += 1;
     }
-    rest.is_empty().then_some(COMMANDS)
+    while !rest.is_empty() {
+        if number == COMMANDS {
+            return None;
+        }
+        noted.note(number, book.len() - rest.len());
+        rest = &rest[size(rest)?..];
+        number += 1;
+    }
+    (bikes < BIKES).then_some(number)
 }
 
 /// Whether no two commands of a set conflict: on each bike there are ADDs only, READs only, or one command.
