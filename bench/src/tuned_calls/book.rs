@@ -60,20 +60,24 @@ fn size(bytes: &[u8]) -> Option<usize> {
 #[inline(always)]
 pub fn measure(book: &[u8], noted: &mut impl Noted) -> Option<usize> {
     let (mut rest, mut number, mut bikes) = (book, 0, 0);
-    // Only near the end can an operand be cut. Branches on the kind, which are foretold, are faster than a table of
-    // sizes, which each command would wait for.
+    // Only near the end can an operand be cut. Branches on the kind are foretold, while each command would wait for
+    // a table of sizes; and the kinds of one size are tested such that no table of jumps comes of it.
     while let Some(front) = rest.first_chunk::<LONGEST>() {
         if number == COMMANDS {
             return None;
         }
         noted.note(number, book.len() - rest.len());
         bikes |= usize::from(front[1]);
-        rest = match front[0] {
-            0x02 if is_start(front) => &rest[LONGEST..],
-            0x01 | 0x04 => &rest[4..],
-            0x03 => &rest[2..],
-            _ => return None,
-        };
+        let kind = front[0];
+        if kind == 0x02 && is_start(front) {
+            rest = &rest[LONGEST..];
+        } else if kind & !0x05 == 0 && kind != 0 && kind != 0x05 {
+            rest = &rest[4..];
+        } else if kind == 0x03 {
+            rest = &rest[2..];
+        } else {
+            return None;
+        }
         number += 1;
     }
     while !rest.is_empty() {

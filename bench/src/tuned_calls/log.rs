@@ -25,8 +25,8 @@ pub struct Prefix {
 
 /// Source and round, the latter from 0 on, as one number.
 #[inline(always)]
-fn head(source: u8, round: u8) -> u16 {
-    u16::from_le_bytes([source, round]).wrapping_sub(0x100)
+fn head(source_and_round: [u8; 2]) -> u16 {
+    u16::from_le_bytes(source_and_round).wrapping_sub(0x100)
 }
 
 /// The cell of a source and round in range.
@@ -43,32 +43,37 @@ pub fn is_in_range(entry: &LogEntry, frame: &Frame) -> bool {
 }
 
 impl Prefix {
-    /// Judges the entries that a site of this round has read; none where a log read would refuse one of them.
+    /// Nothing counted yet. What a source that there is not has in a round is as if it had two entries.
     #[inline(always)]
-    pub fn judge<const IN_ROUND: bool>(read: Entries, frame: &Frame, round: u8) -> Option<Prefix> {
-        if read.len() > 2 * usize::from(LAST_ROUND) * frame.sites {
-            return None;
-        }
-        // What a source that there is not has in a round is as if it had two entries.
+    pub fn new(sites: usize) -> Prefix {
         let mut none = [2; 16];
-        none[..frame.sites].fill(0);
+        none[..sites.min(SITES)].fill(0);
         let mut counts = [0; CELLS];
         counts.as_chunks_mut().0.fill(none);
-        let mut prefix = Prefix { counts, of_round: [0; OF_ROUND], in_round: 0 };
-        let is_good = match frame.beyond {
-            0 => prefix.count::<IN_ROUND, false>(read, round) == 0,
-            beyond => prefix.count::<IN_ROUND, true>(read, round) & beyond == 0,
-        };
-        is_good.then_some(prefix)
+        Prefix { counts, of_round: [0; OF_ROUND], in_round: 0 }
+    }
+
+    /// Whether a log read would take each of the entries that a site of this round has read. They are counted.
+    #[inline(always)]
+    pub fn judge<const IN_ROUND: bool>(&mut self, read: Entries, frame: &Frame, round: u8) -> bool {
+        if read.len() > 2 * usize::from(LAST_ROUND) * frame.sites {
+            return false;
+        }
+        match frame.beyond {
+            0 => self.count::<IN_ROUND, false>(read, round) == 0,
+            beyond => self.count::<IN_ROUND, true>(read, round) & beyond == 0,
+        }
     }
 
     /// Counts the entries; gives all commands of their sets, where they are wanted, or of all commands where a number
     /// is out of range or an entry is a third.
-    #[inline(always)]
+    ///
+    /// A function of its own, so that its loop has the registers.
+    #[inline(never)]
     fn count<const IN_ROUND: bool, const SETS: bool>(&mut self, read: Entries, round: u8) -> u64 {
-        let (mut heads, mut found, mut sets) = (0, 0, 0);
+        let (mut heads, mut found, mut sets, mut in_round) = (0, 0, 0, 0);
         for (place, entry) in read.iter().enumerate() {
-            let head = head(entry[0], entry[1]);
+            let head = head(*entry.first_chunk().expect("an entry begins with two numbers"));
             heads |= head;
             let count = &mut self.counts[cell(head)];
             found |= *count;
@@ -76,11 +81,12 @@ impl Prefix {
             if SETS {
                 sets |= word(entry, 2) | word(entry, 10);
             }
-            if IN_ROUND {
-                self.of_round[self.in_round % OF_ROUND] = place as u16;
-                self.in_round += usize::from(entry[1] == round);
+            if IN_ROUND && entry[1] == round {
+                self.of_round[in_round % OF_ROUND] = place as u16;
+                in_round += 1;
             }
         }
+        self.in_round = in_round;
         let is_good = heads & 0xE0F0 == 0 && found & 2 == 0;
         if is_good {
             sets
@@ -95,7 +101,7 @@ impl Prefix {
         if round > LAST_ROUND {
             0
         } else {
-            usize::from(self.counts[cell(head(source, round))])
+            usize::from(self.counts[cell(head([source, round]))])
         }
     }
 

@@ -94,25 +94,25 @@ fn judge((sites, faults): (usize, usize), book: &[u8], site: &Bytes, noted: &mut
     }
 }
 
-/// Table, book, log and site; the entries of the log and, of those that the site has read, how many each source has
-/// in each round. The places of entries of the site's round are noted where they are wanted.
+/// Table, book, log and site; the entries of the log. How many of those that the site has read each source has in
+/// each round is counted, and those of the site's round are noted where they are wanted.
 #[inline(always)]
 fn judge_with_log<'a, const IN_ROUND: bool>(
     (sites, faults): (usize, usize),
     book: &[u8],
     site: &Bytes,
     log: &'a [u8],
-    noted: &mut impl Noted,
-) -> Result<(Frame, Entries<'a>, Prefix), Refusal> {
+    (noted, prefix): (&mut impl Noted, &mut Prefix),
+) -> Result<(Frame, Entries<'a>), Refusal> {
     let frame = judge_rules(sites, faults, book, noted)?;
     let (entries, cut) = log.as_chunks();
     if !cut.is_empty() {
         return Err(FORM);
     }
     let read = entries.get(..site::position(site)).ok_or(RANGE)?;
-    if !site::is_good(site, &frame) {
-        return Err(RANGE);
+    if site::is_good(site, &frame) && prefix.judge::<IN_ROUND>(read, &frame, site[site::ROUND]) {
+        Ok((frame, entries))
+    } else {
+        Err(RANGE)
     }
-    let prefix = Prefix::judge::<IN_ROUND>(read, &frame, site[site::ROUND]).ok_or(RANGE)?;
-    Ok((frame, entries, prefix))
 }

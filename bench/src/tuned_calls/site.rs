@@ -85,18 +85,31 @@ fn are_readings(site: &Bytes) -> bool {
     (sums[0] | sums[1] | sums[2] | sums[3]) >> BITS == 0
 }
 
+/// The bytes of sixteen deliveries, which fill whole blocks of 16, and which of them are commands.
+const SIXTEEN: usize = 16 * DELIVERY;
+const COMMAND_BYTES: [u8; SIXTEEN] = {
+    let (mut bytes, mut k) = ([0; SIXTEEN], 0);
+    while k < 16 {
+        bytes[DELIVERY * k] = u8::MAX;
+        k += 1;
+    }
+    bytes
+};
+
 /// Whether what is recorded are commands of the book, and the rest is 0. What is not recorded may be taken for
 /// commands 0, so all places are looked at alike.
 #[inline(always)]
 fn are_deliveries(site: &Bytes, count: usize, recorded: usize) -> bool {
-    // Sixteen deliveries fill whole blocks of 16 bytes.
-    let mut greatest = [0u8; 16 * DELIVERY];
-    for block in site[DELIVERIES..].as_chunks::<{ 16 * DELIVERY }>().0 {
+    let mut greatest = [0u8; SIXTEEN];
+    for block in site[DELIVERIES..].as_chunks::<SIXTEEN>().0 {
         for (greatest, byte) in greatest.iter_mut().zip(block) {
             *greatest = (*greatest).max(*byte);
         }
     }
-    let commands = greatest.iter().step_by(DELIVERY).fold(0, |most, command| most.max(*command));
+    let mut commands = 0;
+    for (byte, mask) in greatest.iter().zip(&COMMAND_BYTES) {
+        commands = commands.max(byte & mask);
+    }
     usize::from(commands) < count.max(1) && is_zero(&site[DELIVERIES + DELIVERY * recorded.min(COMMANDS)..])
 }
 

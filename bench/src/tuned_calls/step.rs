@@ -1,7 +1,7 @@
 //! The steps of a lent site: a turn, a fast delivery, a log read, a round end.
 
 use super::book::{is_free, Places};
-use super::log::{is_in_range, LAST_ROUND};
+use super::log::{is_in_range, Prefix, LAST_ROUND};
 use super::site::*;
 use super::{judge, judge_with_log, number};
 use crate::tuned::{word, Refusal, LAST_ROUND as LAST, NOT_ENABLED, RANGE, ROOM, THIRD_ENTRY};
@@ -22,18 +22,21 @@ pub fn turn(
     number((|| {
         let site = site.first_chunk_mut::<SITE_BYTES>().ok_or(ROOM)?;
         let out = out.first_chunk_mut::<TURN_BYTES>().ok_or(ROOM)?;
-        let mut places = Places::new();
-        let (_, entries, prefix) = judge_with_log::<false>((sites, faults), book, site, log, &mut places)?;
+        let (mut places, mut prefix) = (Places::new(), Prefix::new(sites));
+        let noted = (&mut places, &mut prefix);
+        let (_, entries) = judge_with_log::<false>((sites, faults), book, site, log, noted)?;
         if own >= sites {
             return Err(RANGE);
         }
-        let (open, pending) = (word(site, RECEIVED) & !word(site, DELIVERED), word(site, PENDING));
-        if site[PHASE] == 1 || open & !pending == 0 {
+        let open = word(site, RECEIVED) & !word(site, DELIVERED);
+        let (new, round) = (open & !word(site, PENDING), site[ROUND]);
+        if site[PHASE] == 1 || new == 0 {
             return Err(NOT_ENABLED);
         }
-        let round = site[ROUND];
-        let is_acknowledging = is_free(book, &places, open);
-        if !is_acknowledging {
+        if is_free(book, &places, open) {
+            put_word(site, PENDING, open);
+            out[0] = 1;
+        } else {
             let unread = entries[position(site)..].iter().filter(|entry| entry[..2] == [own as u8, round]);
             if prefix.count_of(own as u8, round) + unread.count() >= 2 {
                 return Err(THIRD_ENTRY);
@@ -41,14 +44,9 @@ pub fn turn(
             if round > LAST_ROUND {
                 return Err(LAST);
             }
+            propose(site, own as u8, new, out);
         }
-        out[0] = if is_acknowledging { 1 } else { 2 };
         out[1..ENTRY].copy_from_slice(&open.to_le_bytes());
-        if is_acknowledging {
-            put_word(site, PENDING, open);
-        } else {
-            propose(site, own as u8, open & !pending, out);
-        }
         Ok(())
     })())
 }
@@ -57,6 +55,7 @@ pub fn turn(
 #[inline(always)]
 fn propose(site: &mut Bytes, own: u8, c: u64, out: &mut [u8; TURN_BYTES]) {
     let nc = word(site, PENDING);
+    out[0] = 2;
     out[ENTRY] = own;
     out[ENTRY + 1] = site[ROUND];
     out[ENTRY + 2..ENTRY + 10].copy_from_slice(&nc.to_le_bytes());
@@ -96,7 +95,8 @@ pub fn fast_delivery(sites: usize, faults: usize, book: &[u8], site: &mut [u8], 
 pub fn log_read(sites: usize, faults: usize, book: &[u8], site: &mut [u8], log: &[u8]) -> Refusal {
     number((|| {
         let site = site.first_chunk_mut::<SITE_BYTES>().ok_or(ROOM)?;
-        let (frame, entries, prefix) = judge_with_log::<false>((sites, faults), book, site, log, &mut ())?;
+        let mut prefix = Prefix::new(sites);
+        let (frame, entries) = judge_with_log::<false>((sites, faults), book, site, log, (&mut (), &mut prefix))?;
         let position = position(site);
         let entry = entries.get(position).ok_or(NOT_ENABLED)?;
         if !is_in_range(entry, &frame) {
@@ -114,8 +114,9 @@ pub fn log_read(sites: usize, faults: usize, book: &[u8], site: &mut [u8], log: 
 pub fn round_end(sites: usize, faults: usize, book: &[u8], site: &mut [u8], log: &[u8]) -> Refusal {
     number((|| {
         let site = site.first_chunk_mut::<SITE_BYTES>().ok_or(ROOM)?;
-        let mut places = Places::new();
-        let (frame, entries, prefix) = judge_with_log::<true>((sites, faults), book, site, log, &mut places)?;
+        let (mut places, mut prefix) = (Places::new(), Prefix::new(sites));
+        let noted = (&mut places, &mut prefix);
+        let (frame, entries) = judge_with_log::<true>((sites, faults), book, site, log, noted)?;
         if site[PHASE] == 0 {
             return Err(NOT_ENABLED);
         }
