@@ -1,6 +1,6 @@
 //! How much of the stack a call takes: it is made on a stack of its own, and what it wrote there is looked for.
 
-const STACK: usize = 1 << 18;
+const STACK: usize = 1 << 20;
 const UNTOUCHED: u8 = 0xA5;
 
 #[cfg(target_arch = "x86_64")]

@@ -3,7 +3,7 @@
 use super::book::{is_free, Places};
 use super::Frame;
 use crate::tuned::log::{settle, Decision, Entry, EMPTY};
-use crate::tuned::{word, SITES};
+use crate::tuned::{word, Refusal, RANGE, SITES};
 
 pub const ENTRY_BYTES: usize = 18;
 /// The last round of an entry.
@@ -53,15 +53,20 @@ impl Prefix {
         Prefix { counts, of_round: [0; OF_ROUND], in_round: 0 }
     }
 
-    /// Whether a log read would take each of the entries that a site of this round has read. They are counted.
+    /// Judges and counts the entries that a site of this round has read: each must be one that a log read takes.
     #[inline(always)]
-    pub fn judge<const IN_ROUND: bool>(&mut self, read: Entries, frame: &Frame, round: u8) -> bool {
+    pub fn judge<const IN_ROUND: bool>(&mut self, read: Entries, frame: &Frame, round: u8) -> Result<(), Refusal> {
         if read.len() > 2 * usize::from(LAST_ROUND) * frame.sites {
-            return false;
+            return Err(RANGE);
         }
-        match frame.beyond {
-            0 => self.count::<IN_ROUND, false>(read, round) == 0,
-            beyond => self.count::<IN_ROUND, true>(read, round) & beyond == 0,
+        let bad = match frame.beyond {
+            0 => self.count::<IN_ROUND, false>(read, round),
+            beyond => self.count::<IN_ROUND, true>(read, round) & beyond,
+        };
+        if bad == 0 {
+            Ok(())
+        } else {
+            Err(RANGE)
         }
     }
 

@@ -22,7 +22,7 @@ pub use step::{fast_delivery, log_read, round_end, turn};
 
 use crate::tuned::{Refusal, BOOK, COMMANDS, FORM, HEADER, RANGE, ROOM, SITES, TAKEN};
 use book::Noted;
-use log::{Entries, Prefix};
+use log::Entries;
 use site::{Bytes, SITE_BYTES};
 
 /// What is known of a lent site's table and book after both are judged.
@@ -94,24 +94,23 @@ fn judge((sites, faults): (usize, usize), book: &[u8], site: &Bytes, noted: &mut
     }
 }
 
-/// Table, book, log and site; the entries of the log. How many of those that the site has read each source has in
-/// each round is counted, and those of the site's round are noted where they are wanted.
+/// Table, book, log and site; the entries of the log, and those that the site has read, which are not judged yet.
 #[inline(always)]
-fn judge_with_log<'a, const IN_ROUND: bool>(
+fn judge_with_log<'a>(
     (sites, faults): (usize, usize),
     book: &[u8],
     site: &Bytes,
     log: &'a [u8],
-    (noted, prefix): (&mut impl Noted, &mut Prefix),
-) -> Result<(Frame, Entries<'a>), Refusal> {
+    noted: &mut impl Noted,
+) -> Result<(Frame, Entries<'a>, Entries<'a>), Refusal> {
     let frame = judge_rules(sites, faults, book, noted)?;
     let (entries, cut) = log.as_chunks();
     if !cut.is_empty() {
         return Err(FORM);
     }
     let read = entries.get(..site::position(site)).ok_or(RANGE)?;
-    if site::is_good(site, &frame) && prefix.judge::<IN_ROUND>(read, &frame, site[site::ROUND]) {
-        Ok((frame, entries))
+    if site::is_good(site, &frame) {
+        Ok((frame, entries, read))
     } else {
         Err(RANGE)
     }

@@ -22,9 +22,10 @@ pub fn turn(
     number((|| {
         let site = site.first_chunk_mut::<SITE_BYTES>().ok_or(ROOM)?;
         let out = out.first_chunk_mut::<TURN_BYTES>().ok_or(ROOM)?;
-        let (mut places, mut prefix) = (Places::new(), Prefix::new(sites));
-        let noted = (&mut places, &mut prefix);
-        let (_, entries) = judge_with_log::<false>((sites, faults), book, site, log, noted)?;
+        let mut places = Places::new();
+        let (frame, entries, read) = judge_with_log((sites, faults), book, site, log, &mut places)?;
+        let mut prefix = Prefix::new(sites);
+        prefix.judge::<false>(read, &frame, site[ROUND])?;
         if own >= sites {
             return Err(RANGE);
         }
@@ -95,8 +96,9 @@ pub fn fast_delivery(sites: usize, faults: usize, book: &[u8], site: &mut [u8], 
 pub fn log_read(sites: usize, faults: usize, book: &[u8], site: &mut [u8], log: &[u8]) -> Refusal {
     number((|| {
         let site = site.first_chunk_mut::<SITE_BYTES>().ok_or(ROOM)?;
+        let (frame, entries, read) = judge_with_log((sites, faults), book, site, log, &mut ())?;
         let mut prefix = Prefix::new(sites);
-        let (frame, entries) = judge_with_log::<false>((sites, faults), book, site, log, (&mut (), &mut prefix))?;
+        prefix.judge::<false>(read, &frame, site[ROUND])?;
         let position = position(site);
         let entry = entries.get(position).ok_or(NOT_ENABLED)?;
         if !is_in_range(entry, &frame) {
@@ -114,14 +116,15 @@ pub fn log_read(sites: usize, faults: usize, book: &[u8], site: &mut [u8], log: 
 pub fn round_end(sites: usize, faults: usize, book: &[u8], site: &mut [u8], log: &[u8]) -> Refusal {
     number((|| {
         let site = site.first_chunk_mut::<SITE_BYTES>().ok_or(ROOM)?;
-        let (mut places, mut prefix) = (Places::new(), Prefix::new(sites));
-        let noted = (&mut places, &mut prefix);
-        let (frame, entries) = judge_with_log::<true>((sites, faults), book, site, log, noted)?;
+        let mut places = Places::new();
+        let (frame, _, read) = judge_with_log((sites, faults), book, site, log, &mut places)?;
+        let mut prefix = Prefix::new(sites);
+        prefix.judge::<true>(read, &frame, site[ROUND])?;
         if site[PHASE] == 0 {
             return Err(NOT_ENABLED);
         }
         let n_chk = (sites - faults) as u32;
-        let decision = prefix.decide(entries, book, &places, n_chk).ok_or(NOT_ENABLED)?;
+        let decision = prefix.decide(read, book, &places, n_chk).ok_or(NOT_ENABLED)?;
         let earlier = word(site, DELIVERED) | word(site, FAST);
         let news = [decision.nc & !earlier, decision.c & !earlier];
         let mut k = usize::from(site[COUNT]);
