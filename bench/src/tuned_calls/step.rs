@@ -39,11 +39,9 @@ pub fn turn(
             out[0] = 1;
         } else {
             let unread = entries[position(site)..].iter().filter(|entry| entry[..2] == [own as u8, round]);
-            if prefix.count_of(own as u8, round) + unread.count() >= 2 {
-                return Err(THIRD_ENTRY);
-            }
-            if round > LAST_ROUND {
-                return Err(LAST);
+            let count = prefix.count_of(own as u8, round) + unread.count();
+            if count >= 2 || round > LAST_ROUND {
+                return Err(if count >= 2 { THIRD_ENTRY } else { LAST });
             }
             propose(site, own as u8, new, out);
         }
