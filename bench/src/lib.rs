@@ -1,5 +1,6 @@
 //! A tuned program of the dash register and what is needed to measure it beside the reference and the proved one.
 
+pub mod calls;
 pub mod measure;
 pub mod memory;
 pub mod programs;
@@ -7,5 +8,6 @@ pub mod programs;
 pub mod proved;
 pub mod table;
 pub mod tuned;
+pub mod tuned_calls;
 pub mod workloads;
 pub mod writer;

@@ -1,10 +1,16 @@
-//! Prints the times of the reference, the tuned and, with the feature `archive`, the proved program.
+//! Prints the times of the reference, the tuned and, with the features `archive` and `host`, the proved program:
+//! first whole runs, then single calls of one site.
 
-use bench::measure::{check, nanoseconds, Effort};
+use bench::calls::cases::{self, Case};
+use bench::calls::engines::{self, Named, Nothing};
+use bench::calls::stack;
+use bench::measure::Effort;
 use bench::memory::{most_held, Counting};
 use bench::programs::{self, Measured};
 use bench::table::Table;
 use bench::workloads::{self, Workload};
+use bench::{calls, measure};
+use compare::lent_calls::Engine;
 use compare::settings::number;
 use std::time::Duration;
 
@@ -14,19 +20,19 @@ static ALLOCATOR: Counting = Counting;
 type Programs = [Box<dyn Measured>];
 
 /// Which times are divided by which, by the programs' places.
-fn ratios(programs: &Programs) -> Vec<(usize, usize)> {
-    match programs.len() {
-        2 => vec![(0, 1)],
-        _ => vec![(2, 1), (2, 0), (0, 1)],
+fn ratios(programs: usize) -> &'static [(usize, usize)] {
+    match programs {
+        2 => &[(0, 1)],
+        _ => &[(2, 1), (2, 0), (0, 1)],
     }
 }
 
-fn empty_table(programs: &Programs) -> Table {
-    let mut table = Table::new("Nanoseconds a step, best of the turns; ratios of these", &["workload", "steps"]);
-    table.columns.extend(programs.iter().map(|program| String::from(program.name())));
-    for (over, under) in ratios(programs) {
-        table.columns.push(format!("{}/{}", programs[over].name(), programs[under].name()));
-    }
+/// A table of times of these programs, after the columns that say what is measured.
+fn times_table(title: &str, first: &[&str], names: &[&str]) -> Table {
+    let mut table = Table::new(title, first);
+    table.columns.extend(names.iter().map(|name| String::from(*name)));
+    let ratios = ratios(names.len()).iter();
+    table.columns.extend(ratios.map(|(over, under)| format!("{}/{}", names[*over], names[*under])));
     table
 }
 
@@ -39,20 +45,40 @@ fn ratio(over: f64, under: f64) -> String {
     }
 }
 
-fn row(programs: &mut Programs, workload: &Workload, effort: Effort) -> Vec<String> {
-    check(programs, workload);
-    let times = nanoseconds(programs, workload, effort);
-    let mut row = vec![workload.name.clone(), workload.steps.to_string()];
-    row.extend(times.iter().map(|time| format!("{time:.1}")));
-    for (over, under) in ratios(programs) {
-        row.push(ratio(times[over], times[under]));
+/// The cells of times and of their ratios.
+fn cells(times: &[f64]) -> Vec<String> {
+    let ratios = ratios(times.len()).iter().map(|(over, under)| ratio(times[*over], times[*under]));
+    times.iter().map(|time| format!("{time:.1}")).chain(ratios).collect()
+}
+
+fn runs(programs: &mut Programs, workloads: &[Workload], effort: Effort) -> Table {
+    let names: Vec<&str> = programs.iter().map(|program| program.name()).collect();
+    let title = "Runs: nanoseconds a step, best of the turns; ratios of these";
+    let mut table = times_table(title, &["workload", "steps"], &names);
+    for workload in workloads {
+        measure::check(programs, workload);
+        let times = measure::nanoseconds(programs, workload, effort);
+        let first = [workload.name.clone(), workload.steps.to_string()];
+        table.rows.push(first.into_iter().chain(cells(&times)).collect());
     }
-    row
+    table
+}
+
+fn single_calls(engines: &mut [Named], cases: &[Case], effort: Effort) -> Table {
+    let names: Vec<&str> = engines.iter().map(|named| named.name).collect();
+    let title = "Single calls of one site: nanoseconds a call, best of the turns; ratios of these";
+    let mut table = times_table(title, &["call"], &names);
+    for case in cases {
+        calls::measure::check(engines, case);
+        let times = calls::measure::nanoseconds(engines, case, effort);
+        table.rows.push([case.name.clone()].into_iter().chain(cells(&times)).collect());
+    }
+    table
 }
 
 /// What each program holds: fixed buffers, and the most of the heap in any run.
 fn memory(programs: &mut Programs, workloads: &[Workload]) -> Table {
-    let mut table = Table::new("Memory in bytes", &["program", "buffers", "most heap in a run"]);
+    let mut table = Table::new("Memory of runs in bytes", &["program", "buffers", "most heap in a run"]);
     for program in programs {
         let mut most = 0;
         for run in workloads.iter().flat_map(|workload| &workload.runs) {
@@ -63,18 +89,44 @@ fn memory(programs: &mut Programs, workloads: &[Workload]) -> Table {
     table
 }
 
+/// The most of the stack that any call takes, beyond what a call of nothing takes.
+fn most_stack(engine: &mut dyn Engine, cases: &[Case]) -> Option<usize> {
+    let mut most = 0;
+    for case in cases {
+        let mut lent = case.lent.clone();
+        let around = stack::used(&mut || _ = Nothing.call(&case.call, &mut lent))?;
+        let all = stack::used(&mut || _ = engine.call(&case.call, &mut lent))?;
+        most = most.max(all.saturating_sub(around));
+    }
+    Some(most)
+}
+
+/// What the calls are lent, which is the same for all programs, and what each takes beside.
+fn memory_of_calls(engines: &mut [Named], cases: &[Case]) -> Table {
+    let columns = ["program", "lent: site", "a log entry", "a turn", "most heap in a call", "most stack in a call"];
+    let mut table = Table::new("Memory of single calls in bytes", &columns);
+    for Named { name, engine } in engines {
+        let mut most = 0;
+        for case in cases {
+            let mut lent = case.lent.clone();
+            most = most.max(most_held(|| _ = engine.call(&case.call, &mut lent)));
+        }
+        let stack = most_stack(engine.as_mut(), cases).map_or(String::from("-"), |most| most.to_string());
+        let lent = ["3533", "18", "27"].map(String::from);
+        table.rows.push([String::from(*name)].into_iter().chain(lent).chain([most.to_string(), stack]).collect());
+    }
+    table
+}
+
 fn main() {
     let milliseconds = number("BENCH_MILLISECONDS", 1);
     let turns = number("BENCH_TURNS", 31).max(1) as usize;
     let effort = Effort { turns, turn: Duration::from_millis(milliseconds) };
-    let mut programs = programs::all();
-    let workloads = workloads::all(number("BEURILMA_SEED", 1));
-    let mut table = empty_table(&programs);
-    for workload in &workloads {
-        table.rows.push(row(&mut programs, workload, effort));
-    }
-    println!("{table}");
-    // A table for single calls of the C entry points belongs here, with its declarations in a module of its own.
+    let (mut programs, workloads) = (programs::all(), workloads::all(number("BEURILMA_SEED", 1)));
+    println!("{}", runs(&mut programs, &workloads, effort));
+    let (mut engines, cases) = (engines::all(), cases::all());
+    println!("{}", single_calls(&mut engines, &cases, effort));
     println!("{}", memory(&mut programs, &workloads));
+    println!("{}", memory_of_calls(&mut engines, &cases));
     println!("{turns} turns of about {milliseconds} milliseconds; buffers are not cleared between calls.");
 }

@@ -32,7 +32,7 @@ fn free_book() -> Vec<Vec<u8>> {
 }
 
 /// 64 FITs and TRIMs on one bike: any two conflict.
-fn full_book() -> Vec<Vec<u8>> {
+pub fn full_book() -> Vec<Vec<u8>> {
     let fit = |number: u8| vec![0x02, 5, number, 0, 0, 0, number, 0x30, 0, 0];
     let trim = |number: u8| vec![0x04, 5, number, 0xFF];
     (0..64).map(|number| if number % 3 == 0 { fit(number) } else { trim(number) }).collect()
@@ -51,7 +51,7 @@ fn free(sites: usize) -> Workload {
 }
 
 /// A round with two commands: the first is delivered fast, the second conflicts with it.
-fn conflicting_round(writer: &mut Writer, round: usize) {
+pub fn conflicting_round(writer: &mut Writer, round: usize) {
     let (first, second) = (2 * (round - 1), 2 * (round - 1) + 1);
     let (nc, c) = (Set::from([first]), Set::from([second]));
     writer.command(first);
@@ -137,7 +137,7 @@ fn drawn(name: &str, seed: u64, count: u64, run: impl Fn(&mut Draw) -> Vec<u8>) 
 }
 
 /// Both commands of a round reach these sites, which then propose them.
-fn propose(writer: &mut Writer, sites: &[usize], round: usize) {
+pub fn propose(writer: &mut Writer, sites: &[usize], round: usize) {
     for to in sites {
         writer.take(Step::Command { to: *to, command: 2 * (round - 1) });
         writer.take(Step::Command { to: *to, command: 2 * (round - 1) + 1 });
@@ -145,11 +145,11 @@ fn propose(writer: &mut Writer, sites: &[usize], round: usize) {
     }
 }
 
-/// (e) Attempts to end a round that is not decided, by a site that has read so many entries.
+/// Site 0 waits in a round that is not decided, and has read so many entries, all that there are.
 ///
 /// Nine of eleven sites are correct. In the last round eight of them have proposed, one fewer than decide it.
 /// The faulty ones fill the log with entries whose NC has a conflict. A run's log has at most 416 entries here.
-fn attempts(entries: usize) -> Workload {
+pub fn mid_round(entries: usize) -> Writer {
     let mut writer = Writer::new(11, 2, full_book());
     let rounds = (entries + 1).div_ceil(13);
     let mut left = entries + 1 - 9 * rounds;
@@ -168,6 +168,12 @@ fn attempts(entries: usize) -> Workload {
     }
     writer.read_all(0);
     assert_eq!(writer.world.log.len(), entries);
+    writer
+}
+
+/// (e) Attempts to end a round that is not decided, by a site that has read so many entries.
+fn attempts(entries: usize) -> Workload {
+    let mut writer = mid_round(entries);
     let before = writer.run();
     for _ in 0..REFUSED {
         writer.refuse(&Step::RoundEnd { site: 0 }, 6);

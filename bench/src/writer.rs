@@ -1,23 +1,30 @@
 //! Runs written step by step while the reference's world takes the steps, each with the outcome that was meant.
 
 use compare::books::Opening;
-use reference::{play_run, Set, Step, World, MOST_BYTES};
+use compare::lent_calls::{Buffer, Lent};
+use compare::site_bytes::encode;
+use reference::{play_run, Entry, Set, Step, World, MOST_BYTES};
 
 pub struct Writer {
     pub world: World,
     pub correct: Vec<usize>,
     pub faulty: Vec<usize>,
+    book: Vec<u8>,
     bytes: Vec<u8>,
 }
+
+/// Room for what any call writes out.
+const OUT_BYTES: usize = 27;
 
 impl Writer {
     /// A run with so many sites and as many faults as they allow; the last `faulty` sites are faulty.
     pub fn new(sites: usize, faulty: usize, book: Vec<Vec<u8>>) -> Writer {
         let mask = (sites - faulty..sites).fold(0, |mask, site| mask | 1 << site);
+        let lines = book.concat();
         let bytes = Opening { sites, faults: (sites - 1) / 5, mask, book }.bytes();
         let world = play_run(&bytes).expect("the opening is taken").world;
         let faulty = world.faulty.iter().copied().collect();
-        Writer { correct: world.correct(), faulty, world, bytes }
+        Writer { correct: world.correct(), faulty, world, book: lines, bytes }
     }
 
     fn step(&mut self, step: &Step) -> Result<(), u32> {
@@ -76,7 +83,12 @@ impl Writer {
 
     /// The site reads the log to its end.
     pub fn read_all(&mut self, site: usize) {
-        while self.world.sites[site].log_position < self.world.log.len() {
+        self.read_to(site, self.world.log.len());
+    }
+
+    /// The site reads the log to this position.
+    pub fn read_to(&mut self, site: usize, position: usize) {
+        while self.world.sites[site].log_position < position {
             self.take(Step::LogRead { site });
         }
     }
@@ -88,6 +100,20 @@ impl Writer {
         }
         for site in sites {
             self.take(Step::RoundEnd { site: *site });
+        }
+    }
+
+    /// What a host lends for a site as it stands.
+    pub fn lent(&self, site: usize) -> Lent {
+        let table = &self.world.rules.table;
+        let log: Vec<u8> = self.world.log.iter().flat_map(Entry::bytes).collect();
+        Lent {
+            sites: table.sites(),
+            faults: table.faults(),
+            book: Buffer::new(&self.book, 0),
+            site: Buffer::new(&encode(&self.world.sites[site]).expect("a site of a run fits into its bytes"), 0),
+            log: Buffer::new(&log, 0),
+            out: Buffer::new(&[0; OUT_BYTES], 0),
         }
     }
 

@@ -15,15 +15,32 @@ pub struct Command {
     pub bike: u8,
     /// Which of the bike's commands this one does not conflict with: 0 other ADDs, 1 other READs, 2 none.
     group: u8,
-    pub keep: i32,
-    pub change: i32,
-    pub changed: i32,
-    pub before: i32,
+    keep: i32,
+    change: i32,
+    changed: i32,
+    before: i32,
+    dash: u32,
+}
+
+/// Reading and dash of a bike.
+#[derive(Clone, Copy)]
+pub struct Bike {
+    pub reading: i32,
     pub dash: u32,
 }
 
 impl Command {
     const READ: Command = Command { bike: 0, group: 1, keep: -1, change: 0, changed: 0, before: -1, dash: 0 };
+
+    /// The bike after the command, and the answer.
+    #[inline(always)]
+    pub fn execute(&self, bike: Bike) -> (Bike, i32) {
+        let before = bike.reading;
+        let reading = ((before & self.keep) + self.change).clamp(0, MOST_READING);
+        let dash = bike.dash & self.keep as u32 | self.dash;
+        let answer = ((reading - before) & self.changed) + (before & self.before);
+        (Bike { reading, dash }, answer)
+    }
 }
 
 pub struct Book {
@@ -38,7 +55,8 @@ pub struct Book {
 }
 
 /// A command from the front of the bytes, and what follows it.
-fn read_command(bytes: &[u8]) -> Option<(Command, &[u8])> {
+#[inline(always)]
+pub fn read_command(bytes: &[u8]) -> Option<(Command, &[u8])> {
     let (&[kind, bike], rest) = bytes.split_first_chunk::<2>()?;
     if usize::from(bike) >= BIKES {
         return None;

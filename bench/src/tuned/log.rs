@@ -34,7 +34,7 @@ pub struct Entry {
     pub c: u64,
 }
 
-const EMPTY: Entry = Entry { nc: 0, c: 0 };
+pub const EMPTY: Entry = Entry { nc: 0, c: 0 };
 
 pub struct Log {
     pub length: u16,
@@ -102,24 +102,32 @@ impl Log {
         }
     }
 
-    /// NCSet holds what a majority of the valid NC sets hold, CSet everything else of the valid entries.
     fn decide(&self, round: usize, valid: u16) -> Decision {
-        // A counter for each command, one word for each of its bits. It starts so that the majority's carry
-        // goes past the third bit: a majority is at most 6.
-        let start = 8 - self.majority;
-        let mut counters: [u64; 3] = std::array::from_fn(|bit| if start >> bit & 1 == 1 { u64::MAX } else { 0 });
-        let (mut nc, mut all) = (0, 0);
         let mut left = valid;
-        while left != 0 {
-            let entry = self.entries[round][left.trailing_zeros() as usize];
+        let next = || {
+            let source = (left != 0).then(|| left.trailing_zeros() as usize)?;
             left &= left - 1;
-            all |= entry.nc | entry.c;
-            let mut carry = entry.nc;
-            for counter in &mut counters {
-                (*counter, carry) = (*counter ^ carry, *counter & carry);
-            }
-            nc |= carry;
-        }
-        Decision { nc, c: all & !nc }
+            Some(self.entries[round][source])
+        };
+        settle(std::iter::from_fn(next), self.majority)
     }
+}
+
+/// NCSet holds what a majority of the valid NC sets hold, CSet everything else of the valid entries.
+#[inline(always)]
+pub fn settle(valid: impl Iterator<Item = Entry>, majority: u32) -> Decision {
+    // A counter for each command, one word for each of its bits. It starts so that the majority's carry
+    // goes past the third bit: a majority is at most 6.
+    let start = 8 - majority;
+    let mut counters: [u64; 3] = std::array::from_fn(|bit| if start >> bit & 1 == 1 { u64::MAX } else { 0 });
+    let (mut nc, mut all) = (0, 0);
+    for entry in valid {
+        all |= entry.nc | entry.c;
+        let mut carry = entry.nc;
+        for counter in &mut counters {
+            (*counter, carry) = (*counter ^ carry, *counter & carry);
+        }
+        nc |= carry;
+    }
+    Decision { nc, c: all & !nc }
 }

@@ -1,6 +1,6 @@
 //! One site: the words every step touches first, then its tables (document 01, "What a site does").
 
-use super::book::{Book, BIKES, MOST_READING};
+use super::book::{Bike, Book, BIKES};
 use super::{COMMANDS, ROUNDS, SITES};
 
 /// A site acknowledges at most so often in a round: each time its pending set has grown.
@@ -18,13 +18,6 @@ struct Span {
 }
 
 const NOTHING_SENT: Span = Span { start: 0, count: 0 };
-
-/// Reading and dash of a bike.
-#[derive(Clone, Copy)]
-struct Bike {
-    reading: i32,
-    dash: u32,
-}
 
 const INITIAL_REGISTER: [Bike; BIKES] = [Bike { reading: 0, dash: 0 }; BIKES];
 
@@ -142,11 +135,8 @@ impl Site {
     pub fn deliver(&mut self, book: &Book, number: u32) {
         let command = &book.commands[number as usize % COMMANDS];
         let bike = &mut self.register[usize::from(command.bike) % BIKES];
-        let before = bike.reading;
-        let after = ((before & command.keep) + command.change).clamp(0, MOST_READING);
-        bike.reading = after;
-        bike.dash = bike.dash & command.keep as u32 | command.dash;
-        let answer = ((after - before) & command.changed) + (before & command.before);
+        let (after, answer) = command.execute(*bike);
+        *bike = after;
         self.deliveries[usize::from(self.count) % COMMANDS] = Delivery { command: number, answer };
         self.count += 1;
     }

@@ -297,9 +297,3 @@ fn faulty_message(operands: &[u8]) -> Option<(FaultyMessage, &[u8])> {
     let [to, from, round, ..] = *operands;
     Some((FaultyMessage { to, from, round, set: word(operands, 3) }, rest))
 }
-
-/// The set at this place of the operands.
-#[inline(always)]
-fn word<const N: usize>(operands: &[u8; N], at: usize) -> u64 {
-    u64::from_le_bytes(std::array::from_fn(|byte| operands[at + byte]))
-}

@@ -27,10 +27,12 @@ impl Buffer {
         self.length = self.length.min(length);
     }
 
+    #[inline]
     pub fn lent(&self) -> &[u8] {
         &self.bytes[GUARD..GUARD + self.length]
     }
 
+    #[inline]
     pub fn lent_mut(&mut self) -> &mut [u8] {
         &mut self.bytes[GUARD..GUARD + self.length]
     }

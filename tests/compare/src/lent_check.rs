@@ -6,20 +6,19 @@ use crate::site_bytes::{decode, encode, REASONS};
 use std::collections::BTreeMap;
 use std::fmt;
 
-/// What is to be found after the call: what was lent, with the later site and the output written into it.
-fn lent_after(lent: &Lent, outcome: &Outcome) -> Lent {
-    let mut after = lent.clone();
+/// Writes the later site and the output into what is lent.
+pub fn write_outcome(lent: &mut Lent, outcome: &Outcome) {
     if let Some(site) = &outcome.site {
-        after.site.write(&encode(site).expect("a later site fits into its bytes"));
+        lent.site.write(&encode(site).expect("a later site fits into its bytes"));
     }
-    after.out.write(&outcome.out);
-    after
+    lent.out.write(&outcome.out);
 }
 
 /// Makes the call; how it differs from what is expected, guards and untouched bytes included.
 pub fn check(engine: &mut dyn Engine, call: &Call, lent: &Lent) -> Result<Outcome, String> {
     let outcome = expected(call, lent);
-    let after = lent_after(lent, &outcome);
+    let mut after = lent.clone();
+    write_outcome(&mut after, &outcome);
     let mut found = lent.clone();
     let answer = engine.call(call, &mut found);
     let report = |what: &str| format!("{call:?} {what}; expected was {outcome:?}\nlent: {lent:?}\nthen: {found:?}");

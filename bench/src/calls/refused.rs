@@ -1,0 +1,60 @@
+//! Calls that are refused, one for each number and more where it matters how late the cause is found.
+
+use super::cases::{middle, Case};
+use compare::lent_calls::{Buffer, Call, Lent};
+
+/// The site with one byte changed.
+fn with_byte(lent: &Lent, at: usize, byte: u8) -> Lent {
+    let mut lent = lent.clone();
+    lent.site.lent_mut()[at] = byte;
+    lent
+}
+
+/// The log with so many more entries of a source in a round, their sets empty.
+fn with_entries(lent: &Lent, source: u8, round: u8, count: usize) -> Lent {
+    let entry = [&[source, round][..], &[0; 16]].concat();
+    let log = [lent.log.lent(), &entry.repeat(count)].concat();
+    Lent { log: Buffer::new(&log, 0), ..lent.clone() }
+}
+
+/// (l) A call refused as 9, 2, 1, 3 and 4: what is lent is at fault.
+fn at_fault(lent: &Lent) -> Vec<Case> {
+    let receive = Call::ReceiveCheck { set: 1 };
+    let (mut short, mut cut) = (lent.clone(), lent.clone());
+    short.site.cut(3532);
+    cut.log.cut(lent.log.length() - 1);
+    let book = Buffer::new(&[lent.book.lent(), &[3, 5]].concat(), 0);
+    vec![
+        Case::new("refused 9: site short", receive, short, 9),
+        Case::new("refused 2: 6 sites, 2 faults", receive, Lent { faults: 2, ..lent.clone() }, 2),
+        Case::new("refused 1: a 65th command", receive, Lent { book, ..lent.clone() }, 1),
+        Case::new("refused 3: log cut", Call::LogRead, cut, 3),
+        Case::new("refused 4: site's first byte", receive, with_byte(lent, 0, 0), 4),
+        Case::new("refused 4: site's last byte", receive, with_byte(lent, 3532, 1), 4),
+        Case::new("refused 4: command 64", Call::ReceiveCommand { command: 64 }, lent.clone(), 4),
+    ]
+}
+
+/// (l) Steps refused as 6, 7 and 8 at 6 sites.
+pub fn all() -> Vec<Case> {
+    let mut writer = middle(6, 64);
+    let lent = writer.lent(0);
+    let mut cases = vec![Case::new(
+        "refused 2: 5 sites, 1 fault",
+        Call::JudgeTable { mask: 0 },
+        Lent { sites: 5, ..lent.clone() },
+        2,
+    )];
+    cases.extend(at_fault(&lent));
+    cases.push(Case::new("refused 6: nothing new", Call::Turn { own: 0 }, lent.clone(), 6));
+    cases.push(Case::new("refused 6: not pending", Call::FastDelivery { command: 33 }, lent.clone(), 6));
+    cases.push(Case::new("refused 6: no entry", Call::LogRead, lent.clone(), 6));
+    cases.push(Case::new("refused 6: not waiting", Call::RoundEnd, lent.clone(), 6));
+    writer.command(33);
+    let lent = writer.lent(0);
+    let thrice = with_entries(&with_byte(&lent, 3, 0), 0, 17, 3);
+    cases.push(Case::new("refused 7: two entries unread", Call::Turn { own: 0 }, with_entries(&lent, 0, 17, 2), 7));
+    cases.push(Case::new("refused 7: third entry", Call::LogRead, with_byte(&thrice, 3, 98), 7));
+    cases.push(Case::new("refused 8: round 33", Call::Turn { own: 0 }, with_byte(&lent, 0, 33), 8));
+    cases
+}

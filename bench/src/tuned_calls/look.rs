@@ -1,0 +1,41 @@
+//! The calls that look at a lent site.
+
+use super::site::{COUNT, DELIVERIES, DELIVERY, PHASE, POSITION, REGISTER, ROUND, SITE_BYTES};
+use super::{judge, number};
+use crate::tuned::book::BIKES;
+use crate::tuned::{Refusal, RANGE, ROOM};
+
+#[inline(never)]
+pub fn status(sites: usize, faults: usize, book: &[u8], site: &[u8], out: &mut [u8]) -> Refusal {
+    number((|| {
+        let site = site.first_chunk::<SITE_BYTES>().ok_or(ROOM)?;
+        let out = out.first_chunk_mut().ok_or(ROOM)?;
+        judge((sites, faults), book, site, &mut ())?;
+        *out = [site[ROUND], site[PHASE], site[COUNT], site[POSITION], site[POSITION + 1]];
+        Ok(())
+    })())
+}
+
+#[inline(never)]
+pub fn bike(sites: usize, faults: usize, book: &[u8], site: &[u8], bike: usize, out: &mut [u8]) -> Refusal {
+    number((|| {
+        let site = site.first_chunk::<SITE_BYTES>().ok_or(ROOM)?;
+        let out = out.first_chunk_mut().ok_or(ROOM)?;
+        judge((sites, faults), book, site, &mut ())?;
+        let bikes: &[[u8; 8]] = site[REGISTER..DELIVERIES].as_chunks().0;
+        *out = *bikes.get(..BIKES).and_then(|bikes| bikes.get(bike)).ok_or(RANGE)?;
+        Ok(())
+    })())
+}
+
+#[inline(never)]
+pub fn delivery(sites: usize, faults: usize, book: &[u8], site: &[u8], k: usize, out: &mut [u8]) -> Refusal {
+    number((|| {
+        let site = site.first_chunk::<SITE_BYTES>().ok_or(ROOM)?;
+        let out = out.first_chunk_mut::<DELIVERY>().ok_or(ROOM)?;
+        judge((sites, faults), book, site, &mut ())?;
+        let deliveries = site[DELIVERIES..].as_chunks().0;
+        *out = *deliveries.get(..usize::from(site[COUNT])).and_then(|recorded| recorded.get(k)).ok_or(RANGE)?;
+        Ok(())
+    })())
+}
