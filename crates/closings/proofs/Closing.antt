@@ -33,11 +33,12 @@ use Rattle.recovery.specs.declared.Decision.{Decision}
 use Rattle.recovery.specs.declared.Decision.the-variants.{Undecided, Decided}
 use Rattle.recovery.specs.Decisions.{decisionOf}
 use Rattle.ending.specs.Ending.{Told, RoundEnded}
+use Rattle.rounds.specs.Rounds.{keptRounds, Kept}
 use Rattle.world.specs.World.{siteAt, GoodWorld, worldOf}
 use Rattle.world.specs.Parts.{lent, AtSite}
 use Rattle.world.proofs.Sites.{lent-part}
 use Rattle.world.proofs.Hold.{seen, refused, carried-site}
-use Rattle.closings.specs.Closings.{GoodSites, GoodLog, FastAt, Closed}
+use Rattle.closings.specs.Closings.{GoodSites, GoodLog, KeptLog, FastAt, Closed}
 use Rattle.closings.proofs.Decisions.{told-none, told-decided, sets-within}
 
 -- ---- 08
@@ -115,19 +116,24 @@ pub read-room : (t : SiteTable) (commands : ℕ) (sites log : List ℕ) (entries
     → k ≡ headOf (siteAt sites i) .position → (k ≤ entries) × (k * entrySize ≤ length log)
 read-room t commands sites log entries i g a e = let p = g .position i a in let l = g .room in (omega arith, omega arith)
 
--- What the decision by the entries that site i has read tells it.
-module _ (t : SiteTable) (table : isGood t ≡ true) (bytes rows : List ℕ) (log : List ℕ) (small : (k : ℕ) → getD log k 0 < 256) (er : rows ≡ conflictRows bytes) (sites : List ℕ)
-    (entries : ℕ) (good : GoodLog t (length (commandsOf bytes)) sites log entries) (i : ℕ) (a : i < t .sites)
+-- What the decision kept of the log tells site i.
+module _ (t : SiteTable) (table : isGood t ≡ true) (bytes sites log : List ℕ) (entries : ℕ) {kept : List ℕ} (good : KeptLog t bytes sites log entries kept) (i : ℕ) (a : i < t .sites)
     {k r : ℕ} (ek : k ≡ headOf (siteAt sites i) .position) (round : r ≡ headOf (siteAt sites i) .round)
-    {d : Decision} (ed : d ≡ decisionOf (rowsSystem t rows) (decide (rowsSystem t rows) r (logTo log k))) where
+    {d : Decision} (looked-up : (t : SiteTable) (rows log : List ℕ) (n : ℕ) → Kept t rows log n kept → k ≤ n → d ≡ decisionOf (rowsSystem t rows) (decide (rowsSystem t rows) r (logTo log k))) where
   abbrev commands : ℕ
   commands = length (commandsOf bytes)
 
   read : (k ≤ entries) × (k * entrySize ≤ length log)
-  read = read-room t commands sites log entries i good a ek
+  read = read-room t commands sites log entries i (good .good) a ek
+
+  abbrev rows : List ℕ
+  rows = conflictRows bytes
+
+  ed : d ≡ decisionOf (rowsSystem t rows) (decide (rowsSystem t rows) r (logTo log k))
+  ed = looked-up t rows log entries (good .words) (read .0)
 
   logged-read : (p : ℕ) → p < k → inRangeOf (t .sites) commands (entryOf log p) ≡ true
-  logged-read p l = good .logged p (let q = read .0 in omega arith)
+  logged-read p l = good .good .logged p (let q = read .0 in omega arith)
 
   same : decision (dash t (commandsOf bytes)) (view t (commandsOf bytes) (siteAt sites i)) (logTo log entries) ≡ decide (dash t (commandsOf bytes)) r (logTo log k)
   same =
@@ -136,14 +142,18 @@ module _ (t : SiteTable) (table : isGood t ≡ true) (bytes rows : List ℕ) (lo
 
   pub site-undecided : (nc c : Set) → d ≡ Undecided → Told t (commandsOf bytes) false nc c (view t (commandsOf bytes) (siteAt sites i)) (logTo log entries)
   site-undecided nc c h =
-      told-none t table bytes rows log small k r (read .1) logged-read er ed (view t (commandsOf bytes) (siteAt sites i)) (logTo log entries)
+      told-none t table bytes rows log (good .bytes) k r (read .1) logged-read refl ed (view t (commandsOf bytes) (siteAt sites i)) (logTo log entries)
       same (sym round) nc c h
 
   pub site-decided : (x : Sets) → d ≡ Decided x → Told t (commandsOf bytes) true (x .nc) (x .c) (view t (commandsOf bytes) (siteAt sites i)) (logTo log entries)
   site-decided x h =
-      told-decided t table bytes rows log small k r (read .1) logged-read er ed (view t (commandsOf bytes) (siteAt sites i)) (logTo log entries)
+      told-decided t table bytes rows log (good .bytes) k r (read .1) logged-read refl ed (view t (commandsOf bytes) (siteAt sites i)) (logTo log entries)
       same (sym round) x h
 
   pub sets-fit : (n : ℕ) → commands ≡ n → (x : Sets) → d ≡ Decided x → (withinOf (x .nc) n ≡ true) × (withinOf (x .c) n ≡ true)
   sets-fit n e x h =
-      subst (λ (m : ℕ). (withinOf (x .nc) m ≡ true) × (withinOf (x .c) m ≡ true)) e (sets-within t table bytes rows log small k r (read .1) logged-read er ed x h)
+      subst (λ (m : ℕ). (withinOf (x .nc) m ≡ true) × (withinOf (x .c) m ≡ true)) e (sets-within t table bytes rows log (good .bytes) k r (read .1) logged-read refl ed x h)
+
+-- The round of a site is one that is kept.
+pub round-kept : (t : SiteTable) (commands : ℕ) (sites : List ℕ) (i : ℕ) {r : ℕ} → GoodSites t commands sites → i < t .sites → r ≡ headOf (siteAt sites i) .round → r < keptRounds
+round-kept t commands sites i g a e = let l = g .site i a .head .last in omega arith

@@ -4,10 +4,12 @@ use mathlib.Core.Path.{_≡_}
 use mathlib.Core.Bool.{true}
 use mathlib.Core.List.{List}
 use Prim.Native.Nat.{ℕ, _*_, _≤_, _<_}
-use lib.ListN.{length}
+use lib.ListN.{length, getD}
 use Rattle.refusals.specs.declared.Verdict.{Verdict}
 use Rattle.table.specs.declared.SiteTable.{SiteTable}
 use Rattle.register.specs.declared.Command.{Command}
+use Rattle.commands.specs.Book.{commandsOf}
+use Rattle.conflicts.specs.Conflicts.{conflictRows}
 use Rattle.protocol.specs.System.{verdict}
 use Rattle.protocol.specs.Site as protocol
 use Rattle.protocol.specs.World.{Step}
@@ -16,6 +18,7 @@ use Rattle.layout.specs.Layout.{siteSize, headOf, view}
 use Rattle.layout.specs.Good.{Good}
 use Rattle.layout.specs.Step.{Carried}
 use Rattle.entries.specs.Entries.{entrySize, entryOf, inRangeOf}
+use Rattle.rounds.specs.Rounds.{Kept}
 use Rattle.world.specs.World.{siteAt, GoodWorld, Outcome}
 use Rattle.world.specs.Parts.{lent}
 
@@ -29,6 +32,12 @@ pub record GoodLog (t : SiteTable) (commands : ℕ) (sites log : List ℕ) (entr
   pub room : entries * entrySize ≤ length log
   pub logged : (k : ℕ) → k < entries → inRangeOf (t .sites) commands (entryOf log k) ≡ true
   pub position : (i : ℕ) → i < t .sites → headOf (siteAt sites i) .position ≤ entries
+
+-- A good log in bytes, and what is kept of it by the conflicts of a book.
+pub record KeptLog (t : SiteTable) (book sites log : List ℕ) (entries : ℕ) (kept : List ℕ) : Type 0 where
+  pub good : GoodLog t (length (commandsOf book)) sites log entries
+  pub bytes : (k : ℕ) → getD log k 0 < 256
+  pub words : Kept t (conflictRows book) log entries kept
 
 -- A fast delivery at a site with the bytes b.
 abbrev pub FastAt : SiteTable → List Command → ℕ → Verdict → List ℕ → List ℕ → Type 0

@@ -8,14 +8,13 @@ ghost use Rattle.sets.specs.Sets.{withinOf};
 ghost use Rattle.table.specs.declared.SiteTable.{SiteTable};
 ghost use Rattle.table.specs.Table.{isGood};
 ghost use Rattle.commands.specs.Book.{commandsOf};
-ghost use Rattle.conflicts.specs.Conflicts.{conflictRows};
 ghost use Rattle.protocol.specs.World as protocol;
 ghost use Rattle.layout.specs.Layout.{siteSize};
 ghost use Rattle.deliver.specs.Delivering.{Noted};
 ghost use Rattle.ending.specs.Ending.{RoundEnded};
 ghost use Rattle.world.specs.World.{siteAt};
 ghost use Rattle.world.specs.Parts.{AtSite};
-ghost use Rattle.closings.specs.Closings.{GoodSites, GoodLog, FastAt, Closed};
+ghost use Rattle.closings.specs.Closings.{GoodSites, KeptLog, FastAt, Closed};
 use layout::Site;
 use recovery::Decision;
 use refusals::Refusal;
@@ -87,21 +86,20 @@ fn end_at(
     ending::round_end(&mut sites[from..to], book, places, commands, decided, nc, c)
 }
 
-// 0A: site i ends its round.
+// 0A: site i ends its round, as what is kept of the log decides it.
 pub fn round_end(
     sites: &mut [u8],
-    log: &[u8],
-    entries: usize,
+    kept: &[u64],
     table: SiteTable,
     book: &[u8],
     places: &[u16],
-    rows: &[u64],
     commands: usize,
     i: usize,
 ) -> Verdict
-    requires { ⌜ GoodSites table commands (now sites) × GoodLog table commands (now sites) (now log) entries × (isGood table ≡ true)
-        × Noted (now book) (now places) × (length (commandsOf (now book)) ≡ commands) × (now rows ≡ conflictRows (now book)) ⌝ }
-    ensures { λ v. ⌜ Closed table (commandsOf (now (book .entry))) (protocol.roundEnd i) (now (log .entry)) entries (now (sites .entry)) v (now (sites .exit)) ⌝ }
+    requires { ⌜ GoodSites table commands (now sites) × ((log : List ℕ) × (entries : ℕ) × KeptLog table (now book) (now sites) log entries (now kept))
+        × (isGood table ≡ true) × Noted (now book) (now places) × (length (commandsOf (now book)) ≡ commands) ⌝ }
+    ensures { λ v. ⌜ ((log : List ℕ) (entries : ℕ) → KeptLog table (now (book .entry)) (now (sites .entry)) log entries (now (kept .entry))
+        → Closed table (commandsOf (now (book .entry))) (protocol.roundEnd i) log entries (now (sites .entry)) v (now (sites .exit))) ⌝ }
 {
     if i >= table.sites {
         return Verdict::Refused(Refusal::Range);
@@ -111,7 +109,7 @@ pub fn round_end(
     }
     let position = world::position_of(&sites[..], i);
     let round = world::round_of(&sites[..], i);
-    let decision = recovery::decide(log, position, round, table, rows);
+    let decision = rounds::decision(kept, round, position);
     match decision {
         Decision::Undecided => end_at(
             sites,
