@@ -5,13 +5,12 @@ use mathlib.Core.Bool.{Bool, true, false}
 use mathlib.Core.Logic.{_⊎_, inl, inr, ⊎-elim}
 use mathlib.Core.List.{List, [], _∷_, _++_}
 use mathlib.Core.Option.{none, some}
-use Prim.Native.Nat.{ℕ, zero, suc, _+_, _*_, _^_, _≤_, _<_}
+use Prim.Native.Nat.{ℕ, _+_, _^_, _≤_, _<_}
 use native.Mathlib.Omega.{arith}
 use native.Mathlib.Decide.{ℕ-discrete}
 use lib.Dec.{eqb}
 use lib.ListN.{length, getD, drop, replicate, length-replicate, replicate-append-replicate, getD-replicate, List·getD-append}
 use Rattle.theory.specs.Sets.{pick}
-use Rattle.theory.specs.Sets as theory
 use Rattle.theory.specs.Counting.{lt-or-le}
 use Rattle.wire.specs.Wire.{readLe, bytes, splice}
 use Rattle.wire.proofs.Laws.{length-splice, splice-two, read-one}
