@@ -125,6 +125,7 @@ static void refuse_sizes(void) {
   out_length--;
   refused("out too short", run(one_site, sizeof one_site));
   start(5);
+  before = lent;
   refused("no sites", dash_register_run(one_site, sizeof one_site, NULL, 0, lent.log, log_length, lent.sent, sent_length, lent.out, out_length));
 }
 
