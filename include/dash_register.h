@@ -41,6 +41,9 @@ extern "C" {
 #define DASH_REGISTER_DELIVERY_BYTES 5      /* command (1), answer (4, two's complement) */
 #define DASH_REGISTER_MAX_RUN_BYTES 60000   /* a whole run */
 #define DASH_REGISTER_PRINT_BYTES 640890    /* room for the print of any run */
+#define DASH_REGISTER_RUN_SITES_BYTES 38863 /* what a run works on: its sites, one after the other, */
+#define DASH_REGISTER_RUN_LOG_BYTES 12690   /* its log entries, */
+#define DASH_REGISTER_RUN_SENT_BYTES 189486 /* and what its sites have sent */
 
 /* Limits. */
 #define DASH_REGISTER_MAX_SITES 11
@@ -119,10 +122,19 @@ uint32_t dash_register_bike(size_t sites, size_t faults, const uint8_t *book, si
 uint32_t dash_register_delivery(size_t sites, size_t faults, const uint8_t *book, size_t book_length,
                                 const uint8_t *site, size_t site_length, size_t k, uint8_t *out, size_t out_length);
 
-/* Plays a whole run and writes its print at the start of `out`; answers the number of bytes written. `out` needs
- * DASH_REGISTER_PRINT_BYTES: where it is shorter, 0 is answered and nothing is written. (In the archive of crate `archive`;
- * all other functions are in that of crate `host`.) */
-size_t dash_register_run(const uint8_t *run, size_t run_length, uint8_t *out, size_t out_length);
+/* Plays a whole run and writes its print at the start of `out`; answers the number of bytes written. (In the archive of crate `archive`;
+ * all other functions are in that of crate `host`.)
+ *
+ * `out` needs DASH_REGISTER_PRINT_BYTES; `sites`, `log` and `sent` are memory to work on, of DASH_REGISTER_RUN_SITES_BYTES, _LOG_BYTES and
+ * _SENT_BYTES. Where one of the four is shorter, 0 is answered and nothing is changed. What the working memory holds before does not
+ * matter, so it need not be cleared between runs.
+ *
+ * A run that is refused changes `out` alone. After a run that is played `sites` starts with the n sites of its table as the last step
+ * left them, DASH_REGISTER_SITE_BYTES each: dash_register_status, _bike and _delivery look at them, with the run's n, f and book. What
+ * follows them is as it was. `log` starts with the log's entries; of the other bytes up to their sizes, and of `sent`, nothing is meant
+ * for the caller. */
+size_t dash_register_run(const uint8_t *run, size_t run_length, uint8_t *sites, size_t sites_length, uint8_t *log, size_t log_length,
+                         uint8_t *sent, size_t sent_length, uint8_t *out, size_t out_length);
 
 #ifdef __cplusplus
 }

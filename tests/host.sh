@@ -1,15 +1,32 @@
 #!/usr/bin/env bash
-# The C library: one site driven from C by include/dash_register.h. Closes with 'N passed, M failed'.
+# The C library by include/dash_register.h: one site driven from C, and whole runs. Closes with 'N passed, M failed'.
 set -u
 cd "$(dirname "$0")/.." || exit 1
 
 build() {
   rt staticlib host \
-    && gcc -O2 -Wall -Wextra -Werror -I include tests/host/host_test.c -Ltarget/staticlib -lhost -o target/host_test
+    && rt staticlib archive \
+    && gcc -O2 -Wall -Wextra -Werror -I include tests/host/host_test.c -Ltarget/staticlib -lhost -o target/host_test \
+    && gcc -O2 -Wall -Wextra -Werror -I include tests/host/run_test.c -Ltarget/staticlib -larchive -lhost -o target/run_test
 }
 
 if ! build; then
   echo "0 passed, 1 failed"
   exit 1
 fi
-target/host_test
+
+log=$(mktemp)
+trap 'rm -f "$log"' EXIT
+status=0
+for program in host_test run_test; do
+  "target/$program" | tee -a "$log"
+  [ "${PIPESTATUS[0]}" -eq 0 ] || status=1
+done
+
+passed=$(awk '/^[0-9]+ passed, / { n += $1 } END { print n + 0 }' "$log")
+failed=$(awk '/^[0-9]+ passed, / { n += $3 } END { print n + 0 }' "$log")
+if [ "$status" -ne 0 ] && [ "$failed" -eq 0 ]; then
+  failed=1
+fi
+echo "$passed passed, $failed failed"
+[ "$failed" -eq 0 ]

@@ -1,27 +1,29 @@
 -- Laws of a run: its three parts are its print, by the verdict on it, and what the call answers.
 -- Assumes nothing.
 use mathlib.Core.Path.{_≡_, refl, sym, ap, subst, _∙_}
-use mathlib.Core.Bool.{Bool, true, false}
+use mathlib.Core.Bool.{Bool, true, false, _&&_}
 use mathlib.Core.List.{List, _++_}
-use Prim.Native.Nat.{ℕ, _+_, _-_, _≤_, _<_}
+use Prim.Native.Nat.{ℕ, _+_, _*_, _-_, _≤_, _<_}
 use native.Mathlib.Omega.{arith}
-use borrow.Author.Tests.{le-leb, lt-leb}
+use borrow.Author.Tests.{leb-true}
 use lib.Dec.{leb}
 use lib.ListN.{length, take, drop, length-take, length-drop, length-append}
+use lib.Seq.{length-take-le, take-at, drop-at}
 use Rattle.refusals.specs.Refusals.{numberOf}
 use Rattle.refusals.specs.declared.Refusal.{Refusal}
-use Rattle.refusals.specs.declared.Verdict.{Verdict}
 use Rattle.refusals.specs.declared.Verdict.the-variants.{Taken, Refused}
 use Rattle.theory.specs.Sets.{pick}
+use Rattle.theory.specs.Counting.{both as both-true, left, right, never}
 use Rattle.wire.specs.Wire.{splice}
 use Rattle.table.specs.declared.SiteTable.{SiteTable}
-use Rattle.table.specs.Table.{isGood, faultyCountOf, faultyOf}
+use Rattle.table.specs.Table.{isGood, faultyCountOf}
 use Rattle.table.proofs.Laws.{good-limits, good-few}
 use Rattle.register.specs.declared.Command.{Command}
 use Rattle.commands.specs.Book.{commandsOf}
 use Rattle.commands.proofs.Walk.{few-commands}
 use Rattle.protocol.specs.System.{verdict}
 use Rattle.protocol.specs.World.{World, start}
+use Rattle.protocol.specs.CommonSequence.{isTaken}
 use Rattle.system.specs.Dash.{dash}
 use Rattle.print.specs.Print.{Wrote}
 use Rattle.print.proofs.Laws.{both}
@@ -30,14 +32,19 @@ use Rattle.steps.specs.Steps.{stepsOf}
 use Rattle.lines.specs.Lines.{runLine, refusedLine}
 use Rattle.lines.proofs.Laws.{run-short}
 use Rattle.header.proofs.Laws.{Sound}
-use Rattle.runs.specs.Run.{maxRun, headerSize, bookSize, tableOf, bookOf, stepBytes, forRun, siteLines, worldAfter, played, printAs, printOf}
-use Rattle.layout.specs.Layout.{siteSize, view}
+use Rattle.runs.specs.Run.{maxRun, headerSize, bookSize, tableOf, bookOf, stepBytes, forRun, siteLines, played, printAs, printOf}
+use Rattle.layout.specs.Layout.{siteSize}
 use Rattle.world.specs.World as world
 use Rattle.world.specs.World.{Buffers, HoldsWorld}
 use Rattle.play.specs.Played.{PlayedAll}
 use Rattle.report.specs.Report.{AllPrintable, siteAt, linesBelow}
 use Rattle.report.proofs.Laws.{good-all-printable, lines-seen}
-use Rattle.run.specs.Ran.{runLineRoom, printRoom, Ran, ran, runOf}
+use Rattle.sent.specs.Sent.{sentSize}
+use Rattle.world.specs.Parts.{lent}
+use Rattle.entries.proofs.Logs.{log-length}
+use Rattle.run.specs.Ran.{runLineRoom, printRoom, sitesBytes, logBytes, Ran, ran, runOf, Working, working, isRoomy}
+use Rattle.run.specs.Left.{lastWorld, HoldsLast, Worked, isPlayed, Left}
+use Rattle.run.specs.Prepared.{Roomy}
 
 -- ---- the first line
 
@@ -66,6 +73,41 @@ all-parts t book steps {s} {s₁} {s₂} {s₃} {r₁} {r₂} {r₃} {f} {c} {b}
     (both (omega arith) (subst (λ (l : List ℕ). Wrote s₁ r₁ s 0 l) (λ i. runLine (t .sites) (ef i) (ec i)) x) (p .lines))
     (subst (λ (l : List ℕ). Wrote s₃ r₃ s₂ r₂ l) (held-lines t book (p .world)) y)
 
+-- The buffers then hold the last world, with as many log entries as it has.
+pub last-held : (t : SiteTable) (book : List Command) (steps : List ℕ) {s₁ s₂ sites log sent : List ℕ} {r₁ r₂ n : ℕ}
+    → PlayedAll t book steps s₁ s₂ r₁ r₂ (lent sites log n sent) → HoldsLast t book (stepsOf steps) sites log sent
+last-held t book steps {s₁} {s₂} {sites} {log} {sent} {r₁} {r₂} {n} p =
+    subst (λ (k : ℕ). HoldsWorld t book (lent sites log k sent) (lastWorld t book (stepsOf steps)))
+    (sym (log-length log n) ∙ (λ i. length (p .world .says i .log))) (p .world)
+
+-- ---- the first parts of the working memory
+
+-- A part put back at the start leaves the length.
+pub length-back : (n : ℕ) (whole part : List ℕ) → n ≤ length whole → length part ≡ length (take n whole) → length (part ++ drop n whole) ≡ length whole
+length-back n whole part h e = simp (length-append, length-drop) (omega (arith, length-take-le n whole h))
+
+module _ (t : SiteTable) {w : Working} (good : isGood t ≡ true) (room : Roomy w) where
+  pub sites-room : t .sites * siteSize ≤ length (w .sites)
+  sites-room = let n = good-limits t good in omega (arith, room .sites)
+
+  -- The three parts put back: they hold the last world, and what is past them is as it was.
+  pub worked : (book : List Command) (steps : List Reading) {sites log sent : List ℕ} → length sites ≡ length (take (t .sites * siteSize) (w .sites)) → length log ≡ length (take logBytes (w .log))
+      → length sent ≡ length (take sentSize (w .sent)) → HoldsLast t book steps sites log sent
+      → Worked t book steps w (working (sites ++ drop (t .sites * siteSize) (w .sites)) (log ++ drop logBytes (w .log)) (sent ++ drop sentSize (w .sent)))
+  worked book steps {sites} {log} {sent} a b c h =
+      let i = a ∙ length-take-le (t .sites * siteSize) (w .sites) sites-room in
+      let j = b ∙ length-take-le logBytes (w .log) (room .log) in
+      let k = c ∙ length-take-le sentSize (w .sent) (room .sent) in
+      record {
+        world =
+            coe 1 0 (z.
+            HoldsLast t book steps (take-at sites (drop (t .sites * siteSize) (w .sites)) (t .sites * siteSize) i z) (take-at log (drop logBytes (w .log)) logBytes j z)
+            (take-at sent (drop sentSize (w .sent)) sentSize k z)) h;
+        sites = drop-at sites (drop (t .sites * siteSize) (w .sites)) (t .sites * siteSize) i;
+        log = drop-at log (drop logBytes (w .log)) logBytes j;
+        sent = drop-at sent (drop sentSize (w .sent)) sentSize k;
+      }
+
 -- ---- by the verdict
 
 module _ (run : List ℕ) where
@@ -84,24 +126,61 @@ module _ (run : List ℕ) where
   print-taken {s} {after} {end} e et eb es w =
       subst (λ (l : List ℕ). Wrote after end s 0 l) ((λ i. played (et i) (commandsOf (eb i)) (stepsOf (es i))) ∙ sym (ap (printAs run) e)) w
 
-  -- ---- what the call answers
+-- ---- what the call answers
 
-  pub no-room : (out : List ℕ) → length out < printRoom → ran 0 out ≡ runOf run out
-  unfolding runOf
-  no-room out h = rw (lt-leb printRoom (length out) h) refl
+pub roomy-told : (w : Working) (out : List ℕ) → isRoomy w out ≡ true → Roomy w × (printRoom ≤ length out)
+roomy-told w out h =
+    let a = leb sitesBytes (length (w .sites)) in
+    let b = leb logBytes (length (w .log)) in
+    let c = leb sentSize (length (w .sent)) in
+    let d = leb printRoom (length out) in
+    let u = left (a && b && c) d h in
+    let v = left (a && b) c u in (
+      record {
+        sites = leb-true sitesBytes (length (w .sites)) (left a b v);
+        log = leb-true logBytes (length (w .log)) (right a b v);
+        sent = leb-true sentSize (length (w .sent)) (right (a && b) c u);
+      },
+      leb-true printRoom (length out) (right (a && b && c) d h),
+    )
 
-  pub with-room : (out : List ℕ) {after : List ℕ} {end : ℕ} → printRoom ≤ length out → Wrote after end out 0 (printOf run) → ran end after ≡ runOf run out
+module _ (run : List ℕ) (w : Working) (out : List ℕ) where
+  -- A buffer too short: nothing is written, and the run is not played.
+  pub no-room : isRoomy w out ≡ false → (ran 0 out ≡ runOf run w out) × Left run w out w
   unfolding runOf
-  with-room out {after} {end} h w =
-      let e : end ≡ length (printOf run) = omega (arith, w .end) in
-      rw (le-leb printRoom (length out) h) (λ i. ran (e i) (w .bytes i))
+  no-room h = (
+    sym (λ i. pick (h i) (ran (length (printOf run)) (splice out 0 (printOf run))) (ran 0 out)),
+    record { kept = λ e. refl; worked = λ e. absurd (never (isRoomy w out) (left (isRoomy w out) (isTaken (verdict (forRun run))) e) h) },
+  )
+
+  pub with-room : {after : List ℕ} {end : ℕ} → isRoomy w out ≡ true → Wrote after end out 0 (printOf run) → ran end after ≡ runOf run w out
+  unfolding runOf
+  with-room {after} {end} h x =
+      let e : end ≡ length (printOf run) = omega (arith, x .end) in
+      rw h (λ i. ran (e i) (x .bytes i))
+
+  -- A run refused: its line is written, and it is not played.
+  pub refused-left : (r : Refusal) → verdict (forRun run) ≡ Refused r → Left run w out w
+  refused-left r h =
+      record {
+        kept = λ e. refl;
+        worked = λ e. absurd (never (isTaken (verdict (forRun run))) (right (isRoomy w out) (isTaken (verdict (forRun run))) e) (ap isTaken h));
+      }
+
+  pub played-left : {t : SiteTable} {book steps : List ℕ} {after : Working} → isRoomy w out ≡ true → verdict (forRun run) ≡ Taken → t ≡ tableOf run → book ≡ bookOf run
+      → steps ≡ stepBytes run → Worked t (commandsOf book) (stepsOf steps) w after → Left run w out after
+  played-left {t} {book} {steps} {after} room h et eb es x =
+      record {
+        kept = λ e. absurd (never (isPlayed run w out) (both-true (isRoomy w out) (isTaken (verdict (forRun run))) room (ap isTaken h)) e);
+        worked = λ e. coe 0 1 (i. Worked (et i) (commandsOf (eb i)) (stepsOf (es i)) w after) x;
+      }
 
 -- ---- for a caller
 
 -- No more bytes are answered than the buffer has.
-pub answer-fits : (run out : List ℕ) {after : List ℕ} {end : ℕ} → ran end after ≡ runOf run out → end ≤ length after
+pub answer-fits : (run : List ℕ) (w : Working) (out : List ℕ) {after : List ℕ} {end : ℕ} → ran end after ≡ runOf run w out → end ≤ length after
 unfolding runOf splice
-answer-fits run out {after} {end} = go (leb printRoom (length out))
+answer-fits run w out {after} {end} = go (isRoomy w out)
   where
     go : (b : Bool) → ran end after ≡ pick b (ran (length (printOf run)) (splice out 0 (printOf run))) (ran 0 out) → end ≤ length after
     go true e =

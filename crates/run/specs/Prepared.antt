@@ -10,10 +10,9 @@ use Rattle.table.specs.Table.{isGood}
 use Rattle.commands.specs.Book.{commandsOf, placesOf}
 use Rattle.conflicts.specs.Conflicts.{conflictRows}
 use Rattle.runs.specs.Run.{maxRun}
-use Rattle.entries.specs.Entries.{entrySize}
+use Rattle.layout.specs.Layout.{siteSize}
 use Rattle.sent.specs.Sent.{sentSize}
-use Rattle.play.specs.Played.{logRoom}
-use Rattle.run.specs.Ran.{printRoom}
+use Rattle.run.specs.Ran.{printRoom, sitesBytes, logBytes, Working}
 
 -- A run's site table and steps, and room for what it prints.
 pub record Playable (t : SiteTable) (steps out : List ℕ) : Type 0 where
@@ -21,10 +20,17 @@ pub record Playable (t : SiteTable) (steps out : List ℕ) : Type 0 where
   pub short : length steps < maxRun
   pub room : printRoom ≤ length out
 
--- Buffers for the log and for what is sent.
-pub record Lent (b c : List ℕ) : Type 0 where
-  pub log : length b ≡ logRoom * entrySize
-  pub sent : length c ≡ sentSize
+-- Working memory with room for any run.
+pub record Roomy (w : Working) : Type 0 where
+  pub sites : sitesBytes ≤ length (w .sites)
+  pub log : logBytes ≤ length (w .log)
+  pub sent : sentSize ≤ length (w .sent)
+
+-- Working memory of just the sizes that a run with a site table needs.
+pub record Sized (t : SiteTable) (w : Working) : Type 0 where
+  pub sites : length (w .sites) ≡ t .sites * siteSize
+  pub log : length (w .log) ≡ logBytes
+  pub sent : length (w .sent) ≡ sentSize
 
 -- The places of a book's commands, and which of them conflict.
 pub record Noted (book p r : List ℕ) : Type 0 where

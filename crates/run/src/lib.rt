@@ -1,18 +1,12 @@
-// A run in bytes, and what it prints into a lent buffer.
+// A run in bytes, played on lent working memory, and what it prints into a lent buffer.
 ghost use mathlib.Core.Path.{_≡_};
-ghost use Prim.Native.Nat.{_*_};
-ghost use lib.ListN.{length};
-ghost use Rattle.table.specs.Table.{maxSites};
 ghost use Rattle.commands.specs.Book.{commandsOf};
 ghost use Rattle.print.specs.Print.{Wrote};
 ghost use Rattle.steps.specs.Steps.{stepsOf};
 ghost use Rattle.runs.specs.Run.{played};
-ghost use Rattle.layout.specs.Layout.{siteSize};
-ghost use Rattle.entries.specs.Entries.{entrySize};
-ghost use Rattle.sent.specs.Sent.{sentSize};
-ghost use Rattle.play.specs.Played.{logRoom};
-ghost use Rattle.run.specs.Ran.{ran, runOf};
-ghost use Rattle.run.specs.Prepared.{Playable, Lent, Noted};
+ghost use Rattle.run.specs.Ran.{working, hasRoom, ran, runOf};
+ghost use Rattle.run.specs.Left.{HoldsLast, Worked, Left};
+ghost use Rattle.run.specs.Prepared.{Playable, Roomy, Sized, Noted};
 use layout::Site;
 use refusals::Verdict;
 use table::SiteTable;
@@ -20,34 +14,16 @@ use table::SiteTable;
 // The room for any print: 33 bytes for the first line, 21 for each of 30,000 refused steps, 987 for each of 11 sites.
 pub const ROOM: usize = 640890;
 
-// The bytes of 11 sites.
-const SITES: usize = 38863;
+// The working memory that any run needs: the bytes of 11 sites,
+pub const SITES: usize = 38863;
 
-// The bytes of 705 log entries: two a site and round, and one more.
-const LOG: usize = 12690;
+// of 705 log entries, two a site and round and one more,
+pub const LOG: usize = 12690;
 
-// The bytes of all that is sent.
-const SENT: usize = 189486;
+// and of all that is sent.
+pub const SENT: usize = 189486;
 
-fn sites_room() -> [u8; SITES]
-    ensures { λ r. ⌜ maxSites * siteSize ≡ length r ⌝ }
-{
-    [0; SITES]
-}
-
-fn log_room() -> [u8; LOG]
-    ensures { λ r. ⌜ logRoom * entrySize ≡ length r ⌝ }
-{
-    [0; LOG]
-}
-
-fn sent_room() -> [u8; SENT]
-    ensures { λ r. ⌜ sentSize ≡ length r ⌝ }
-{
-    [0; SENT]
-}
-
-// A run that is not refused is played on lent buffers, the sites' of just their size, and printed.
+// A run that is not refused is played on buffers of just their sizes, and printed.
 fn print_on(
     sites: &mut [u8],
     log: &mut [u8],
@@ -59,8 +35,9 @@ fn print_on(
     steps: &[u8],
     out: &mut [u8],
 ) -> usize
-    requires { ⌜ Playable table (now steps) (now out) × Lent (now log) (now sent) × Noted (now book) (now places) (now rows) × (length (now sites) ≡ table .sites * siteSize) ⌝ }
-    ensures { λ r. ⌜ Wrote (now (out .exit)) r (now (out .entry)) 0 (played table (commandsOf (now (book .entry))) (stepsOf (now (steps .entry)))) ⌝ }
+    requires { ⌜ Playable table (now steps) (now out) × Sized table (working (now sites) (now log) (now sent)) × Noted (now book) (now places) (now rows) ⌝ }
+    ensures { λ r. ⌜ Wrote (now (out .exit)) r (now (out .entry)) 0 (played table (commandsOf (now (book .entry))) (stepsOf (now (steps .entry))))
+        × HoldsLast table (commandsOf (now (book .entry))) (stepsOf (now (steps .entry))) (now (sites .exit)) (now (log .exit)) (now (sent .exit)) ⌝ }
 {
     world::start(sites, sent, table);
     let faulty = table.faulty_count();
@@ -82,7 +59,7 @@ fn print_on(
     report::put_site_lines(out, played.end, &sites[..], table)
 }
 
-// The table's sites take the first part of their buffer.
+// The run takes the first part of each buffer: of the sites' as much as its table has sites.
 fn print_in(
     sites: &mut [u8],
     log: &mut [u8],
@@ -94,14 +71,16 @@ fn print_in(
     steps: &[u8],
     out: &mut [u8],
 ) -> usize
-    requires { ⌜ Playable table (now steps) (now out) × Lent (now log) (now sent) × Noted (now book) (now places) (now rows) × (length (now sites) ≡ maxSites * siteSize) ⌝ }
-    ensures { λ r. ⌜ Wrote (now (out .exit)) r (now (out .entry)) 0 (played table (commandsOf (now (book .entry))) (stepsOf (now (steps .entry)))) ⌝ }
+    requires { ⌜ Playable table (now steps) (now out) × Roomy (working (now sites) (now log) (now sent)) × Noted (now book) (now places) (now rows) ⌝ }
+    ensures { λ r. ⌜ Wrote (now (out .exit)) r (now (out .entry)) 0 (played table (commandsOf (now (book .entry))) (stepsOf (now (steps .entry))))
+        × Worked table (commandsOf (now (book .entry))) (stepsOf (now (steps .entry)))
+        (working (now (sites .entry)) (now (log .entry)) (now (sent .entry))) (working (now (sites .exit)) (now (log .exit)) (now (sent .exit))) ⌝ }
 {
     let size = table.sites * Site::SIZE;
     print_on(
         &mut sites[..size],
-        log,
-        sent,
+        &mut log[..LOG],
+        &mut sent[..SENT],
         table,
         book,
         places,
@@ -121,8 +100,10 @@ fn print_noted(
     steps: &[u8],
     out: &mut [u8],
 ) -> usize
-    requires { ⌜ Playable table (now steps) (now out) × Lent (now log) (now sent) × (length (now sites) ≡ maxSites * siteSize) ⌝ }
-    ensures { λ r. ⌜ Wrote (now (out .exit)) r (now (out .entry)) 0 (played table (commandsOf (now (book .entry))) (stepsOf (now (steps .entry)))) ⌝ }
+    requires { ⌜ Playable table (now steps) (now out) × Roomy (working (now sites) (now log) (now sent)) ⌝ }
+    ensures { λ r. ⌜ Wrote (now (out .exit)) r (now (out .entry)) 0 (played table (commandsOf (now (book .entry))) (stepsOf (now (steps .entry))))
+        × Worked table (commandsOf (now (book .entry))) (stepsOf (now (steps .entry)))
+        (working (now (sites .entry)) (now (log .entry)) (now (sent .entry))) (working (now (sites .exit)) (now (log .exit)) (now (sent .exit))) ⌝ }
 {
     let mut places = [0u16; 64];
     commands::index(book, &mut places);
@@ -131,22 +112,22 @@ fn print_noted(
     print_in(sites, log, sent, table, book, &places, &rows, steps, out)
 }
 
-// A run that is not refused is printed.
-fn print_played(table: SiteTable, book: &[u8], steps: &[u8], out: &mut [u8]) -> usize
-    requires { ⌜ Playable table (now steps) (now out) ⌝ }
-    ensures { λ r. ⌜ Wrote (now (out .exit)) r (now (out .entry)) 0 (played table (commandsOf (now (book .entry))) (stepsOf (now (steps .entry)))) ⌝ }
+// Whether buffers of these sizes have room for any run.
+fn has_room(sites: usize, log: usize, sent: usize, out: usize) -> bool
+    ensures { λ r. ⌜ r ≡ hasRoom sites log sent out ⌝ }
 {
-    let mut sites = sites_room();
-    let mut log = log_room();
-    let mut sent = sent_room();
-    print_noted(&mut sites, &mut log, &mut sent, table, book, steps, out)
+    (SITES <= sites) & (LOG <= log) & (SENT <= sent) & (ROOM <= out)
 }
 
-// What a run prints is written at the start of out. The answer is how many bytes were written: 0, and nothing is changed, where out is shorter than ROOM.
-pub fn run(input: &[u8], out: &mut [u8]) -> usize
-    ensures { λ r. ⌜ ran r (now (out .exit)) ≡ runOf (now (input .entry)) (now (out .entry)) ⌝ }
+// What a run prints is written at the start of out. The answer is how many bytes were written: 0, and nothing is changed, where a buffer is too short.
+// The run is played on sites, log and sent, whatever they hold. They hold its last world then; a run that is refused leaves them as they were.
+pub fn run(input: &[u8], sites: &mut [u8], log: &mut [u8], sent: &mut [u8], out: &mut [u8]) -> usize
+    ensures { λ r. ⌜ (ran r (now (out .exit))
+        ≡ runOf (now (input .entry)) (working (now (sites .entry)) (now (log .entry)) (now (sent .entry))) (now (out .entry)))
+        × Left (now (input .entry)) (working (now (sites .entry)) (now (log .entry)) (now (sent .entry))) (now (out .entry))
+        (working (now (sites .exit)) (now (log .exit)) (now (sent .exit))) ⌝ }
 {
-    if out.len() < ROOM {
+    if !has_room(sites.len(), log.len(), sent.len(), out.len()) {
         return 0;
     }
     let verdict = header::judge_run(input);
@@ -156,5 +137,13 @@ pub fn run(input: &[u8], out: &mut [u8]) -> usize
     }
     let table = header::table_of(input);
     let end = header::book_end(input);
-    print_played(table, &input[header::HEADER..end], &input[end..], out)
+    print_noted(
+        sites,
+        log,
+        sent,
+        table,
+        &input[header::HEADER..end],
+        &input[end..],
+        out,
+    )
 }

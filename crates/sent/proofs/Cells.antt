@@ -1,7 +1,7 @@
 -- Cells of what was sent: bytes that agree on a cell say the same there, and what a write says of its own cell.
 -- Assumes nothing.
 use mathlib.Core.Path.{_≡_, refl, ap, _∙_}
-use mathlib.Core.Logic.{_⊎_, inl, inr}
+use mathlib.Core.Logic.{_⊎_, inl, inr, ⊎-elim}
 use mathlib.Core.List.{List, [], _∷_, _++_}
 use mathlib.Core.Option.{none, some}
 use Prim.Native.Nat.{ℕ, zero, suc, _+_, _*_, _^_, _≤_, _<_}
@@ -12,12 +12,13 @@ use lib.ListN.{length}
 use Rattle.theory.specs.Sets.{pick}
 use Rattle.theory.specs.Sets as theory
 use Rattle.theory.specs.Lists.{nth}
+use Rattle.theory.specs.Counting.{lt-or-le}
 use Rattle.wire.specs.Wire.{readLe, bytes, splice}
 use Rattle.wire.proofs.Laws.{length-bytes, length-splice, read-same, read-before, read-after}
 use Rattle.sets.specs.declared.Set.{Set}
 use Rattle.sets.specs.Sets.{inSet, setBytes, readSet, writeSet}
 use Rattle.sets.proofs.Laws.{read-written, length-write}
-use Rattle.sent.specs.Sent.{cellSize, countPlace, setPlace, flagPlace, checkPlace, maxAcknowledgments}
+use Rattle.sent.specs.Sent.{cells, setsOffset, sentSize, countPlace, setPlace, flagPlace, checkPlace, maxAcknowledgments}
 use Rattle.sent.specs.Sent.{countIn, flagIn, setsFrom, acksIn, checkIn, written, acknowledgedIn, checkedIn}
 
 -- ---- bytes that agree on a part
@@ -51,18 +52,13 @@ sets-agree zero at g h l = refl
 sets-agree (suc n) at g h l =
     λ i. inSet (agree-set at g h (omega arith) i) ∷ sets-agree n (at + setBytes) g (omega arith) (omega arith) i
 
-pub acks-agree : (k : ℕ) {b b′ : List ℕ} → Agree b b′ (countPlace k) (flagPlace k) → countIn b k ≤ maxAcknowledgments → acksIn b′ k ≡ acksIn b k
+pub acks-agree : (k : ℕ) {b b′ : List ℕ} → countIn b′ k ≡ countIn b k → Agree b b′ (setPlace k 0) (checkPlace k) → countIn b k ≤ maxAcknowledgments → acksIn b′ k ≡ acksIn b k
 unfolding acksIn
-acks-agree k {b} {b′} g h =
-    ap (λ (n : ℕ). setsFrom n (setPlace k 0) b′) (g .reads 1 (countPlace k) (omega arith) (omega arith))
-    ∙ sets-agree (countIn b k) (setPlace k 0) g (omega arith) (omega arith)
+acks-agree k {b} {b′} e g h = ap (λ (n : ℕ). setsFrom n (setPlace k 0) b′) e ∙ sets-agree (countIn b k) (setPlace k 0) g (omega arith) (omega arith)
 
-pub check-agree : (k : ℕ) {b b′ : List ℕ} → Agree b b′ (flagPlace k) (countPlace k + cellSize) → checkIn b′ k ≡ checkIn b k
+pub check-agree : (k : ℕ) {b b′ : List ℕ} → flagIn b′ k ≡ flagIn b k → Agree b b′ (checkPlace k) (checkPlace k + setBytes) → checkIn b′ k ≡ checkIn b k
 unfolding checkIn
-check-agree k g =
-    λ i.
-    pick (eqb (g .reads 1 (flagPlace k) (omega arith) (omega arith) i) 1)
-    (some (inSet (agree-set (checkPlace k) g (omega arith) (omega arith) i))) none
+check-agree k e g = λ i. pick (eqb (e i) 1) (some (inSet (agree-set (checkPlace k) g (omega arith) (omega arith) i))) none
 
 -- One set more stands after those before it.
 pub sets-more : (n at : ℕ) (b : List ℕ) → setsFrom (suc n) at b ≡ setsFrom n at b ++ (inSet (readSet b (at + n * setBytes)) ∷ [])
@@ -119,9 +115,20 @@ module _ (b : List ℕ) (p : ℕ) (s : Set) (q x : ℕ) (hp : p + setBytes ≤ l
       agree-set p (agree-splice (writeSet b p s) q (bytes 1 x) 1 p (p + setBytes) (length-bytes 1 x) (omega arith) (inr l)) (omega arith) (omega arith)
       ∙ read-written b p s hp h
 
+-- A byte before the sets and a set among them leave every other byte there, and every other set.
+module _ (b : List ℕ) (p : ℕ) (s : Set) (q x : ℕ) (size : length b ≡ sentSize) (lo : setsOffset ≤ p) (hi : p + setBytes ≤ sentSize) (before : q < setsOffset) where
+  pub number-kept : (at : ℕ) → at < setsOffset → (at ≡ q → ⊥) → readLe 1 (written b p s q x) at ≡ readLe 1 b at
+  number-kept at h n =
+      agree-written b p s q x (omega arith) (omega arith) at (at + 1) (inl (omega arith))
+      (⊎-elim {C = (at + 1 ≤ q) ⊎ (q + 1 ≤ at)} (λ l. inl (omega arith)) (λ l. inr (omega arith)) (lt-or-le at q))
+      .reads 1 at (omega arith) (omega arith)
+
+  pub sets-kept : (from to : ℕ) → setsOffset ≤ from → (to ≤ p) ⊎ (p + setBytes ≤ from) → Agree b (written b p s q x) from to
+  sets-kept from to h l = agree-written b p s q x (omega arith) (omega arith) from to l (inr (omega arith))
+
 -- ---- the two writes, at their own cell
 
-module _ (b : List ℕ) (k : ℕ) (s : Set) (room : countPlace k + cellSize ≤ length b) where
+module _ (b : List ℕ) (k : ℕ) (s : Set) (size : length b ≡ sentSize) (inside : k < cells) where
   module _ (few : countIn b k < maxAcknowledgments) where
     pub count-acknowledged : countIn (acknowledgedIn b k s) k ≡ countIn b k + 1
     count-acknowledged =
@@ -132,16 +139,21 @@ module _ (b : List ℕ) (k : ℕ) (s : Set) (room : countPlace k + cellSize ≤ 
     acks-acknowledged h =
         let n = countIn b k in
         let b′ = acknowledgedIn b k s in
-        let g = agree-written b (setPlace k n) s (countPlace k) (n + 1) (omega arith) (omega arith) (setPlace k 0) (setPlace k n) (inl (omega arith)) (inr (omega arith)) in
+        let g = sets-kept b (setPlace k n) s (countPlace k) (n + 1) size (omega arith) (omega arith) (omega arith) (setPlace k 0) (setPlace k n) (omega arith) (inl (omega arith)) in
         let w = set-written b (setPlace k n) s (countPlace k) (n + 1) (omega arith) (omega arith) (omega arith) h in
         let e : setPlace k 0 + n * setBytes ≡ setPlace k n = omega arith in
         ap (λ (m : ℕ). setsFrom m (setPlace k 0) b′) (count-acknowledged ∙ add-one n) ∙ sets-more n (setPlace k 0) b′
         ∙ (λ i. sets-agree n (setPlace k 0) g (omega arith) (omega arith) i ++ (inSet ((ap (readSet b′) e ∙ w) i) ∷ []))
 
-    pub check-acknowledged : Agree b (acknowledgedIn b k s) (flagPlace k) (countPlace k + cellSize)
+    pub flag-acknowledged : flagIn (acknowledgedIn b k s) k ≡ flagIn b k
+    flag-acknowledged =
+        number-kept b (setPlace k (countIn b k)) s (countPlace k) (countIn b k + 1) size (omega arith) (omega arith) (omega arith) (flagPlace k) (omega arith) (λ e. omega arith)
+
+    pub check-acknowledged : checkIn (acknowledgedIn b k s) k ≡ checkIn b k
     check-acknowledged =
-        agree-written b (setPlace k (countIn b k)) s (countPlace k) (countIn b k + 1) (omega arith) (omega arith) (flagPlace k) (countPlace k + cellSize)
-        (inr (omega arith)) (inr (omega arith))
+        check-agree k flag-acknowledged
+        (sets-kept b (setPlace k (countIn b k)) s (countPlace k) (countIn b k + 1) size (omega arith) (omega arith) (omega arith) (checkPlace k) (checkPlace k + setBytes)
+        (omega arith) (inr (omega arith)))
 
   pub flag-checked : flagIn (checkedIn b k s) k ≡ 1
   flag-checked = number-written b (checkPlace k) s (flagPlace k) 1 (omega arith) (omega arith) (omega arith)
@@ -152,6 +164,11 @@ module _ (b : List ℕ) (k : ℕ) (s : Set) (room : countPlace k + cellSize ≤ 
       let w = set-written b (checkPlace k) s (flagPlace k) 1 (omega arith) (omega arith) (omega arith) h in
       λ i. pick (eqb (flag-checked i) 1) (some (inSet (w i))) none
 
-  pub acks-checked : Agree b (checkedIn b k s) (countPlace k) (flagPlace k)
+  pub count-checked : countIn (checkedIn b k s) k ≡ countIn b k
+  count-checked =
+      number-kept b (checkPlace k) s (flagPlace k) 1 size (omega arith) (omega arith) (omega arith) (countPlace k) (omega arith) (λ e. omega arith)
+
+  pub acks-checked : countIn b k ≤ maxAcknowledgments → acksIn (checkedIn b k s) k ≡ acksIn b k
   acks-checked =
-      agree-written b (checkPlace k) s (flagPlace k) 1 (omega arith) (omega arith) (countPlace k) (flagPlace k) (inl (omega arith)) (inl (omega arith))
+      acks-agree k count-checked
+      (sets-kept b (checkPlace k) s (flagPlace k) 1 size (omega arith) (omega arith) (omega arith) (setPlace k 0) (checkPlace k) (omega arith) (inl (omega arith)))

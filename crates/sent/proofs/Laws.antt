@@ -14,12 +14,11 @@ use Rattle.theory.specs.Sets.{pick}
 use Rattle.theory.specs.Sets as theory
 use Rattle.theory.specs.Lists.{nth}
 use Rattle.theory.specs.Counting.{both, left, right, known, never}
-use Rattle.wire.specs.Wire.{readLe}
 use Rattle.sets.specs.declared.Set.{Set}
 use Rattle.sets.specs.Sets.{inSet, setBytes, readSet}
 use Rattle.table.specs.Table.{maxSites}
 use Rattle.sent.specs.declared.Message.the-variants.{Sent, Never}
-use Rattle.sent.specs.Sent.{sentRounds, flagOffset, checkOffset, cells, cellOf, countPlace, setPlace, checkPlace}
+use Rattle.sent.specs.Sent.{sentRounds, cells, cellOf, setPlace, checkPlace}
 use Rattle.sent.specs.Sent.{countIn, flagIn, acksIn, checkIn, inTable, acksOf, checksOf, acknowledgmentOf, checkOf, Read}
 use Rattle.sent.proofs.Cells.{length-sets, nth-set, nth-none}
 
@@ -89,10 +88,6 @@ other-view {A} f g d new i s t here there j r = ⊎-elim same other (known (eqb 
 
 -- ---- messages read
 
--- What was read from where a cell starts is its count.
-pub counted : (b : List ℕ) (k : ℕ) {p n : ℕ} → p ≡ countPlace k → n ≡ readLe 1 b p → n ≡ countIn b k
-counted b k e c = c ∙ ap (readLe 1 b) e
-
 module _ (b : List ℕ) (j r : ℕ) (t : inTable j r ≡ true) where
   pub acks-at : acksOf b j r ≡ acksIn b (cellOf j r)
   unfolding acksOf
@@ -107,49 +102,47 @@ module _ (b : List ℕ) (j r : ℕ) (t : inTable j r ≡ true) where
   unfolding acksIn
   length-acks = ap length acks-at ∙ length-sets (countIn b (cellOf j r)) (setPlace (cellOf j r) 0) b
 
-  module _ {p : ℕ} (e : p ≡ countPlace (cellOf j r)) where
-    pub no-acknowledgment : (a : ℕ) {n : ℕ} → n ≡ readLe 1 b p → 1 ≤ a → n < a → Read Never (acknowledgmentOf b j r a) (nth (acksOf b j r) (pred a))
+  module _ {k : ℕ} (e : k ≡ cellOf j r) where
+    pub no-acknowledgment : (a : ℕ) {n : ℕ} → n ≡ countIn b k → 1 ≤ a → n < a → Read Never (acknowledgmentOf b j r a) (nth (acksOf b j r) (pred a))
     unfolding acksIn acknowledgmentOf
     no-acknowledgment zero c h l = absurd (omega arith)
     no-acknowledgment (suc a) {n} c h l =
-        let d : n ≡ countIn b (cellOf j r) = c ∙ ap (readLe 1 b) e in
+        let d : n ≡ countIn b (cellOf j r) = c ∙ ap (countIn b) e in
         record {
-          answer = sym (λ k. pick (lt-leb (suc a) (countIn b (cellOf j r)) (omega arith) k) (Sent (readSet b (setPlace (cellOf j r) (suc a - 1)))) Never);
+          answer = sym (λ i. pick (lt-leb (suc a) (countIn b (cellOf j r)) (omega arith) i) (Sent (readSet b (setPlace (cellOf j r) (suc a - 1)))) Never);
           means = sym (ap (λ (x : List theory.Set). nth x a) acks-at ∙ nth-none (countIn b (cellOf j r)) (setPlace (cellOf j r) 0) b a (omega arith));
         }
 
-    pub some-acknowledgment : (a : ℕ) {n : ℕ} {s : Set} → n ≡ readLe 1 b p → 1 ≤ a → a ≤ n → s ≡ readSet b (p + 1 + (a - 1) * setBytes)
+    pub some-acknowledgment : (a : ℕ) {n p : ℕ} {s : Set} → n ≡ countIn b k → 1 ≤ a → a ≤ n → p ≡ setPlace k (a - 1) → s ≡ readSet b p
         → Read (Sent s) (acknowledgmentOf b j r a) (nth (acksOf b j r) (pred a))
     unfolding acksIn acknowledgmentOf
-    some-acknowledgment zero c h l m = absurd (omega arith)
-    some-acknowledgment (suc a) {n} {s} c h l m =
-        let d : n ≡ countIn b (cellOf j r) = c ∙ ap (readLe 1 b) e in
-        let q : setPlace (cellOf j r) (suc a - 1) ≡ setPlace (cellOf j r) 0 + a * setBytes = omega arith in
-        let w : s ≡ readSet b (setPlace (cellOf j r) (suc a - 1)) = m ∙ ap (λ (x : ℕ). readSet b (x + 1 + (suc a - 1) * setBytes)) e in
+    some-acknowledgment zero c h l q m = absurd (omega arith)
+    some-acknowledgment (suc a) {n} {p} {s} c h l q m =
+        let d : n ≡ countIn b (cellOf j r) = c ∙ ap (countIn b) e in
+        let o : setPlace (cellOf j r) (suc a - 1) ≡ setPlace (cellOf j r) 0 + a * setBytes = omega arith in
+        let w : s ≡ readSet b (setPlace (cellOf j r) (suc a - 1)) = m ∙ ap (readSet b) (q ∙ ap (λ (x : ℕ). setPlace x (suc a - 1)) e) in
         record {
-          answer = ap Sent w ∙ sym (λ k. pick (le-leb (suc a) (countIn b (cellOf j r)) (omega arith) k) (Sent (readSet b (setPlace (cellOf j r) (suc a - 1)))) Never);
+          answer = ap Sent w ∙ sym (λ i. pick (le-leb (suc a) (countIn b (cellOf j r)) (omega arith) i) (Sent (readSet b (setPlace (cellOf j r) (suc a - 1)))) Never);
           means =
-              ap (λ (x : Set). some (inSet x)) (w ∙ ap (readSet b) q)
+              ap (λ (x : Set). some (inSet x)) (w ∙ ap (readSet b) o)
               ∙ sym (ap (λ (x : List theory.Set). nth x a) acks-at ∙ nth-set (countIn b (cellOf j r)) (setPlace (cellOf j r) 0) b a (omega arith));
         }
 
-    pub no-check : {n : ℕ} → n ≡ readLe 1 b (p + flagOffset) → (n ≡ 1 → ⊥) → Read Never (checkOf b j r) (checksOf b j r)
+    pub no-check : {n : ℕ} → n ≡ flagIn b k → (n ≡ 1 → ⊥) → Read Never (checkOf b j r) (checksOf b j r)
     unfolding checkIn checkOf
     no-check {n} c h =
-        let d : n ≡ flagIn b (cellOf j r) = c ∙ ap (λ (x : ℕ). readLe 1 b (x + flagOffset)) e in
-        let f = ne-eqb (flagIn b (cellOf j r)) 1 (λ x. h (d ∙ x)) in
+        let f = ne-eqb (flagIn b (cellOf j r)) 1 (λ x. h (c ∙ ap (flagIn b) e ∙ x)) in
         record {
-          answer = sym (λ k. pick (f k) (Sent (readSet b (checkPlace (cellOf j r)))) Never);
-          means = sym (checks-at ∙ (λ k. pick (f k) (some (inSet (readSet b (checkPlace (cellOf j r))))) none));
+          answer = sym (λ i. pick (f i) (Sent (readSet b (checkPlace (cellOf j r)))) Never);
+          means = sym (checks-at ∙ (λ i. pick (f i) (some (inSet (readSet b (checkPlace (cellOf j r))))) none));
         }
 
-    pub some-check : {n : ℕ} {s : Set} → n ≡ readLe 1 b (p + flagOffset) → n ≡ 1 → s ≡ readSet b (p + checkOffset) → Read (Sent s) (checkOf b j r) (checksOf b j r)
+    pub some-check : {n p : ℕ} {s : Set} → n ≡ flagIn b k → n ≡ 1 → p ≡ checkPlace k → s ≡ readSet b p → Read (Sent s) (checkOf b j r) (checksOf b j r)
     unfolding checkIn checkOf
-    some-check {n} {s} c h m =
-        let d : n ≡ flagIn b (cellOf j r) = c ∙ ap (λ (x : ℕ). readLe 1 b (x + flagOffset)) e in
-        let f = eq-eqb (flagIn b (cellOf j r)) 1 (sym d ∙ h) in
-        let w : s ≡ readSet b (checkPlace (cellOf j r)) = m ∙ ap (λ (x : ℕ). readSet b (x + checkOffset)) e in
+    some-check {n} {p} {s} c h q m =
+        let f = eq-eqb (flagIn b (cellOf j r)) 1 (sym (c ∙ ap (flagIn b) e) ∙ h) in
+        let w : s ≡ readSet b (checkPlace (cellOf j r)) = m ∙ ap (readSet b) (q ∙ ap checkPlace e) in
         record {
-          answer = ap Sent w ∙ sym (λ k. pick (f k) (Sent (readSet b (checkPlace (cellOf j r)))) Never);
-          means = ap (λ (x : Set). some (inSet x)) w ∙ sym (checks-at ∙ (λ k. pick (f k) (some (inSet (readSet b (checkPlace (cellOf j r))))) none));
+          answer = ap Sent w ∙ sym (λ i. pick (f i) (Sent (readSet b (checkPlace (cellOf j r)))) Never);
+          means = ap (λ (x : Set). some (inSet x)) w ∙ sym (checks-at ∙ (λ i. pick (f i) (some (inSet (readSet b (checkPlace (cellOf j r))))) none));
         }

@@ -1,5 +1,6 @@
 -- What correct sites have sent, in bytes: one cell for each site and round, all rounds of a site together.
--- A cell has the number of acknowledgments in 1 byte, room for 64 sets of which that many are meant, a flag of 1 byte, and the check message's set.
+-- A cell has the number of its acknowledgments and a flag, 1 byte each, room for 64 sets of which that many are meant, and the check message's set.
+-- The counts of all cells come first, then all flags, then the sets cell by cell, so that what a start clears stands together.
 -- Assumes nothing.
 use mathlib.Core.Path.{_≡_}
 use mathlib.Core.Bool.{Bool, _&&_}
@@ -7,7 +8,7 @@ use mathlib.Core.List.{List, [], _∷_, _++_}
 use mathlib.Core.Option.{Option, none, some}
 use Prim.Native.Nat.{ℕ, zero, suc, _+_, _*_, _-_, _≤_, _<_}
 use lib.Dec.{eqb, leb, ltb}
-use lib.ListN.{length}
+use lib.ListN.{length, replicate}
 use Rattle.theory.specs.Sets as theory
 use Rattle.theory.specs.Sets.{pick}
 use Rattle.wire.specs.Wire.{bytes, readLe, splice}
@@ -25,24 +26,21 @@ sentRounds = 33
 abbrev pub maxAcknowledgments : ℕ
 maxAcknowledgments = 64
 
--- Where a cell's flag and its check message's set stand: after the number of acknowledgments and the room for their sets.
-abbrev pub flagOffset : ℕ
-flagOffset = 1 + maxAcknowledgments * setBytes
-
-abbrev pub checkOffset : ℕ
-checkOffset = flagOffset + 1
-
--- The bytes of a cell: 522.
-abbrev pub cellSize : ℕ
-cellSize = checkOffset + setBytes
-
 -- The cells, one for each site and round: 363.
 abbrev pub cells : ℕ
 cells = maxSites * sentRounds
 
--- The bytes of all cells: 189,486.
+-- The sets stand after the counts and the flags.
+abbrev pub setsOffset : ℕ
+setsOffset = 2 * cells
+
+-- The bytes of a cell's sets: 520.
+abbrev pub cellSize : ℕ
+cellSize = (maxAcknowledgments + 1) * setBytes
+
+-- The bytes of all that is sent: 189,486.
 abbrev pub sentSize : ℕ
-sentSize = cells * cellSize
+sentSize = setsOffset + cells * cellSize
 
 -- ---- places
 
@@ -50,20 +48,21 @@ sentSize = cells * cellSize
 abbrev pub cellOf : ℕ → ℕ → ℕ
 cellOf j r = j * sentRounds + (r - 1)
 
--- A cell starts with the number of its acknowledgments.
+-- The number of a cell's acknowledgments.
 abbrev pub countPlace : ℕ → ℕ
-countPlace k = k * cellSize
+countPlace k = k
 
--- The sets follow, oldest first, counted from 0.
-abbrev pub setPlace : ℕ → ℕ → ℕ
-setPlace k n = countPlace k + 1 + n * setBytes
-
--- After the last of them stands the flag: 1 where a check message was sent.
+-- Its flag: 1 where a check message was sent.
 abbrev pub flagPlace : ℕ → ℕ
-flagPlace k = countPlace k + flagOffset
+flagPlace k = cells + k
 
+-- Its sets, oldest first, counted from 0.
+abbrev pub setPlace : ℕ → ℕ → ℕ
+setPlace k n = setsOffset + k * cellSize + n * setBytes
+
+-- After the last of them stands the check message's set.
 abbrev pub checkPlace : ℕ → ℕ
-checkPlace k = countPlace k + checkOffset
+checkPlace k = setPlace k maxAcknowledgments
 
 -- ---- what the bytes say
 
@@ -125,10 +124,13 @@ pub record Read (m exact : Message) (meant : Option theory.Set) : Type 0 where
 
 -- ---- writes
 
--- The first n cells with nothing sent: their counts and flags are 0, all else is as it was.
+-- The first n bytes are 0, all else is as it was.
 unfoldable pub clearedTo : ℕ → List ℕ → List ℕ
-clearedTo zero b = b
-clearedTo (suc n) b = splice (splice (clearedTo n b) (countPlace n) (bytes 1 0)) (flagPlace n) (bytes 1 0)
+clearedTo n b = splice b 0 (replicate n 0)
+
+-- Nothing sent: all counts and flags are 0, the sets are as they were.
+abbrev pub cleared : List ℕ → List ℕ
+cleared b = clearedTo setsOffset b
 
 -- A set written at one place and a byte at another.
 unfoldable pub written : List ℕ → ℕ → Set → ℕ → ℕ → List ℕ

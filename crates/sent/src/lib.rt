@@ -7,8 +7,8 @@ ghost use lib.ListN.{length};
 ghost use Rattle.theory.specs.Lists.{nth};
 ghost use Rattle.sets.specs.Sets.{inSet};
 ghost use Rattle.table.specs.Table.{maxSites};
-ghost use Rattle.sent.specs.Sent.{sentRounds, sentSize, cells, cellOf, countPlace, maxAcknowledgments, GoodSent, Read, Holds};
-ghost use Rattle.sent.specs.Sent.{acksOf, checksOf, acknowledgmentOf, checkOf, clearedTo, acknowledgedIn, checkedIn, oneMore, checked};
+ghost use Rattle.sent.specs.Sent.{sentRounds, sentSize, cells, cellOf, setPlace, maxAcknowledgments, GoodSent, Read, Holds};
+ghost use Rattle.sent.specs.Sent.{acksOf, checksOf, acknowledgmentOf, checkOf, cleared, acknowledgedIn, checkedIn, oneMore, checked};
 use sets::Set;
 use table::SiteTable;
 
@@ -23,38 +23,41 @@ impl Message {
     pub const ROUNDS: usize = 33;
     // The acknowledgments of a site and round that there is room for.
     pub const MAX_ACKNOWLEDGMENTS: usize = 64;
-    // The bytes of all that was sent: a cell for each site and round.
-    pub const SIZE: usize = Message::CELLS * Message::CELL;
+    // The bytes of all that was sent: a count and a flag for each site and round, then their sets.
+    pub const SIZE: usize = Message::SETS + Message::CELLS * Message::CELL;
 
+    // A cell for each site and round. The counts of all cells come first, then their flags.
     const CELLS: usize = SiteTable::MAX_SITES * Message::ROUNDS;
-    // Where the sets, the flag and the check message's set stand in a cell, and the bytes of a cell.
-    const SETS: usize = 1;
+    // Where the sets start, and the bytes of a cell's: its acknowledgments, then its check message.
+    const SETS: usize = 2 * Message::CELLS;
 
-    const FLAG: usize = Message::SETS + Message::MAX_ACKNOWLEDGMENTS * Set::BYTES;
-
-    const CHECK: usize = Message::FLAG + 1;
-
-    const CELL: usize = Message::CHECK + Set::BYTES;
+    const CELL: usize = (Message::MAX_ACKNOWLEDGMENTS + 1) * Set::BYTES;
 }
 
-// Where the cell of a site and round starts.
-fn cell_at(j: usize, r: usize) -> usize
+// The cell of a site and round.
+fn cell_of(j: usize, r: usize) -> usize
     requires { ⌜ (j < maxSites) × (1 ≤ r) × (r ≤ sentRounds) ⌝ }
-    ensures { λ p. ⌜ (p ≡ countPlace (cellOf j r)) × (cellOf j r < cells) ⌝ }
+    ensures { λ k. ⌜ (k ≡ cellOf j r) × (k < cells) ⌝ }
 {
-    (j * Message::ROUNDS + (r - 1)) * Message::CELL
+    j * Message::ROUNDS + (r - 1)
 }
 
-// Nothing is sent: the counts and the flags become 0, all else stays as it was.
+// Where the n-th set of a cell stands, counted from 0: the check message's is the last.
+fn set_at(cell: usize, n: usize) -> usize
+    requires { ⌜ (cell < cells) × (n ≤ maxAcknowledgments) ⌝ }
+    ensures { λ p. ⌜ p ≡ setPlace cell n ⌝ }
+{
+    Message::SETS + cell * Message::CELL + n * Set::BYTES
+}
+
+// Nothing is sent: the counts and the flags become 0, the sets stay as they were.
 pub fn clear(sent: &mut [u8])
     requires { ⌜ length (now sent) ≡ sentSize ⌝ }
-    ensures { λ _. ⌜ Holds (now (sent .exit)) (clearedTo cells (now (sent .entry))) (λ j r. []) (λ j r. none) ⌝ }
+    ensures { λ _. ⌜ Holds (now (sent .exit)) (cleared (now (sent .entry))) (λ j r. []) (λ j r. none) ⌝ }
 {
     let mut k: usize = 0;
-    while k < Message::CELLS {
-        let at = k * Message::CELL;
-        wire::put1(sent, at, 0);
-        wire::put1(sent, at + Message::FLAG, 0);
+    while k < Message::SETS {
+        wire::put1(sent, k, 0);
         k += 1;
     }
 }
@@ -64,12 +67,12 @@ pub fn acknowledgment(sent: &[u8], j: usize, r: usize, a: usize) -> Message
     requires { ⌜ GoodSent (now sent) × (j < maxSites) × (1 ≤ r) × (r ≤ sentRounds) × (1 ≤ a) ⌝ }
     ensures { λ m. ⌜ Read m (acknowledgmentOf (now (sent .entry)) j r a) (nth (acksOf (now (sent .entry)) j r) (pred a)) ⌝ }
 {
-    let cell = cell_at(j, r);
+    let cell = cell_of(j, r);
     let count = wire::get1(sent, cell);
     if a > count as usize {
         return Message::Never;
     }
-    let set = Set::read(sent, cell + Message::SETS + (a - 1) * Set::BYTES);
+    let set = Set::read(sent, set_at(cell, a - 1));
     Message::Sent(set)
 }
 
@@ -78,12 +81,12 @@ pub fn check(sent: &[u8], j: usize, r: usize) -> Message
     requires { ⌜ GoodSent (now sent) × (j < maxSites) × (1 ≤ r) × (r ≤ sentRounds) ⌝ }
     ensures { λ m. ⌜ Read m (checkOf (now (sent .entry)) j r) (checksOf (now (sent .entry)) j r) ⌝ }
 {
-    let cell = cell_at(j, r);
-    let flag = wire::get1(sent, cell + Message::FLAG);
+    let cell = cell_of(j, r);
+    let flag = wire::get1(sent, Message::CELLS + cell);
     if flag != 1 {
         return Message::Never;
     }
-    let set = Set::read(sent, cell + Message::CHECK);
+    let set = Set::read(sent, set_at(cell, Message::MAX_ACKNOWLEDGMENTS));
     Message::Sent(set)
 }
 
@@ -93,9 +96,9 @@ pub fn add_acknowledgment(sent: &mut [u8], j: usize, r: usize, set: Set)
     ensures { λ _. ⌜ Holds (now (sent .exit)) (acknowledgedIn (now (sent .entry)) (cellOf j r) set)
         (oneMore j r (inSet set) (acksOf (now (sent .entry)))) (checksOf (now (sent .entry))) ⌝ }
 {
-    let cell = cell_at(j, r);
+    let cell = cell_of(j, r);
     let count = wire::get1(&sent[..], cell);
-    let at = cell + Message::SETS + (count as usize) * Set::BYTES;
+    let at = set_at(cell, count as usize);
     set.write(sent, at);
     wire::put1(sent, cell, count + 1);
 }
@@ -106,7 +109,7 @@ pub fn put_check(sent: &mut [u8], j: usize, r: usize, set: Set)
     ensures { λ _. ⌜ Holds (now (sent .exit)) (checkedIn (now (sent .entry)) (cellOf j r) set)
         (acksOf (now (sent .entry))) (checked j r (inSet set) (checksOf (now (sent .entry)))) ⌝ }
 {
-    let cell = cell_at(j, r);
-    set.write(sent, cell + Message::CHECK);
-    wire::put1(sent, cell + Message::FLAG, 1);
+    let cell = cell_of(j, r);
+    set.write(sent, set_at(cell, Message::MAX_ACKNOWLEDGMENTS));
+    wire::put1(sent, Message::CELLS + cell, 1);
 }

@@ -25,7 +25,7 @@ use Rattle.layout.specs.Good.{Holds}
 use Rattle.entries.specs.Entries.{logTo}
 use Rattle.entries.proofs.Logs.{log-none}
 use Rattle.sent.specs.Sent as sent
-use Rattle.sent.specs.Sent.{cells, clearedTo}
+use Rattle.sent.specs.Sent.{cleared}
 use Rattle.world.specs.World.{Buffers, maxLog, siteAt, knownTo, HoldsWorld}
 use Rattle.world.specs.Started.{Started}
 use Rattle.world.proofs.Sites.{site-same, site-other, given-back}
@@ -57,7 +57,7 @@ fresh-more sites n k ys e room size f h =
 
 -- All sites are fresh and nothing is sent.
 pub started : (t : SiteTable) (n : ℕ) {sites now before : List ℕ} → n ≡ t .sites → length sites ≡ t .sites * siteSize → FreshTo n sites
-    → sent.Holds now (clearedTo cells before) (λ j r. []) (λ j r. none) → Started t sites now before
+    → sent.Holds now (cleared before) (λ j r. []) (λ j r. none) → Started t sites now before
 started t n {sites} {now} {before} e size f h =
     record {
       holds =

@@ -8,11 +8,11 @@ use Rattle.table.specs.declared.SiteTable.{SiteTable}
 use Rattle.register.specs.declared.Command.{Command}
 use Rattle.protocol.specs.World.{start}
 use Rattle.system.specs.Dash.{dash}
-use Rattle.sent.specs.Sent.{cells, clearedTo}
+use Rattle.sent.specs.Sent.{cleared}
 use Rattle.world.specs.World.{Buffers, maxLog, HoldsWorld}
 
 -- With no entry meant the buffers hold the start of a run with any book, whatever bytes the log has; of what was sent only counts and flags were written.
 pub record Started (t : SiteTable) (sites sent before : List ℕ) : Type 0 where
   pub holds : (book : List Command) (log : List ℕ) → length log ≤ maxLog
       → HoldsWorld t book (record { sites = sites; log = log; entries = 0; sent = sent }) (start (dash t book))
-  pub bytes : sent ≡ clearedTo cells before
+  pub bytes : sent ≡ cleared before

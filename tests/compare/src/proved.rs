@@ -1,23 +1,63 @@
 //! The proved program, called through its C function in a static archive.
 
+use crate::draw::Draw;
 use crate::program::Program;
 
 unsafe extern "C" {
-    /// Plays `run` into `out`; gives the number of bytes written to `out`, 0 where `out` is too short for every print.
-    fn dash_register_run(run: *const u8, run_len: usize, out: *mut u8, out_len: usize) -> usize;
+    /// Plays `run` on `sites`, `log` and `sent` into `out`; gives the number of bytes written to `out`, 0 where a buffer is too short.
+    fn dash_register_run(
+        run: *const u8,
+        run_length: usize,
+        sites: *mut u8,
+        sites_length: usize,
+        log: *mut u8,
+        log_length: usize,
+        sent: *mut u8,
+        sent_length: usize,
+        out: *mut u8,
+        out_length: usize,
+    ) -> usize;
 }
 
-/// Room for the print: 30,000 refused steps take at most 21 bytes each.
-const OUT_BYTES: usize = 1 << 20;
+/// The sizes of include/dash_register.h.
+const SITES_BYTES: usize = 38_863;
+const LOG_BYTES: usize = 12_690;
+const SENT_BYTES: usize = 189_486;
+const PRINT_BYTES: usize = 640_890;
 
-/// The archive's program with the buffer it is lent.
+/// So many calls find what the calls before them left in the working memory; then it is filled with other bytes.
+const CALLS_BETWEEN_FILLS: u64 = 16;
+
+/// The archive's program with the buffers it is lent.
 pub struct Proved {
+    sites: Vec<u8>,
+    log: Vec<u8>,
+    sent: Vec<u8>,
     out: Vec<u8>,
+    calls: u64,
+}
+
+fn fill(buffer: &mut [u8], draw: &mut Draw) {
+    for bytes in buffer.chunks_mut(8) {
+        bytes.copy_from_slice(&draw.bits().to_le_bytes()[..bytes.len()]);
+    }
 }
 
 impl Proved {
     pub fn new() -> Proved {
-        Proved { out: vec![0; OUT_BYTES] }
+        let [sites, log, sent, out] = [SITES_BYTES, LOG_BYTES, SENT_BYTES, PRINT_BYTES].map(|size| vec![0; size]);
+        Proved { sites, log, sent, out, calls: 0 }
+    }
+
+    /// What the working memory holds before a run must not matter to its print.
+    fn fill_now_and_then(&mut self) {
+        if self.calls % CALLS_BETWEEN_FILLS == 0 {
+            let mut draw = Draw::new(self.calls, 0);
+            for buffer in [&mut self.sites, &mut self.log, &mut self.sent] {
+                fill(buffer, &mut draw);
+            }
+        }
+        self.calls += 1;
     }
 }
 
@@ -29,9 +69,21 @@ impl Default for Proved {
 
 impl Program for Proved {
     fn play(&mut self, run: &[u8]) -> Vec<u8> {
+        self.fill_now_and_then();
         // SAFETY: each pointer comes with the length of its own live buffer, and the function keeps none of them.
         let written = unsafe {
-            dash_register_run(run.as_ptr(), run.len(), self.out.as_mut_ptr(), self.out.len())
+            dash_register_run(
+                run.as_ptr(),
+                run.len(),
+                self.sites.as_mut_ptr(),
+                self.sites.len(),
+                self.log.as_mut_ptr(),
+                self.log.len(),
+                self.sent.as_mut_ptr(),
+                self.sent.len(),
+                self.out.as_mut_ptr(),
+                self.out.len(),
+            )
         };
         self.out.get(..written).expect("the print fits into its buffer").to_vec()
     }

@@ -1,3 +1,5 @@
+-- `dash_run::play`: what is answered is within the print's buffer.
+-- Assumes nothing.
 use mathlib.Core.Path.{sym}
 use lib.Seq.{length-take-le}
 use Rattle.run.proofs.Laws.{answer-fits}
@@ -18,10 +20,10 @@ run-requires : tie.Need-run-requires
 run-requires c κs = search needs
 
 slice-reshare-prefix-write-all : tie.Need-slice-reshare-prefix-write-all
-slice-reshare-prefix-write-all c = answer-fits _ _ (c .before .before .run .ensures)
+slice-reshare-prefix-write-all c = answer-fits _ _ _ (c .before .before .before .before .before .before .before .before .run .ensures .0)
 
 slice-aggregate-write-all : tie.Need-slice-aggregate-write-all
-slice-aggregate-write-all c = sym (length-take-le _ _ (answer-fits _ _ (c .before .before .before .run .ensures)))
+slice-aggregate-write-all c = sym (length-take-le _ _ (answer-fits _ _ _ (c .before .before .before .before .before .before .before .before .before .run .ensures .0)))
 
 write-all-requires : tie.Need-write-all-requires
 write-all-requires c κs = search needs
@@ -31,6 +33,15 @@ same-length c = search needs
 
 same-length-2 : tie.Need-same-length-2
 same-length-2 c = search needs
+
+same-length-3 : tie.Need-same-length-3
+same-length-3 c = search needs
+
+same-length-4 : tie.Need-same-length-4
+same-length-4 c = search needs
+
+same-length-5 : tie.Need-same-length-5
+same-length-5 c = search needs
 
 returns : tie.Need-returns
 returns c = search needs
@@ -48,4 +59,7 @@ play-spec =
     write-all-requires
     same-length
     same-length-2
+    same-length-3
+    same-length-4
+    same-length-5
     returns)

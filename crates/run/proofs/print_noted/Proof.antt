@@ -1,4 +1,5 @@
-use native.Mathlib.Omega.{arith}
+-- `run::print_noted`: the places and the conflicts are those of the book.
+-- Assumes nothing.
 use borrow.Author.Needs.{needs}
 use denote.Ref.{now}
 use Rattle.commands.proofs.Walk.{few-commands}
@@ -33,7 +34,7 @@ print-in-requires : tie.Need-print-in-requires
 print-in-requires c κs =
     let a = c .before .before .before .before .before .before .before .before .before .before .before .before .before .before .before .before .before .before .before in
     let s = now (a .args .book) in
-    (a .pre .0, a .pre .1, record { places = index-noted s _ (few-commands s) (c .before .before .before .before .before .before .before .before .before .before .before .index .ensures); rows = c .before .before .before .before .before .before .before .conflict-rows .ensures }, a .pre .2)
+    (a .pre .0, a .pre .1, record { places = index-noted s _ (few-commands s) (c .before .before .before .before .before .before .before .before .before .before .before .index .ensures); rows = c .before .before .before .before .before .before .before .conflict-rows .ensures })
 
 same-length : tie.Need-same-length
 same-length c = search needs

@@ -1,3 +1,5 @@
+-- `run::print_on`: the first line, the lines of the refused steps and those of the sites are the print; the buffers hold the last world.
+-- Assumes nothing.
 use mathlib.Core.Path.{sym, _∙_}
 use native.Mathlib.Omega.{arith}
 use borrow.Author.Needs.{needs}
@@ -5,7 +7,7 @@ use denote.Ref.{now}
 use lib.ListN.{length}
 use Rattle.table.proofs.Laws.{good-limits}
 use Rattle.commands.specs.Book.{commandsOf}
-use Rattle.run.proofs.Laws.{first-short, held-printable, all-parts}
+use Rattle.run.proofs.Laws.{first-short, held-printable, all-parts, last-held}
 use Rattle.run.proofs.print_on.Statement.{statement}
 use Rattle.run.proofs.print_on.Tie as tie
 
@@ -62,9 +64,11 @@ same-length-4 c = search needs
 
 returns : tie.Need-returns
 returns c =
-    let a = c .before .before .before .before .before .before .before .before .before .before .before .before .before .before .before .before .before .before .before .before .before .before .before .before .before .before .before .before .before .before .before .before .before .before .before .before .before .before .before in
-    all-parts (a .args .table) (commandsOf (now (a .args .book))) (now (a .args .steps)) (c .before .before .before .before .before .before .before .before .before .before .before .before .before .before .before .before .before .before .before .before .before .before .before .faulty-count .ensures) (c .before .before .before .before .before .before .before .before .before .before .before .before .before .before .before .before .before .before .before .before .before .before .count .ensures)
-    (c .before .before .before .before .before .before .before .before .before .before .before .before .before .before .before .before .before .before .before .before .put-run-line .ensures) (c .before .before .before .before .before .before .before .before .before .before .before .before .before .play-steps .ensures) (c .before .before .put-site-lines .ensures .0)
+    let a = c .before .before .before .before .before .before .before .before .before .before .before .before .before .before .before .before .before .before .before .before .before .before .before .before .before .before .before .before .before .before .before .before .before .before .before .before .before .before .before in (
+      all-parts (a .args .table) (commandsOf (now (a .args .book))) (now (a .args .steps)) (c .before .before .before .before .before .before .before .before .before .before .before .before .before .before .before .before .before .before .before .before .before .before .before .faulty-count .ensures) (c .before .before .before .before .before .before .before .before .before .before .before .before .before .before .before .before .before .before .before .before .before .before .count .ensures)
+          (c .before .before .before .before .before .before .before .before .before .before .before .before .before .before .before .before .before .before .before .before .put-run-line .ensures) (c .before .before .before .before .before .before .before .before .before .before .before .before .before .play-steps .ensures) (c .before .before .put-site-lines .ensures .0),
+      last-held (a .args .table) (commandsOf (now (a .args .book))) (now (a .args .steps)) (c .before .before .before .before .before .before .before .before .before .before .before .before .before .play-steps .ensures),
+    )
 
 pub print-on-spec : {M : Type 1} → statement M
 print-on-spec =

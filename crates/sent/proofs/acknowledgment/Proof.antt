@@ -3,13 +3,12 @@
 use borrow.Author.Needs.{needs}
 use denote.Ref.{now}
 use native.Mathlib.Omega.{arith}
-use Rattle.sent.specs.Sent.{cellOf}
-use Rattle.sent.proofs.Laws.{in-table, counted, no-acknowledgment, some-acknowledgment}
+use Rattle.sent.proofs.Laws.{in-table, no-acknowledgment, some-acknowledgment}
 use Rattle.sent.proofs.acknowledgment.Statement.{statement}
 use Rattle.sent.proofs.acknowledgment.Tie as tie
 
-cell-at-requires : tie.Need-cell-at-requires
-cell-at-requires c κs = search needs
+cell-of-requires : tie.Need-cell-of-requires
+cell-of-requires c κs = search needs
 
 get1-requires : tie.Need-get1-requires
 get1-requires c κs = search needs
@@ -21,46 +20,36 @@ returns : tie.Need-returns
 returns c =
     let o = c .before .before .before .before in
     let a = o .args in
-    no-acknowledgment (now (a .sent)) (a .j) (a .r) (in-table (a .j) (a .r) (o .pre .1) (o .pre .2) (o .pre .3)) (c .before .before .cell-at .ensures .0) (a .a) (c .before .get1 .ensures) (o .pre .4) (c .if1 .taken)
+    no-acknowledgment (now (a .sent)) (a .j) (a .r) (in-table (a .j) (a .r) (o .pre .1) (o .pre .2) (o .pre .3)) (c .before .before .cell-of .ensures .0) (a .a) (c .before .get1 .ensures) (o .pre .4) (c .if1 .taken)
 
-add-read : tie.Need-add-read
-add-read c = search needs
+sub-set-at : tie.Need-sub-set-at
+sub-set-at c = search needs
 
-sub-read : tie.Need-sub-read
-sub-read c = search needs
-
-mul-read : tie.Need-mul-read
-mul-read c = search needs
-
-add-read-2 : tie.Need-add-read-2
-add-read-2 c = search needs
+set-at-requires : tie.Need-set-at-requires
+set-at-requires c κs =
+    let k = c .before .before .cell-of in
+    (k .ensures .1, omega (arith, c .before .before .before .before .pre .0 .counts (k .result) (k .ensures .1)))
 
 read-requires : tie.Need-read-requires
 read-requires c κs =
-    let o = c .before .before .before .before in
-    let a = o .args in
-    let few = o .pre .0 .counts (cellOf (a .j) (a .r)) (c .before .before .cell-at .ensures .1) in
-    let e = counted (now (a .sent)) (cellOf (a .j) (a .r)) (c .before .before .cell-at .ensures .0) (c .before .get1 .ensures) in
-    let z = o .pre .0 .size in
-    omega arith
+    let k = c .before .before .before .cell-of in
+    omega (arith, c .before .before .before .before .before .pre .0 .counts (k .result) (k .ensures .1))
 
 returns-2 : tie.Need-returns-2
 returns-2 c =
-    let o = c .before .before .before .before .before in
+    let o = c .before .before .before .before .before .before in
     let a = o .args in
-    some-acknowledgment (now (a .sent)) (a .j) (a .r) (in-table (a .j) (a .r) (o .pre .1) (o .pre .2) (o .pre .3)) (c .before .before .before .cell-at .ensures .0) (a .a) (c .before .before .get1 .ensures) (o .pre .4) (omega arith) (c .read .ensures)
+    some-acknowledgment (now (a .sent)) (a .j) (a .r) (in-table (a .j) (a .r) (o .pre .1) (o .pre .2) (o .pre .3)) (c .before .before .before .before .cell-of .ensures .0) (a .a) (c .before .before .before .get1 .ensures) (o .pre .4) (omega arith) (c .before .set-at .ensures) (c .read .ensures)
 
 pub acknowledgment-spec : {M : Type 1} → statement M
 acknowledgment-spec =
     tie.close
     (tie.spec
-    cell-at-requires
+    cell-of-requires
     get1-requires
     cast-if1
     returns
-    add-read
-    sub-read
-    mul-read
-    add-read-2
+    sub-set-at
+    set-at-requires
     read-requires
     returns-2)

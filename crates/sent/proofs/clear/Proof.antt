@@ -1,4 +1,4 @@
--- `sent::clear` meets its contract. The loop's invariant: the cells before the k-th are cleared, and nothing else is changed.
+-- `sent::clear` meets its contract. The loop's invariant: the first k bytes are 0, and nothing else is changed.
 -- Assumes nothing.
 use borrow.Author.Needs.{needs}
 use denote.Ref.{now}
@@ -6,31 +6,22 @@ use Prim.Native.Nat.{_-_, _≤_}
 use mathlib.Core.Path.{_≡_}
 use native.Mathlib.Omega.{arith}
 use lib.ListN.{length}
-use Rattle.sent.specs.Sent.{cells, sentSize, clearedTo}
+use Rattle.sent.specs.Sent.{setsOffset, sentSize, clearedTo}
 use Rattle.sent.proofs.Writes.{cleared-none, cleared-more, cleared-holds}
 use Rattle.sent.proofs.clear.Statement.{statement}
 use Rattle.sent.proofs.clear.Tie as tie
 
 abbrev Inv-loop : tie.InvT-loop
-Inv-loop sent₀ k₀ sent k = (k ≤ cells) × (length sent ≡ sentSize) × (sent ≡ clearedTo k sent₀)
+Inv-loop sent₀ k₀ sent k = (k ≤ setsOffset) × (length sent ≡ sentSize) × (sent ≡ clearedTo k sent₀)
 
 abbrev μ-loop : tie.MeasureT-loop
-μ-loop sent₀ k₀ sent k = cells - k
+μ-loop sent₀ k₀ sent k = setsOffset - k
 
 loop-holds : tie.Need-loop-holds Inv-loop μ-loop
 loop-holds c = (omega arith, search needs, cleared-none _)
 
-mul-at : tie.Need-mul-at Inv-loop μ-loop
-mul-at c = search needs
-
 put1-requires : tie.Need-put1-requires Inv-loop μ-loop
 put1-requires c κs = search needs
-
-add-put1 : tie.Need-add-put1 Inv-loop μ-loop
-add-put1 c = search needs
-
-put1-requires-2 : tie.Need-put1-requires-2 Inv-loop μ-loop
-put1-requires-2 c κs = search needs
 
 add-k : tie.Need-add-k Inv-loop μ-loop
 add-k c = search needs
@@ -40,8 +31,8 @@ loop-less c = search needs
 
 loop-again : tie.Need-loop-again Inv-loop μ-loop
 loop-again c =
-    let l = c .before .before .before .before .before .before .before .before .before .loop in
-    (omega arith, omega arith, cleared-more (now (c .before .before .before .before .before .before .before .before .before .before .before .args .sent)) (l .k) (l .inv .2) (c .before .before .before .before .before .before .put1 .ensures) (c .before .before .put12 .ensures))
+    let l = c .before .before .before .before .before .loop in
+    (omega arith, omega arith, cleared-more _ (l .k) (l .inv .2) (c .before .before .put1 .ensures))
 
 same-length : tie.Need-same-length Inv-loop μ-loop
 same-length c = search needs
@@ -58,10 +49,7 @@ clear-spec =
     Inv-loop
     μ-loop
     loop-holds
-    mul-at
     put1-requires
-    add-put1
-    put1-requires-2
     add-k
     loop-less
     loop-again

@@ -2,17 +2,16 @@
 -- Assumes nothing.
 use borrow.Author.Needs.{needs}
 use denote.Ref.{now}
-use Rattle.sent.specs.Sent.{cellOf}
 use Rattle.sent.proofs.Laws.{in-table}
 use Rattle.sent.proofs.Writes.{check-sent, checked-bytes}
 use Rattle.sent.proofs.put_check.Statement.{statement}
 use Rattle.sent.proofs.put_check.Tie as tie
 
-cell-at-requires : tie.Need-cell-at-requires
-cell-at-requires c κs = search needs
+cell-of-requires : tie.Need-cell-of-requires
+cell-of-requires c κs = search needs
 
-add-write : tie.Need-add-write
-add-write c = search needs
+set-at-requires : tie.Need-set-at-requires
+set-at-requires c κs = search needs
 
 write-requires : tie.Need-write-requires
 write-requires c κs = search needs
@@ -28,12 +27,19 @@ same-length c = search needs
 
 returns : tie.Need-returns
 returns c =
-    let o = c .before .before .before .before .before .before .before .before .before .before in
+    let o = c .before .before .before .before .before .before .before .before .before .before .before in
     let a = o .args in
     check-sent (now (a .sent)) (a .j) (a .r) (a .set) (o .pre .0) (in-table (a .j) (a .r) (o .pre .1) (o .pre .2) (o .pre .3)) (o .good .1 .1 .1 .0 .1 .1 .0 .1)
-    (checked-bytes (now (a .sent)) (cellOf (a .j) (a .r)) (a .set) (c .before .before .before .before .before .before .before .before .cell-at .ensures .0) (c .before .before .before .before .before .before .write .ensures) (c .before .before .put1 .ensures))
+    (checked-bytes (now (a .sent)) (a .set) (c .before .before .before .before .before .before .before .before .before .cell-of .ensures .0) (c .before .before .before .before .before .before .before .set-at .ensures) (c .before .before .before .before .before .before .write .ensures) (c .before .before .put1 .ensures))
 
 pub put-check-spec : {M : Type 1} → statement M
 put-check-spec =
     tie.close
-    (tie.spec cell-at-requires add-write write-requires add-put1 put1-requires same-length returns)
+    (tie.spec
+    cell-of-requires
+    set-at-requires
+    write-requires
+    add-put1
+    put1-requires
+    same-length
+    returns)

@@ -1,0 +1,47 @@
+-- What a call with a run leaves of the working memory that it is lent.
+-- Assumes nothing.
+use mathlib.Core.Path.{_≡_}
+use mathlib.Core.Bool.{Bool, true, false, _&&_}
+use mathlib.Core.List.{List}
+use Prim.Native.Nat.{ℕ, _*_}
+use lib.ListN.{length, take, drop}
+use Rattle.table.specs.declared.SiteTable.{SiteTable}
+use Rattle.register.specs.declared.Command.{Command}
+use Rattle.commands.specs.Book.{commandsOf}
+use Rattle.protocol.specs.System.{verdict}
+use Rattle.protocol.specs.World.{World, start}
+use Rattle.protocol.specs.CommonSequence.{isTaken}
+use Rattle.system.specs.Dash.{dash}
+use Rattle.steps.specs.declared.Reading.{Reading}
+use Rattle.steps.specs.Steps.{stepsOf}
+use Rattle.runs.specs.Run.{tableOf, bookOf, stepBytes, forRun, worldAfter}
+use Rattle.layout.specs.Layout.{siteSize}
+use Rattle.sent.specs.Sent.{sentSize}
+use Rattle.world.specs.World.{HoldsWorld}
+use Rattle.world.specs.Parts.{lent}
+use Rattle.run.specs.Ran.{Working, logBytes, isRoomy}
+
+module _ (t : SiteTable) (book : List Command) (steps : List Reading) where
+  -- The world after the steps of a run.
+  abbrev pub lastWorld : World (dash t book)
+  lastWorld = worldAfter t book (start (dash t book)) steps
+
+  -- Buffers of just their sizes hold that world: every site, as many log entries as it has, and what was sent.
+  abbrev pub HoldsLast : List ℕ → List ℕ → List ℕ → Type 0
+  HoldsLast sites log sent = HoldsWorld t book (lent sites log (length (lastWorld .log)) sent) lastWorld
+
+  -- The first bytes of the working memory hold it, and what is past them is as it was.
+  pub record Worked (before after : Working) : Type 0 where
+    pub world : HoldsLast (take (t .sites * siteSize) (after .sites)) (take logBytes (after .log)) (take sentSize (after .sent))
+    pub sites : drop (t .sites * siteSize) (after .sites) ≡ drop (t .sites * siteSize) (before .sites)
+    pub log : drop logBytes (after .log) ≡ drop logBytes (before .log)
+    pub sent : drop sentSize (after .sent) ≡ drop sentSize (before .sent)
+
+-- A run is played where no buffer is too short and the run is not refused.
+abbrev pub isPlayed : List ℕ → Working → List ℕ → Bool
+isPlayed run w out = isRoomy w out && isTaken (verdict (forRun run))
+
+-- The working memory after a call: as it was, or with the world that the run has led to.
+pub record Left (run : List ℕ) (before : Working) (out : List ℕ) (after : Working) : Type 0 where
+  pub kept : isPlayed run before out ≡ false → after ≡ before
+  pub worked : isPlayed run before out ≡ true → Worked (tableOf run) (commandsOf (bookOf run)) (stepsOf (stepBytes run)) before after
