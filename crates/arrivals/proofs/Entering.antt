@@ -3,10 +3,9 @@
 use mathlib.Core.Path.{_≡_, refl, sym, ap, subst, _∙_}
 use mathlib.Core.Bool.{Bool, true, false, not}
 use mathlib.Core.List.{List}
-use Prim.Native.Nat.{ℕ, _+_, _*_, _≤_, _<_}
+use Prim.Native.Nat.{ℕ, _+_, _*_, _≤_}
 use lib.Dec.{ltb}
 use lib.ListN.{length}
-use borrow.Author.Tests.{lt-ltb, le-ltb}
 use Rattle.refusals.specs.declared.Refusal.{Refusal}
 use Rattle.refusals.specs.declared.Verdict.{Verdict}
 use Rattle.refusals.specs.declared.Verdict.the-variants.{Taken, Refused}
@@ -29,6 +28,10 @@ use Rattle.world.specs.Parts.{lent, Entered}
 use Rattle.world.proofs.Hold.{kept, refused, taken}
 use Rattle.world.proofs.Growing.{entry-holds, entry-back}
 use Rattle.arrivals.proofs.Judging.{entry-judged}
+
+not-not : (x : Bool) → not (not x) ≡ x
+not-not true = refl
+not-not false = refl
 
 -- The verdict on an entry, by whether it is in range, whether its site is faulty, and how many that site has in its round.
 abbrev entryVerdict : Bool → Bool → ℕ → Verdict
@@ -63,21 +66,24 @@ module _ (t : SiteTable) (commands : ℕ) (log : List ℕ) (entries j r : ℕ) (
       entry-correct h =
           entry-refused Role (λ i. entryVerdict ((sym ex ∙ not-false x hx) i) ((sym ef ∙ not-true f h) i) (recovery.entries j r (logTo log entries)))
 
-      module _ (hf : not f ≡ false) {n : ℕ} (en : n ≡ recovery.entries j r (logTo log entries)) where
+      module _ (hf : not f ≡ false) {third : Bool} (et : third ≡ not (ltb (recovery.entries j r (logTo log entries)) 2)) where
+        few : not third ≡ ltb (recovery.entries j r (logTo log entries)) 2
+        few = ap not et ∙ not-not (ltb (recovery.entries j r (logTo log entries)) 2)
+
         by-number : entryVerdict (inRangeOf (t .sites) commands this) (faultyOf t j) (recovery.entries j r (logTo log entries))
-            ≡ pick (ltb n 2) Taken (Refused ThirdEntry)
-        by-number = λ i. entryVerdict ((sym ex ∙ not-false x hx) i) ((sym ef ∙ not-false f hf) i) (sym en i)
+            ≡ pick (not third) Taken (Refused ThirdEntry)
+        by-number = λ i. pick ((sym ex ∙ not-false x hx) i) (pick ((sym ef ∙ not-false f hf) i) (pick (sym few i) Taken (Refused ThirdEntry)) (Refused Role)) (Refused Range)
 
-        pub entry-third : 2 ≤ n → answered (Refused ThirdEntry) entries log
-        entry-third h = entry-refused ThirdEntry (by-number ∙ ap (λ (b : Bool). pick b Taken (Refused ThirdEntry)) (le-ltb n 2 h))
+        pub entry-third : third ≡ true → answered (Refused ThirdEntry) entries log
+        entry-third h = entry-refused ThirdEntry (by-number ∙ ap (λ (b : Bool). pick (not b) Taken (Refused ThirdEntry)) h)
 
-        pub entered : n < 2 → Fits this → (entries + 1) * entrySize ≤ length log → {after : List ℕ} → after ≡ writeEntry log entries this
+        pub entered : third ≡ false → Fits this → (entries + 1) * entrySize ≤ length log → {after : List ℕ} → after ≡ writeEntry log entries this
             → answered Taken (entries + 1) after
         entered h fits room {after} ea =
             λ book sites sent q g small.
             let b = lent sites log entries sent in
             taken t book b g (falseEntry j r (inSet nc) (inSet c))
-            (told book sites sent q ∙ by-number ∙ ap (λ (y : Bool). pick y Taken (Refused ThirdEntry)) (lt-ltb n 2 h))
+            (told book sites sent q ∙ by-number ∙ ap (λ (y : Bool). pick (not y) Taken (Refused ThirdEntry)) h)
             (subst (λ (l : List ℕ). HoldsWorld t book (lent sites l (entries + 1) sent) (append (dash t book) (viewEntry this) (worldOf t book b))) (sym ea)
             (entry-holds t book b (kept t book b g small) this fits (ap (λ (m : ℕ). inRangeOf (t .sites) m this) (sym q) ∙ sym ex ∙ not-false x hx) room))
             (ea ∙ ap (writeEntry log entries) (sym (entry-back this (fits .nc) (fits .c)))) refl

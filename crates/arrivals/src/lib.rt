@@ -10,6 +10,7 @@ ghost use Rattle.protocol.specs.World as protocol;
 ghost use Rattle.layout.specs.Layout.{siteSize, siteRounds};
 ghost use Rattle.site.specs.Steps.{Received, Heard};
 ghost use Rattle.entries.specs.Entries.{entrySize};
+ghost use Rattle.rounds.specs.Rounds.{Kept};
 ghost use Rattle.sent.specs.Sent.{GoodSent};
 ghost use Rattle.world.specs.Parts.{AtSite, Arrived, Entered};
 ghost use Rattle.arrivals.specs.Messages.{messageVerdict};
@@ -202,6 +203,7 @@ pub fn false_check(
 pub fn false_entry(
     log: &mut [u8],
     entries: usize,
+    kept: &[u64],
     table: SiteTable,
     commands: usize,
     from: u8,
@@ -209,7 +211,7 @@ pub fn false_entry(
     nc: Set,
     c: Set,
 ) -> Stepped
-    requires { ⌜ (entries + 1) * entrySize ≤ length (now log) ⌝ }
+    requires { ⌜ ((entries + 1) * entrySize ≤ length (now log)) × (isGood table ≡ true) × ((rows : List ℕ) × Kept table rows (now log) entries (now kept)) ⌝ }
     ensures { λ s. ⌜ Entered table commands (protocol.falseEntry from round (inSet nc) (inSet c)) (now (log .entry)) entries s (now (log .exit)) ⌝ }
 {
     let j = from as usize;
@@ -232,7 +234,7 @@ pub fn false_entry(
             entries: entries,
         };
     }
-    if entries::entries_of(&log[..], entries, j, r) > 1 {
+    if rounds::third(kept, j, r) {
         return Stepped {
             verdict: Verdict::Refused(Refusal::ThirdEntry),
             entries: entries,

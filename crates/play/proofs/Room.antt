@@ -21,7 +21,7 @@ use Rattle.agreement.specs.Invariant.{good-play}
 use Rattle.agreement.specs.Capacity.{capacity-play, acks-bound, log-bound}
 use Rattle.system.specs.Dash.{dash}
 use Rattle.layout.specs.Layout.{view}
-use Rattle.entries.specs.Entries.{viewEntry, entryOf, logTo}
+use Rattle.entries.proofs.Logs.{log-length}
 use Rattle.sent.specs.Sent.{maxAcknowledgments}
 use Rattle.world.specs.World.{Buffers, siteAt, worldOf, HoldsWorld}
 use Rattle.play.specs.Played.{logRoom}
@@ -29,18 +29,13 @@ use Rattle.play.specs.Played.{logRoom}
 sizes : (t : SiteTable) (book : List Command) → isGood t ≡ true → Sizes (dash t book) (t .faults)
 sizes t book good = record { few = good-few t good; quorums = good-quorums t good }
 
-length-log : (b : List ℕ) (k : ℕ) → length (logTo b k) ≡ k
-unfolding logTo
-length-log b zero = omega arith
-length-log b (suc k) = length-append (logTo b k) (viewEntry (entryOf b k) ∷ []) ∙ omega (arith, length-log b k)
-
 module _ (t : SiteTable) (s : List ℕ) (good : isGood t ≡ true) (past : List Step) {b : Buffers}
     (h : HoldsWorld t (commandsOf s) b (play (dash t (commandsOf s)) (start (dash t (commandsOf s))) past)) where
   -- Two entries a site and round.
   pub entries-few : b .entries < logRoom
   entries-few =
       let e = ap (λ (w : World (dash t (commandsOf s))). length (w .log)) (h .says) in
-      omega (arith, length-log (b .log) (b .entries), log-bound (dash t (commandsOf s)) (t .faults) (sizes t (commandsOf s) good) past, good-limits t good .sites)
+      omega (arith, log-length (b .log) (b .entries), log-bound (dash t (commandsOf s)) (t .faults) (sizes t (commandsOf s) good) past, good-limits t good .sites)
 
   -- So the log says.
   pub entries-twice : (j r : ℕ) → entries j r (logTo (b .log) (b .entries)) ≤ 2

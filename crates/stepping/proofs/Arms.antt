@@ -3,9 +3,9 @@
 use mathlib.Core.Path.{_≡_, refl, sym, ap, subst, _∙_}
 use mathlib.Core.Bool.{true, false}
 use mathlib.Core.List.{List, [], _∷_}
-use Prim.Native.Nat.{ℕ, _≤_}
+use Prim.Native.Nat.{ℕ, _≤_, _<_}
 use native.Mathlib.Omega.{arith}
-use lib.ListN.{length}
+use lib.ListN.{length, getD}
 use denote.Enum.Declared as Declared
 use types.Run.{OneOf, miss}
 use Rattle.refusals.specs.declared.Verdict.{Verdict}
@@ -15,6 +15,8 @@ use Rattle.table.specs.declared.SiteTable.{SiteTable}
 use Rattle.register.specs.declared.Command.{Command}
 use Rattle.commands.specs.Book.{commandsOf}
 use Rattle.commands.proofs.Walk.{few-commands}
+use Rattle.conflicts.specs.Conflicts.{conflictRows}
+use Rattle.rounds.specs.Rounds.{Kept}
 use Rattle.steps.specs.declared.Step.{Step}
 use Rattle.steps.specs.declared.Step.the-variants as kinds
 use Rattle.steps.specs.Meaning.{meaning}
@@ -23,7 +25,7 @@ use Rattle.world.specs.declared.Stepped.{Stepped}
 use Rattle.world.specs.World.{Buffers, GoodWorld, Outcome}
 use Rattle.world.specs.Parts.{lent, Arrived}
 use Rattle.moves.specs.Moves.{Ready}
-use Rattle.closings.specs.Closings.{GoodSites, GoodLog}
+use Rattle.closings.specs.Closings.{GoodSites, KeptLog}
 use Rattle.stepping.specs.Kinds.{arrives}
 
 -- ---- the kinds, by their places in the declaration
@@ -71,8 +73,14 @@ module _ (t : SiteTable) (book : List ℕ) (commands : ℕ) (b : Buffers) (e : l
   pub good-sites : GoodSites t commands (b .sites)
   good-sites = subst (λ (n : ℕ). GoodSites t n (b .sites)) e (record { size = g .size; site = g .site })
 
-  pub good-log : GoodLog t commands (b .sites) (b .log) (b .entries)
-  good-log = subst (λ (n : ℕ). GoodLog t n (b .sites) (b .log) (b .entries)) e (record { room = g .room; logged = g .logged; position = g .position })
+  pub kept-log : {rows kept : List ℕ} → rows ≡ conflictRows book → ((k : ℕ) → getD (b .log) k 0 < 256) → Kept t rows (b .log) (b .entries) kept
+      → KeptLog t book (b .sites) (b .log) (b .entries) kept
+  kept-log {kept = kept} er small k =
+      record {
+        good = record { room = g .room; logged = g .logged; position = g .position };
+        bytes = small;
+        words = subst (λ (x : List ℕ). Kept t x (b .log) (b .entries) kept) er k;
+      }
 
   pub few : commands ≤ capacity
   few = let l = few-commands book in omega arith

@@ -1,7 +1,7 @@
 // One step of a run on lent buffers: each kind is carried out by its function.
 ghost use mathlib.Core.Path.{_≡_};
 ghost use mathlib.Core.Bool.{true};
-ghost use Prim.Native.Nat.{_*_, _≤_};
+ghost use Prim.Native.Nat.{_+_, _*_, _≤_, _<_};
 ghost use lib.ListN.{length};
 ghost use Rattle.sets.specs.Sets.{capacity};
 ghost use Rattle.table.specs.Table.{isGood};
@@ -9,6 +9,8 @@ ghost use Rattle.commands.specs.Book.{commandsOf};
 ghost use Rattle.steps.specs.Meaning.{meaning};
 ghost use Rattle.layout.specs.Layout.{siteSize};
 ghost use Rattle.deliver.specs.Delivering.{Noted};
+ghost use Rattle.entries.specs.Entries.{entrySize, entryOf};
+ghost use Rattle.rounds.specs.Rounds.{keptRounds, Kept};
 ghost use Rattle.sent.specs.Sent.{GoodSent};
 ghost use Rattle.world.specs.World.{Outcome};
 ghost use Rattle.world.specs.Parts.{lent, Arrived};
@@ -50,12 +52,13 @@ fn arrive(sites: &mut [u8], sent: &[u8], table: SiteTable, commands: usize, step
     }
 }
 
-// A step is judged, and carried out where it is taken.
-pub fn step(
+// A step is judged, and carried out where it is taken, by what is kept of the log.
+fn act(
     sites: &mut [u8],
     log: &mut [u8],
     sent: &mut [u8],
     entries: usize,
+    kept: &[u64],
     table: SiteTable,
     book: &[u8],
     places: &[u16],
@@ -64,7 +67,7 @@ pub fn step(
     step: Step,
 ) -> Stepped
     requires { ⌜ Ready table (now book) (now rows) (lent (now sites) (now log) entries (now sent)) (meaning step) × Noted (now book) (now places)
-        × (length (commandsOf (now book)) ≡ commands) ⌝ }
+        × (length (commandsOf (now book)) ≡ commands) × Kept table (now rows) (now log) entries (now kept) ⌝ }
     ensures { λ r. ⌜ Outcome table (commandsOf (now (book .entry))) (meaning step) (lent (now (sites .entry)) (now (log .entry)) entries (now (sent .entry)))
         (r .verdict) (lent (now (sites .exit)) (now (log .exit)) (r .entries) (now (sent .exit))) ⌝ }
 {
@@ -72,6 +75,7 @@ pub fn step(
         Step::FalseEntry { from, round, nc, c } => arrivals::false_entry(
             log,
             entries,
+            kept,
             table,
             commands,
             from,
@@ -79,7 +83,16 @@ pub fn step(
             nc,
             c,
         ),
-        Step::Turn { site } => moves::turn(sites, log, sent, entries, table, rows, site as usize),
+        Step::Turn { site } => moves::turn(
+            sites,
+            log,
+            sent,
+            entries,
+            kept,
+            table,
+            rows,
+            site as usize,
+        ),
         Step::FastDelivery { site, command } => {
             let i = site as usize;
             let m = command as usize;
@@ -87,23 +100,12 @@ pub fn step(
             Stepped { verdict, entries }
         }
         Step::LogRead { site } => {
-            let i = site as usize;
-            let verdict = moves::log_read(sites, entries, table, i);
+            let verdict = moves::log_read(sites, entries, table, site as usize);
             Stepped { verdict, entries }
         }
         Step::RoundEnd { site } => {
             let i = site as usize;
-            let verdict = closings::round_end(
-                sites,
-                &log[..],
-                entries,
-                table,
-                book,
-                places,
-                rows,
-                commands,
-                i,
-            );
+            let verdict = closings::round_end(sites, kept, table, book, places, commands, i);
             Stepped { verdict, entries }
         }
         _ => {
@@ -111,4 +113,54 @@ pub fn step(
             Stepped { verdict, entries }
         }
     }
+}
+
+// What is kept of the log takes in the entry that a step has appended, where it has.
+fn follow(kept: &mut [u64], log: &[u8], before: usize, after: usize, table: SiteTable, rows: &[u64])
+    requires { ⌜ (isGood table ≡ true) × Kept table (now rows) (now log) before (now kept) × (length (now rows) ≡ capacity)
+        × ((after ≡ before → ⊥) → after ≡ before + 1)
+        × (after ≡ before + 1 → (before * entrySize + entrySize ≤ length (now log)) × (entryOf (now log) before .site < table .sites) × (entryOf (now log) before .round < keptRounds)) ⌝ }
+    ensures { λ _. ⌜ Kept table (now (rows .entry)) (now (log .entry)) after (now (kept .exit)) ⌝ }
+{
+    if after != before {
+        rounds::append(kept, log, before, table, rows);
+    }
+}
+
+// A step is judged, and carried out where it is taken; what is kept of the log follows.
+pub fn step(
+    sites: &mut [u8],
+    log: &mut [u8],
+    sent: &mut [u8],
+    entries: usize,
+    kept: &mut [u64],
+    table: SiteTable,
+    book: &[u8],
+    places: &[u16],
+    rows: &[u64],
+    commands: usize,
+    step: Step,
+) -> Stepped
+    requires { ⌜ Ready table (now book) (now rows) (lent (now sites) (now log) entries (now sent)) (meaning step) × Noted (now book) (now places)
+        × (length (commandsOf (now book)) ≡ commands) × Kept table (now rows) (now log) entries (now kept) ⌝ }
+    ensures { λ r. ⌜ Outcome table (commandsOf (now (book .entry))) (meaning step) (lent (now (sites .entry)) (now (log .entry)) entries (now (sent .entry)))
+        (r .verdict) (lent (now (sites .exit)) (now (log .exit)) (r .entries) (now (sent .exit)))
+        × Kept table (now (rows .entry)) (now (log .exit)) (r .entries) (now (kept .exit)) ⌝ }
+{
+    let stepped = act(
+        sites,
+        log,
+        sent,
+        entries,
+        &kept[..],
+        table,
+        book,
+        places,
+        rows,
+        commands,
+        step,
+    );
+    let after = stepped.entries;
+    follow(kept, &log[..], entries, after, table, rows);
+    stepped
 }

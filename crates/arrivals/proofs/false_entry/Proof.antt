@@ -5,6 +5,7 @@ use denote.Ref.{now}
 use native.Mathlib.Omega.{arith}
 use mathlib.Core.Path.{sym, _∙_}
 use Rattle.theory.specs.Counting.{not-false}
+use Rattle.table.proofs.Laws.{good-limits}
 use Rattle.entries.proofs.Judging.{in-range-told}
 use Rattle.arrivals.proofs.Entering.{entry-out, entry-correct, entry-third, entered}
 use Rattle.arrivals.proofs.false_entry.Statement.{statement}
@@ -15,7 +16,7 @@ in-range-requires c κs = search needs
 
 returns : tie.Need-returns
 returns c =
-    let o = c .before .before .before in
+    let o = c .before .before .before .before in
     entry-out (o .args .table) (o .args .commands) (now (o .args .log)) (o .args .entries) (o .args .from) (o .args .round) (o .args .nc) (o .args .c) (c .before .in-range .ensures) (c .if1 .taken)
 
 is-faulty-requires : tie.Need-is-faulty-requires
@@ -23,36 +24,39 @@ is-faulty-requires c κs = search needs
 
 returns-2 : tie.Need-returns-2
 returns-2 c =
-    let o = c .before .before .before .before .before in
+    let o = c .before .before .before .before .before .before in
     entry-correct (o .args .table) (o .args .commands) (now (o .args .log)) (o .args .entries) (o .args .from) (o .args .round) (o .args .nc) (o .args .c) (c .before .before .before .in-range .ensures) (c .before .before .if1 .left) (c .before .is-faulty .ensures) (c .if2 .taken)
 
-entries-of-requires : tie.Need-entries-of-requires
-entries-of-requires c κs = search needs
-
-same-length : tie.Need-same-length
-same-length c = search needs
+third-requires : tie.Need-third-requires
+third-requires c κs =
+    let o = c .before .before .before .before .before .before in
+    let p = in-range-told (o .args .table .sites) (o .args .commands) (record { site = o .args .from; round = o .args .round; nc = o .args .nc; c = o .args .c }) (sym (c .before .before .before .in-range .ensures) ∙ not-false _ (c .before .before .if1 .left)) in
+    let l = p .site in
+    let m = p .round in
+    let n = good-limits (o .args .table) (o .pre .1) .sites in
+    (o .pre .2 .1 .size, omega arith, omega arith)
 
 returns-3 : tie.Need-returns-3
 returns-3 c =
     let o = c .before .before .before .before .before .before .before .before in
-    entry-third (o .args .table) (o .args .commands) (now (o .args .log)) (o .args .entries) (o .args .from) (o .args .round) (o .args .nc) (o .args .c) (c .before .before .before .before .before .before .in-range .ensures) (c .before .before .before .before .before .if1 .left) (c .before .before .before .before .is-faulty .ensures) (c .before .before .before .if2 .left) (c .before .entries-of .ensures) (omega arith)
+    entry-third (o .args .table) (o .args .commands) (now (o .args .log)) (o .args .entries) (o .args .from) (o .args .round) (o .args .nc) (o .args .c) (c .before .before .before .before .before .in-range .ensures) (c .before .before .before .before .if1 .left) (c .before .before .before .is-faulty .ensures) (c .before .before .if2 .left) (c .before .third .ensures (o .args .table) (o .pre .2 .0) (now (o .args .log)) (o .args .entries) (o .pre .2 .1)) (c .if3 .taken)
 
 write-entry-requires : tie.Need-write-entry-requires
 write-entry-requires c κs = search needs
 
-add-t18 : tie.Need-add-t18
-add-t18 c = search needs
+add-t26 : tie.Need-add-t26
+add-t26 c = search needs
 
-same-length-2 : tie.Need-same-length-2
-same-length-2 c = search needs
+same-length : tie.Need-same-length
+same-length c = search needs
 
 returns-4 : tie.Need-returns-4
 returns-4 c =
     let o = c .before .before .before .before .before .before .before .before .before .before .before .before in
-    let p = in-range-told (o .args .table .sites) (o .args .commands) (record { site = o .args .from; round = o .args .round; nc = o .args .nc; c = o .args .c }) (sym (c .before .before .before .before .before .before .before .before .before .before .in-range .ensures) ∙ not-false _ (c .before .before .before .before .before .before .before .before .before .if1 .left)) in
+    let p = in-range-told (o .args .table .sites) (o .args .commands) (record { site = o .args .from; round = o .args .round; nc = o .args .nc; c = o .args .c }) (sym (c .before .before .before .before .before .before .before .before .before .in-range .ensures) ∙ not-false _ (c .before .before .before .before .before .before .before .before .if1 .left)) in
     let l = p .round in
-    entered (o .args .table) (o .args .commands) (now (o .args .log)) (o .args .entries) (o .args .from) (o .args .round) (o .args .nc) (o .args .c) (c .before .before .before .before .before .before .before .before .before .before .in-range .ensures) (c .before .before .before .before .before .before .before .before .before .if1 .left) (c .before .before .before .before .before .before .before .before .is-faulty .ensures) (c .before .before .before .before .before .before .before .if2 .left) (c .before .before .before .before .before .entries-of .ensures) (omega arith)
-    (record { site = omega arith; round = omega arith; nc = o .good .1 .1 .1 .1 .1 .1 .0 .1 .1 .0 .1; c = o .good .1 .1 .1 .1 .1 .1 .1 .0 .1 .1 .0 .1 }) (o .pre) (c .before .before .write-entry .ensures)
+    entered (o .args .table) (o .args .commands) (now (o .args .log)) (o .args .entries) (o .args .from) (o .args .round) (o .args .nc) (o .args .c) (c .before .before .before .before .before .before .before .before .before .in-range .ensures) (c .before .before .before .before .before .before .before .before .if1 .left) (c .before .before .before .before .before .before .before .is-faulty .ensures) (c .before .before .before .before .before .before .if2 .left) (c .before .before .before .before .before .third .ensures (o .args .table) (o .pre .2 .0) (now (o .args .log)) (o .args .entries) (o .pre .2 .1)) (c .before .before .before .before .if3 .left)
+    (record { site = omega arith; round = omega arith; nc = o .good .1 .1 .1 .1 .1 .1 .1 .0 .1 .1 .0 .1; c = o .good .1 .1 .1 .1 .1 .1 .1 .1 .0 .1 .1 .0 .1 }) (o .pre .0) (c .before .before .write-entry .ensures)
 
 pub false-entry-spec : {M : Type 1} → statement M
 false-entry-spec =
@@ -62,10 +66,9 @@ false-entry-spec =
     returns
     is-faulty-requires
     returns-2
-    entries-of-requires
-    same-length
+    third-requires
     returns-3
     write-entry-requires
-    add-t18
-    same-length-2
+    add-t26
+    same-length
     returns-4)
