@@ -21,6 +21,7 @@ use Rattle.agreement.specs.Invariant.{good-play}
 use Rattle.agreement.specs.Capacity.{capacity-play, acks-bound, log-bound}
 use Rattle.system.specs.Dash.{dash}
 use Rattle.layout.specs.Layout.{view}
+use Rattle.entries.specs.Entries.{logTo}
 use Rattle.entries.proofs.Logs.{log-length}
 use Rattle.sent.specs.Sent.{maxAcknowledgments}
 use Rattle.world.specs.World.{Buffers, siteAt, worldOf, HoldsWorld}

@@ -9,6 +9,7 @@ ghost use Rattle.world.specs.Parts.{lent};
 ghost use Rattle.protocol.specs.World as protocol;
 ghost use Rattle.deliver.specs.Delivering.{Noted};
 ghost use Rattle.moves.specs.Moves.{Ready};
+ghost use Rattle.rounds.specs.Rounds.{Kept};
 ghost use Rattle.play.specs.Played.{lineRoom, extentOf, CarriedOut, Playable, PlayedAll};
 use refusals::Refusal;
 use refusals::Verdict;
@@ -50,6 +51,7 @@ fn carry_out(
     log: &mut [u8],
     sent: &mut [u8],
     entries: usize,
+    kept: &mut [u64],
     table: SiteTable,
     book: &[u8],
     places: &[u16],
@@ -58,9 +60,10 @@ fn carry_out(
     reading: Reading,
 ) -> Stepped
     requires { ⌜ ((u : protocol.Step) → Ready table (now book) (now rows) (lent (now sites) (now log) entries (now sent)) u) × Noted (now book) (now places)
-        × (length (commandsOf (now book)) ≡ commands) ⌝ }
+        × (length (commandsOf (now book)) ≡ commands) × Kept table (now rows) (now log) entries (now kept) ⌝ }
     ensures { λ r. ⌜ CarriedOut table (commandsOf (now (book .entry))) reading (lent (now (sites .entry)) (now (log .entry)) entries (now (sent .entry)))
-        (r .verdict) (lent (now (sites .exit)) (now (log .exit)) (r .entries) (now (sent .exit))) ⌝ }
+        (r .verdict) (lent (now (sites .exit)) (now (log .exit)) (r .entries) (now (sent .exit)))
+        × Kept table (now (rows .entry)) (now (log .exit)) (r .entries) (now (kept .exit)) ⌝ }
 {
     let Reading::Whole(step) = reading else {
         return Stepped {
@@ -73,6 +76,7 @@ fn carry_out(
         log,
         sent,
         entries,
+        kept,
         table,
         book,
         places,
@@ -82,11 +86,12 @@ fn carry_out(
     )
 }
 
-// The steps are played from the start of a run. Nothing is read after a step that cannot be read.
-pub fn play_steps(
+// The steps are played from the start of a run, with words to keep what the log says. Nothing is read after a step that cannot be read.
+fn play_on(
     sites: &mut [u8],
     log: &mut [u8],
     sent: &mut [u8],
+    kept: &mut [u64],
     table: SiteTable,
     book: &[u8],
     places: &[u16],
@@ -96,7 +101,8 @@ pub fn play_steps(
     out: &mut [u8],
     from: usize,
 ) -> Played
-    requires { ⌜ Playable table (now book) (now places) (now rows) commands (now steps) (now out) from (lent (now sites) (now log) 0 (now sent)) ⌝ }
+    requires { ⌜ Playable table (now book) (now places) (now rows) commands (now steps) (now out) from (lent (now sites) (now log) 0 (now sent))
+        × Kept table (now rows) (now log) 0 (now kept) ⌝ }
     ensures { λ r. ⌜ PlayedAll table (commandsOf (now (book .entry))) (now (steps .entry)) (now (out .entry)) (now (out .exit)) from (r .end)
         (lent (now (sites .exit)) (now (log .exit)) (r .entries) (now (sent .exit))) ⌝ }
 {
@@ -113,6 +119,7 @@ pub fn play_steps(
             log,
             sent,
             entries,
+            kept,
             table,
             book,
             places,
@@ -130,4 +137,39 @@ pub fn play_steps(
         end: end,
         entries: entries,
     }
+}
+
+// The steps are played from the start of a run.
+pub fn play_steps(
+    sites: &mut [u8],
+    log: &mut [u8],
+    sent: &mut [u8],
+    table: SiteTable,
+    book: &[u8],
+    places: &[u16],
+    rows: &[u64],
+    commands: usize,
+    steps: &[u8],
+    out: &mut [u8],
+    from: usize,
+) -> Played
+    requires { ⌜ Playable table (now book) (now places) (now rows) commands (now steps) (now out) from (lent (now sites) (now log) 0 (now sent)) ⌝ }
+    ensures { λ r. ⌜ PlayedAll table (commandsOf (now (book .entry))) (now (steps .entry)) (now (out .entry)) (now (out .exit)) from (r .end)
+        (lent (now (sites .exit)) (now (log .exit)) (r .entries) (now (sent .exit))) ⌝ }
+{
+    let mut kept = [0u64; rounds::WORDS];
+    play_on(
+        sites,
+        log,
+        sent,
+        &mut kept,
+        table,
+        book,
+        places,
+        rows,
+        commands,
+        steps,
+        out,
+        from,
+    )
 }

@@ -13,10 +13,10 @@ enum-told : tie.Need-enum-told
 enum-told c = search needs
 
 returns : tie.Need-returns
-returns c = let a = c .before .before .before .before .before .before .before .before .args in carried-none (a .table) (commandsOf (now (a .book))) _ (c .enum-told .given .1)
+returns c = let a = c .before .before .before .before .before .before .before .before .before .args in (carried-none (a .table) (commandsOf (now (a .book))) _ (c .enum-told .given .1), c .before .before .before .before .before .before .before .before .before .pre .3)
 
 step-requires : tie.Need-step-requires
-step-requires c κs = let a = c .before .before .before .before .before .before .before .before .before .before .before .before in (a .pre .0 (meaning (c .before .before .before .before .reading .given .0 .0)), a .pre .1, a .pre .2)
+step-requires c κs = let a = c .before .before .before .before .before .before .before .before .before .before .before .before .before .before in (a .pre .0 (meaning (c .before .before .before .before .before .reading .given .0 .0)), a .pre .1, a .pre .2, a .pre .3)
 
 same-length : tie.Need-same-length
 same-length c = search needs
@@ -27,8 +27,11 @@ same-length-2 c = search needs
 same-length-3 : tie.Need-same-length-3
 same-length-3 c = search needs
 
+same-length-4 : tie.Need-same-length-4
+same-length-4 c = search needs
+
 returns-2 : tie.Need-returns-2
-returns-2 c = let a = c .before .before .before .before .before .before .before .before .before .before .before .before .before .before .before .before .before .before .before .args in carried-step (a .table) (commandsOf (now (a .book))) (c .before .before .before .before .before .before .before .before .before .before .before .reading .given .1) (c .before .before .before .before .before .before .step .ensures)
+returns-2 c = let a = c .before .before .before .before .before .before .before .before .before .before .before .before .before .before .before .before .before .before .before .before .before .before .before .args in (carried-step (a .table) (commandsOf (now (a .book))) (c .before .before .before .before .before .before .before .before .before .before .before .before .before .before .reading .given .1) (c .before .before .before .before .before .before .before .before .step .ensures .0), c .before .before .before .before .before .before .before .before .step .ensures .1)
 
 pub carry-out-spec : {M : Type 1} → statement M
 carry-out-spec =
@@ -41,4 +44,5 @@ carry-out-spec =
     same-length
     same-length-2
     same-length-3
+    same-length-4
     returns-2)
