@@ -4,25 +4,10 @@ ghost use Prim.Native.Nat.{_+_, _≤_};
 ghost use lib.ListN.{length};
 ghost use Rattle.print.specs.Print.{digits, width, decimal, signedDecimal, Wrote};
 
-// How many digits a number has. Up to five are told by comparing, without a division.
+// How many digits a number has.
 fn digit_count(x: usize) -> usize
     ensures { λ r. ⌜ r ≡ width x ⌝ }
 {
-    if x < 10 {
-        return 1;
-    }
-    if x < 100 {
-        return 2;
-    }
-    if x < 1000 {
-        return 3;
-    }
-    if x < 10000 {
-        return 4;
-    }
-    if x < 100000 {
-        return 5;
-    }
     let mut left = x;
     let mut n: usize = 1;
     while left > 9 {
@@ -47,11 +32,26 @@ pub fn put_digits(out: &mut [u8], at: usize, n: usize, x: usize) -> usize
     at + n
 }
 
-// A number is written without leading zeros.
+// A number is written without leading zeros. A number of up to five digits is written by a count that the compiler knows.
 pub fn put_decimal(out: &mut [u8], at: usize, x: usize) -> usize
     requires { ⌜ at + length (decimal x) ≤ length (now out) ⌝ }
     ensures { λ r. ⌜ Wrote (now (out .exit)) r (now (out .entry)) at (decimal x) ⌝ }
 {
+    if x < 10 {
+        return put_digits(out, at, 1, x);
+    }
+    if x < 100 {
+        return put_digits(out, at, 2, x);
+    }
+    if x < 1000 {
+        return put_digits(out, at, 3, x);
+    }
+    if x < 10000 {
+        return put_digits(out, at, 4, x);
+    }
+    if x < 100000 {
+        return put_digits(out, at, 5, x);
+    }
     let n = digit_count(x);
     put_digits(out, at, n, x)
 }

@@ -1,10 +1,10 @@
--- `print::digit_count`: a number below 100,000 is told by its bounds; else each turn leaves one digit less to count, until one is left.
+-- `print::digit_count`: each turn leaves one digit less to count, until one is left.
 -- Assumes nothing.
 use Prim.Native.Nat.{_+_, _≤_}
 use native.Mathlib.Omega.{arith}
-use mathlib.Core.Path.{_≡_, sym}
+use mathlib.Core.Path.{_≡_}
 use Rattle.print.specs.Print.{width}
-use Rattle.print.proofs.Laws.{width-one, width-between, width-more, width-short}
+use Rattle.print.proofs.Laws.{width-one, width-more, width-short}
 use Rattle.print.proofs.digit_count.Statement.{statement}
 use Rattle.print.proofs.digit_count.Tie as tie
 
@@ -14,26 +14,11 @@ Inv-loop x left₀ n₀ left n = (1 ≤ n) × (n + width left ≡ 1 + width x)
 abbrev μ-loop : tie.MeasureT-loop
 μ-loop x left₀ n₀ left n = left
 
-returns : tie.Need-returns Inv-loop μ-loop
-returns c = sym (width-one (c .before .args .x) (omega arith))
-
-returns-2 : tie.Need-returns-2 Inv-loop μ-loop
-returns-2 c = sym (width-between 1 (c .before .before .args .x) (omega arith) (omega arith))
-
-returns-3 : tie.Need-returns-3 Inv-loop μ-loop
-returns-3 c = sym (width-between 2 (c .before .before .before .args .x) (omega arith) (omega arith))
-
-returns-4 : tie.Need-returns-4 Inv-loop μ-loop
-returns-4 c = sym (width-between 3 (c .before .before .before .before .args .x) (omega arith) (omega arith))
-
-returns-5 : tie.Need-returns-5 Inv-loop μ-loop
-returns-5 c = sym (width-between 4 (c .before .before .before .before .before .args .x) (omega arith) (omega arith))
-
 loop-holds : tie.Need-loop-holds Inv-loop μ-loop
 loop-holds c = (omega arith, omega arith)
 
 add-n : tie.Need-add-n Inv-loop μ-loop
-add-n c = omega (arith, width-more (c .before .loop .left) (omega arith), width-short 19 (c .before .before .before .before .before .before .before .args .x) (omega arith))
+add-n c = omega (arith, width-more (c .before .loop .left) (omega arith), width-short 19 (c .before .before .args .x) (omega arith))
 
 loop-less : tie.Need-loop-less Inv-loop μ-loop
 loop-less c = omega arith
@@ -41,9 +26,9 @@ loop-less c = omega arith
 loop-again : tie.Need-loop-again Inv-loop μ-loop
 loop-again c = (omega arith, omega (arith, width-more (c .before .loop .left) (omega arith)))
 
-returns-6 : tie.Need-returns-6 Inv-loop μ-loop
-returns-6 c = omega (arith, width-one (c .before .loop .left) (omega arith))
+returns : tie.Need-returns Inv-loop μ-loop
+returns c = omega (arith, width-one (c .before .loop .left) (omega arith))
 
 pub digit-count-spec : {M : Type 1} → statement M
 digit-count-spec =
-    tie.close (tie.spec Inv-loop μ-loop returns returns-2 returns-3 returns-4 returns-5 loop-holds add-n loop-less loop-again returns-6)
+    tie.close (tie.spec Inv-loop μ-loop loop-holds add-n loop-less loop-again returns)
