@@ -136,12 +136,11 @@ fn wide(x: u16) -> usize
     x as usize
 }
 
-// The place of each command is noted.
-pub fn index(book: &[u8], places: &mut [u16])
-    requires { ⌜ length (commandsOf (now book)) ≤ length (now places) ⌝ }
+// The place of each of the n commands is noted.
+pub fn index(book: &[u8], n: usize, places: &mut [u16])
+    requires { ⌜ (n ≡ length (commandsOf (now book))) × (length (commandsOf (now book)) ≤ length (now places)) ⌝ }
     ensures { λ _. ⌜ now (places .exit) ≡ sets (now (places .entry)) 0 (placesOf (now (book .entry))) ⌝ }
 {
-    let n = count(book);
     let mut at: usize = 0;
     let mut k: usize = 0;
     while k < n {
