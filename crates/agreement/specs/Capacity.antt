@@ -187,7 +187,7 @@ module _ (S : System) where
   capacity-keeps w (roundEnd i) g v h = v
 
   module _ (f : ℕ) (sizes : Sizes S f) (steps : List Step) where
-    capacity-play : CapacityAt (play S (start S) steps)
+    pub capacity-play : CapacityAt (play S (start S) steps)
     capacity-play =
         play-keeps S (λ (w : World S). Good S w × CapacityAt w) (λ w t v h. (good-keeps S f sizes w t (v .0) h, capacity-keeps w t (v .0) (v .1) h)) (start S) steps
         (good-start S, capacity-start) .1

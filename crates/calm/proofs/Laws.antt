@@ -8,14 +8,13 @@ use native.Mathlib.Decide.{ℕ-discrete}
 use native.Mathlib.Omega.{arith}
 use lib.Dec.{eqb}
 use borrow.Author.Tests.{eq-eqb, ne-eqb}
-use Rattle.theory.specs.Sets.{one}
-use Rattle.theory.specs.Counting.{left, right, not-true, not-false, never}
+use Rattle.theory.specs.Sets as theory
+use Rattle.theory.specs.Sets.{one, all}
+use Rattle.theory.specs.Counting.{left, right, not-true, not-false, never, all-at, all-of}
 use Rattle.sets.specs.declared.Set.{Set}
 use Rattle.sets.specs.Sets.{capacity, inSet, emptyOf, withOf, withoutOf, commonOf, loadSet, isEmptyOf, sizeOf, firstOf}
 use Rattle.sets.proofs.Laws.{in-empty, in-with, in-without, in-common, empty-at, first-in}
-use Rattle.table.specs.declared.SiteTable.{SiteTable}
-use Rattle.protocol.specs.RecoveryLaws.{free-pair, free-of}
-use Rattle.calm.specs.Rows.{conflictBy, freeBy, rowsSystem}
+use Rattle.calm.specs.Rows.{conflictBy, freeBetween}
 use Rattle.calm.proofs.Change.{count-change}
 
 in-alone : (m j : ℕ) → inSet (withOf emptyOf m) j ≡ eqb j m
@@ -33,11 +32,11 @@ less-same s m = in-less s m m ∙ ap (λ (b : Bool). inSet s m && not b) (eq-eqb
     none false = refl
 
 pub less-other : (s : Set) (m j : ℕ) → (j ≡ m → ⊥) → inSet (withoutOf s (withOf emptyOf m)) j ≡ inSet s j
-less-other s m j n = in-less s m j ∙ ap (λ (b : Bool). inSet s j && not b) (ne-eqb j m n) ∙ all (inSet s j)
+less-other s m j n = in-less s m j ∙ ap (λ (b : Bool). inSet s j && not b) (ne-eqb j m n) ∙ whole (inSet s j)
   where
-    all : (b : Bool) → (b && true) ≡ b
-    all true = refl
-    all false = refl
+    whole : (b : Bool) → (b && true) ≡ b
+    whole true = refl
+    whole false = refl
 
 -- A member taken away leaves one fewer.
 pub less-size : (s : Set) (m : ℕ) → m < capacity → inSet s m ≡ true → sizeOf s ≡ sizeOf (withoutOf s (withOf emptyOf m)) + 1
@@ -45,19 +44,40 @@ less-size s m l h =
     count-change capacity (inSet (withoutOf s (withOf emptyOf m))) (inSet s) m l (λ j n. less-other s m j n) (less-same s m)
     ∙ ap (λ (b : Bool). sizeOf (withoutOf s (withOf emptyOf m)) + one b) h
 
--- No table matters where only conflicts are asked for.
-noTable : SiteTable
-noTable = record { sites = 0; faults = 0; mask = 0 }
+module _ (rows : List ℕ) (x y : theory.Set) where
+  -- Where one set is free beside another, two of their members do not conflict.
+  pub between-pair : freeBetween rows x y ≡ true → (a b : ℕ) → a < capacity → b < capacity → x a ≡ true → y b ≡ true → conflictBy rows a b ≡ false
+  between-pair h a b la lb ha hb =
+      let row = all-at capacity (λ a. all capacity (λ b. not (x a && (y b && conflictBy rows a b)))) h a la in
+      let cell = all-at capacity (λ b. not (x a && (y b && conflictBy rows a b))) row b lb in
+      go (x a) (y b) (conflictBy rows a b) ha hb cell
+    where
+      go : (p q c : Bool) → p ≡ true → q ≡ true → not (p && (q && c)) ≡ true → c ≡ false
+      go true true c hp hq h = not-true c h
+      go true false c hp hq h = absurd (never false hq refl)
+      go false q c hp hq h = absurd (never false hp refl)
 
-module _ (rows : List ℕ) (set : Set) where
-  -- Members that are no longer left to look at have none of the set in their rows.
+  -- And sets of which no two members conflict are free beside each other.
+  pub between-of : ((a b : ℕ) → a < capacity → b < capacity → x a ≡ true → y b ≡ true → conflictBy rows a b ≡ false) → freeBetween rows x y ≡ true
+  between-of h =
+      all-of capacity (λ a. all capacity (λ b. not (x a && (y b && conflictBy rows a b))))
+      (λ a la. all-of capacity (λ b. not (x a && (y b && conflictBy rows a b)))
+      (λ b lb. go (x a) (y b) (conflictBy rows a b) (h a b la lb)))
+    where
+      go : (p q c : Bool) → (p ≡ true → q ≡ true → c ≡ false) → not (p && (q && c)) ≡ true
+      go true true c i = ap not (i refl refl)
+      go true false c i = refl
+      go false q c i = refl
+
+module _ (rows : List ℕ) (new set : Set) where
+  -- Members that are no longer left to look at have none of the other set in their rows.
   pub record Looked (left : Set) : Type 0 where
-    pub within : (a : ℕ) → inSet left a ≡ true → inSet set a ≡ true
-    pub clear : (a : ℕ) → a < capacity → inSet set a ≡ true → inSet left a ≡ false
+    pub within : (a : ℕ) → inSet left a ≡ true → inSet new a ≡ true
+    pub clear : (a : ℕ) → a < capacity → inSet new a ≡ true → inSet left a ≡ false
         → isEmptyOf (commonOf (loadSet rows a) set) ≡ true
 
-  pub looked-none : Looked set
-  looked-none = record { within = λ a h. h; clear = λ a l h k. absurd (never (inSet set a) h k) }
+  pub looked-none : Looked new
+  looked-none = record { within = λ a h. h; clear = λ a l h k. absurd (never (inSet new a) h k) }
 
   pub looked-more : (s : Set) (m : ℕ) → isEmptyOf (commonOf (loadSet rows m) set) ≡ true → Looked s → Looked (withoutOf s (withOf emptyOf m))
   looked-more s m t h =
@@ -66,9 +86,9 @@ module _ (rows : List ℕ) (set : Set) where
         clear = λ a l i k. elim (ℕ-discrete a m) [ yes e ↦ rw e t | no n ↦ h .clear a l i (sym (less-other s m a n) ∙ k) ];
       }
 
-  pub looked-all : (s : Set) → isEmptyOf s ≡ true → Looked s → freeBy rows (inSet set) ≡ true
+  pub looked-all : (s : Set) → isEmptyOf s ≡ true → Looked s → freeBetween rows (inSet new) (inSet set) ≡ true
   looked-all s e h =
-      free-of (rowsSystem noTable rows) (inSet set)
+      between-of rows (inSet new) (inSet set)
       (λ a b la lb ha hb. go (conflictBy rows a b)
       (sym (ap (λ (x : Bool). conflictBy rows a b && x) hb)
       ∙ sym (in-common (loadSet rows a) set b)
@@ -78,17 +98,17 @@ module _ (rows : List ℕ) (set : Set) where
       go true k = k
       go false k = refl
 
-  pub looked-bad : (m : ℕ) → m < capacity → inSet set m ≡ true → isEmptyOf (commonOf (loadSet rows m) set) ≡ false
-      → freeBy rows (inSet set) ≡ false
-  looked-bad m l i e = go (freeBy rows (inSet set)) found
+  pub looked-bad : (m : ℕ) → m < capacity → inSet new m ≡ true → isEmptyOf (commonOf (loadSet rows m) set) ≡ false
+      → freeBetween rows (inSet new) (inSet set) ≡ false
+  looked-bad m l i e = go (freeBetween rows (inSet new) (inSet set)) found
     where
-      found : freeBy rows (inSet set) ≡ true → ⊥
+      found : freeBetween rows (inSet new) (inSet set) ≡ true → ⊥
       found h =
           let x = commonOf (loadSet rows m) set in
           let w = first-in x e in
           let k = sym (in-common (loadSet rows m) set (firstOf x)) ∙ w .1 in
           never (conflictBy rows m (firstOf x)) (left (conflictBy rows m (firstOf x)) (inSet set (firstOf x)) k)
-          (free-pair (rowsSystem noTable rows) (inSet set) h m (firstOf x) l (w .0) i (right (conflictBy rows m (firstOf x)) (inSet set (firstOf x)) k))
+          (between-pair rows (inSet new) (inSet set) h m (firstOf x) l (w .0) i (right (conflictBy rows m (firstOf x)) (inSet set (firstOf x)) k))
 
       go : (b : Bool) → (b ≡ true → ⊥) → b ≡ false
       go true k = absurd (k refl)
@@ -108,9 +128,9 @@ module _ (rows : List ℕ) (set : Set) where
   looked-less s {m} hn ha hx w = rw (hx, ha, hn) (omega (arith, less-size s m (w .0) (w .1)))
 
   pub looked-found : (s : Set) {m : ℕ} {row shared : Set} {e : Bool} → row ≡ loadSet rows m → shared ≡ commonOf row set → e ≡ isEmptyOf shared
-      → not e ≡ true → (m < capacity) × (inSet s m ≡ true) → Looked s → false ≡ freeBy rows (inSet set)
+      → not e ≡ true → (m < capacity) × (inSet s m ≡ true) → Looked s → false ≡ freeBetween rows (inSet new) (inSet set)
   looked-found s {m} hr hs he t w h =
       sym (looked-bad m (w .0) (h .within m (w .1)) (ap isEmptyOf (sym (hs ∙ ap (λ (x : Set). commonOf x set) hr)) ∙ sym he ∙ not-true _ t))
 
-  pub looked-end : (s : Set) {e : Bool} → e ≡ isEmptyOf s → not e ≡ false → Looked s → true ≡ freeBy rows (inSet set)
+  pub looked-end : (s : Set) {e : Bool} → e ≡ isEmptyOf s → not e ≡ false → Looked s → true ≡ freeBetween rows (inSet new) (inSet set)
   looked-end s he t h = sym (looked-all s (sym he ∙ not-false _ t) h)

@@ -1,3 +1,4 @@
 pub mod Change
 pub mod Laws
 pub mod Same
+pub mod Between

@@ -15,9 +15,13 @@ use Rattle.system.specs.Dash.{lastRound}
 abbrev pub conflictBy : List ℕ → ℕ → ℕ → Bool
 conflictBy rows a b = inSet (loadSet rows a) b
 
+-- No command of one set conflicts with one of another.
+abbrev pub freeBetween : List ℕ → Set → Set → Bool
+freeBetween rows x y = all capacity (λ a. all capacity (λ b. not (x a && (y b && conflictBy rows a b))))
+
 -- No two commands of a set conflict.
 abbrev pub freeBy : List ℕ → Set → Bool
-freeBy rows x = all capacity (λ a. all capacity (λ b. not (x a && (x b && conflictBy rows a b))))
+freeBy rows x = freeBetween rows x x
 
 -- A machine that says which commands conflict and does nothing else: deciding a round asks for no more.
 abbrev pub rowsMachine : List ℕ → Machine

@@ -3,6 +3,7 @@
 use mathlib.Core.Path.{_≡_, refl, sym, ap, subst, _∙_}
 use mathlib.Core.Bool.{Bool, true, false, _&&_, _||_, not}
 use mathlib.Core.List.{List, [], _∷_, _++_}
+use mathlib.Core.Logic.{_⊎_, inl, inr, ⊎-map}
 use mathlib.Core.Option.{some}
 use Prim.Native.Nat.{ℕ, _+_, _*_, _≤_, _<_}
 use native.Mathlib.Omega.{arith}
@@ -15,16 +16,18 @@ use Rattle.refusals.specs.declared.Verdict.the-variants.{Taken, Refused}
 use Rattle.refusals.specs.declared.Refusal.the-variants.{Range, Role, Disabled, ThirdEntry, LastRound}
 use Rattle.theory.specs.Sets as theory
 use Rattle.theory.specs.Sets.{pick, any}
-use Rattle.theory.specs.Counting.{both, never}
+use Rattle.theory.specs.Counting.{both, right, never}
 use Rattle.sets.specs.declared.Set.{Set}
-use Rattle.sets.specs.Sets.{capacity, inSet, setOf, withoutOf, withinOf}
-use Rattle.sets.proofs.Laws.{in-without, word-lt}
+use Rattle.sets.specs.Sets.{capacity, inSet, setOf, unionOf, withoutOf, withinOf}
+use Rattle.sets.proofs.Laws.{in-union, in-without, word-lt}
 use Rattle.table.specs.declared.SiteTable.{SiteTable}
 use Rattle.table.specs.Table.{maxSites, faultyOf}
 use Rattle.table.proofs.Laws.{good-limits}
 use Rattle.commands.specs.Book.{commandsOf}
-use Rattle.calm.specs.Rows.{freeBy}
+use Rattle.conflicts.specs.Conflicts.{conflictRows}
+use Rattle.calm.specs.Rows.{freeBetween}
 use Rattle.calm.proofs.Same.{free-rows}
+use Rattle.calm.proofs.Between.{free-grown}
 use Rattle.protocol.specs.System.{granted, _else_⨾_, verdict, correct, free}
 use Rattle.protocol.specs.Recovery as recovery
 use Rattle.protocol.specs.Site as protocol
@@ -39,7 +42,7 @@ use Rattle.layout.specs.Good.{Good, Holds}
 use Rattle.layout.specs.Step.{settled}
 use Rattle.site.specs.declared.Turn.{Turn}
 use Rattle.site.specs.declared.Turn.the-variants as turns
-use Rattle.site.specs.Steps.{TookTurn, Turned, answerTo}
+use Rattle.site.specs.Steps.{undeliveredOf, newOf, TookTurn, Turned, answerTo}
 use Rattle.entries.specs.declared.Entry.{Entry}
 use Rattle.entries.specs.Entries.{entrySize, logTo, writeEntry, viewEntry, inRangeOf}
 use Rattle.entries.proofs.Bytes.{Fits}
@@ -55,16 +58,47 @@ use Rattle.moves.proofs.Words.{undelivered-word, unacknowledged-word, p
 
 -- ---- the site's part
 
+-- What is undelivered is pending or new, and what is new is undelivered.
+new-or-pending : (r d p : Bool) → (r && not d) ≡ true → (p ≡ true) ⊎ ((r && not (d || p)) ≡ true)
+new-or-pending r d true h = inl refl
+new-or-pending r true false h = inr h
+new-or-pending r false false h = inr h
+
+new-undelivered : (r d p : Bool) → (r && not (d || p)) ≡ true → (r && not d) ≡ true
+new-undelivered r true p h = h
+new-undelivered r false true h = absurd (never false (right r false h) refl)
+new-undelivered r false false h = h
+
+in-new : (h : Site) (m : ℕ) → inSet (newOf h) m ≡ (inSet (h .received) m && not (inSet (h .delivered) m || inSet (h .pending) m))
+in-new h m =
+    in-without (h .received) (unionOf (h .delivered) (h .pending)) m
+    ∙ ap (λ (x : Bool). inSet (h .received) m && not x) (in-union (h .delivered) (h .pending) m)
+
+-- Where what is pending is free of conflicts, the test of the new commands by the rows is that of all that is undelivered.
+free-new : (t : SiteTable) (bytes : List ℕ) (h : Site) → free (dash t (commandsOf bytes)) (inSet (h .pending)) ≡ true
+    → freeBetween (conflictRows bytes) (inSet (newOf h)) (inSet (undeliveredOf h)) ≡ free (dash t (commandsOf bytes)) (inSet (undeliveredOf h))
+free-new t bytes h calm =
+    free-grown bytes (inSet (h .pending)) (inSet (newOf h)) (inSet (undeliveredOf h)) (free-rows bytes t (inSet (h .pending)) ∙ calm)
+    (λ m k.
+    in-without (h .received) (h .delivered) m
+    ∙ new-undelivered (inSet (h .received) m) (inSet (h .delivered) m) (inSet (h .pending) m) (sym (in-new h m) ∙ k))
+    (λ m k.
+    ⊎-map (λ e. e) (λ e. in-new h m ∙ e)
+    (new-or-pending (inSet (h .received) m) (inSet (h .delivered) m) (inSet (h .pending) m) (sym (in-without (h .received) (h .delivered) m) ∙ k)))
+    ∙ free-rows bytes t (inSet (undeliveredOf h))
+
 -- The conflict test by the rows and the number of entries by the log are those that the turn asks for.
-pub turned-by : (rows log : List ℕ) (entries i : ℕ) (b : List ℕ) {h : Site} {u : Set} {f : Bool} {own : ℕ} {r : Turn} {after : List ℕ} → h ≡ headOf b
-    → u ≡ withoutOf (h .received) (h .delivered) → f ≡ freeBy rows (inSet u) → own ≡ recovery.entries i (h .round) (logTo log entries)
+pub turned-by : (rows log : List ℕ) (entries i : ℕ) (b : List ℕ) {h : Site} {u n v : Set} {f : Bool} {own : ℕ} {r : Turn} {after : List ℕ} → h ≡ headOf b
+    → u ≡ withoutOf (h .received) (h .delivered) → v ≡ unionOf (h .delivered) (h .pending) → n ≡ withoutOf (h .received) v
+    → f ≡ freeBetween rows (inSet n) (inSet u) → own ≡ recovery.entries i (h .round) (logTo log entries)
     → TookTurn f own b r after → TurnedBy rows log entries i r b after
-turned-by rows log entries i b {u = u} eh eu ef eo took =
-    λ t book er g.
+turned-by rows log entries i b {h = h} eh eu ev en ef eo took =
+    λ t book er g calm.
     took t (commandsOf book) i (logTo log entries) g
-    (ef ∙ (λ k. freeBy (er k) (inSet u)) ∙ free-rows book t (inSet u)
-    ∙ ap (free (dash t (commandsOf book)))
-    ((λ k. inSet ((eu ∙ (λ z. withoutOf (eh z .received) (eh z .delivered))) k)) ∙ (λ k m. in-without (headOf b .received) (headOf b .delivered) m k)))
+    (ef ∙ (λ k. freeBetween (er k) (inSet ((en ∙ ap (withoutOf (h .received)) ev) k)) (inSet (eu k)))
+    ∙ (λ k. freeBetween (conflictRows book) (inSet (newOf (eh k))) (inSet (undeliveredOf (eh k))))
+    ∙ free-new t book (headOf b) calm
+    ∙ (λ k. free (dash t (commandsOf book)) (λ m. in-without (headOf b .received) (headOf b .delivered) m k)))
     (eo ∙ (λ k. recovery.entries i (eh k .round) (logTo log entries)))
 
 -- ---- what an answer tells
@@ -146,7 +180,7 @@ module _ (t : SiteTable) (bytes rows : List ℕ) (b : Buffers) (i : ℕ) (ready 
     module _ {f : Bool} (ef : f ≡ faultyOf t i) (hf : f ≡ false) {r : Turn} {sites : List ℕ} (h : AtSite i (TurnedBy rows (b .log) (b .entries) i r) (b .sites) sites) where
       turned : Turned t book i (world .log) (world .site i) r (h .new)
       turned =
-          subst (λ (s : protocol.Site (dash t book)). Turned t book i (world .log) s r (h .new)) (sym at) (h .did t bytes (ready .conflicts) part-good)
+          subst (λ (s : protocol.Site (dash t book)). Turned t book i (world .log) s r (h .new)) (sym at) (h .did t bytes (ready .conflicts) part-good (ready .pending i inside))
 
       judged : judge (dash t book) world (turn i) ≡ verdict (forTurn (dash t book) i (world .site i) (world .log))
       judged =

@@ -1,18 +1,17 @@
 -- What the moves of a correct site ask of the buffers and promise: a turn, and a log read.
 -- Assumes nothing.
 use mathlib.Core.Path.{_≡_}
-use mathlib.Core.Bool.{Bool, true, false, not}
+use mathlib.Core.Bool.{true}
 use mathlib.Core.List.{List}
-use Prim.Native.Nat.{ℕ, _+_, _*_, _≤_}
-use lib.Dec.{ltb}
+use Prim.Native.Nat.{ℕ, _+_, _*_, _≤_, _<_}
 use lib.ListN.{length}
 use Rattle.refusals.specs.declared.Verdict.{Verdict}
-use Rattle.theory.specs.Sets.{pick}
 use Rattle.table.specs.declared.SiteTable.{SiteTable}
 use Rattle.table.specs.Table.{isGood}
 use Rattle.register.specs.declared.Command.{Command}
 use Rattle.commands.specs.Book.{commandsOf}
 use Rattle.conflicts.specs.Conflicts.{conflictRows}
+use Rattle.protocol.specs.System.{free}
 use Rattle.protocol.specs.Recovery as recovery
 use Rattle.protocol.specs.World.{Step, turn, logRead, step}
 use Rattle.system.specs.Dash.{dash}
@@ -20,38 +19,35 @@ use Rattle.layout.specs.Layout.{view}
 use Rattle.layout.specs.Good.{Good}
 use Rattle.site.specs.declared.Turn.{Turn}
 use Rattle.site.specs.Steps.{Turned}
-use Rattle.entries.specs.Entries.{entrySize, logTo, entryOf, inRangeOf}
+use Rattle.entries.specs.Entries.{entrySize, logTo}
 use Rattle.sent.specs.Sent.{maxAcknowledgments}
-use Rattle.world.specs.World.{Buffers, GoodWorld, worldOf, Outcome}
+use Rattle.world.specs.World.{Buffers, siteAt, GoodWorld, worldOf, Outcome}
 use Rattle.world.specs.Parts.{lent}
 
--- What a step asks of the buffers, at a site table and the bytes of a book: that they are good, and that there is room for what it writes.
+-- What a step asks of the buffers, at a site table and the bytes of a book: that they are good, that what every run keeps is so of their world, and that there is room for what it writes.
 pub record Ready (t : SiteTable) (book rows : List ℕ) (b : Buffers) (u : Step) : Type 0 where
   pub table : isGood t ≡ true
   pub conflicts : rows ≡ conflictRows book
   pub world : GoodWorld t (length (commandsOf book)) b
-  -- for one log entry more,
+  -- what is pending at a site is free of conflicts
+  pub pending : (i : ℕ) → i < t .sites → free (dash t (commandsOf book)) (view t (commandsOf book) (siteAt (b .sites) i) .pending) ≡ true
+  -- at most two entries of a site in a round
+  pub twice : (j r : ℕ) → recovery.entries j r (logTo (b .log) (b .entries)) ≤ 2
+  -- room for one log entry more,
   pub room : (b .entries + 1) * entrySize ≤ length (b .log)
   -- and for the acknowledgments that there are after the step
   pub acks : (j r : ℕ) → length (step (dash t (commandsOf book)) (worldOf t (commandsOf book) b) u .acks j r) ≤ maxAcknowledgments
 
--- The turn of a site with the bytes b, by the rows of a book and the first entries of a log.
+-- The turn of a site with the bytes b, by the rows of a book and the first entries of a log, where what is pending is free of conflicts.
 abbrev pub TurnedBy : List ℕ → List ℕ → ℕ → ℕ → Turn → List ℕ → List ℕ → Type 0
 TurnedBy rows log entries i r b after =
     (t : SiteTable) (book : List ℕ) → rows ≡ conflictRows book → Good (t .sites) (length (commandsOf book)) b
+    → free (dash t (commandsOf book)) (view t (commandsOf book) b .pending) ≡ true
     → Turned t (commandsOf book) i (logTo log entries) (view t (commandsOf book) b) r after
 
--- The entry at a log position, where there is one, is in range.
-abbrev pub goodNext : List ℕ → ℕ → ℕ → ℕ → ℕ → Bool
-goodNext log entries k sites commands = pick (ltb k entries) (inRangeOf sites commands (entryOf log k)) true
-
--- It is a third of its site and round.
-abbrev pub thirdNext : List ℕ → ℕ → ℕ → Bool
-thirdNext log entries k =
-    pick (ltb k entries) (not (ltb (recovery.entries (entryOf log k .site) (entryOf log k .round) (logTo log k)) 2)) false
-
--- A log read, which changes a site only.
-abbrev pub LogRead : SiteTable → ℕ → ℕ → List ℕ → ℕ → List ℕ → Verdict → List ℕ → Type 0
-LogRead t commands i log entries sites v after =
-    (book : List Command) (sent : List ℕ) → commands ≡ length book → GoodWorld t (length book) (lent sites log entries sent)
+-- A log read, which changes a site only, of any log with so many entries, at most two of a site in a round.
+abbrev pub LogRead : SiteTable → ℕ → ℕ → List ℕ → Verdict → List ℕ → Type 0
+LogRead t i entries sites v after =
+    (book : List Command) (log sent : List ℕ) → GoodWorld t (length book) (lent sites log entries sent)
+    → ((j r : ℕ) → recovery.entries j r (logTo log entries) ≤ 2)
     → Outcome t book (logRead i) (lent sites log entries sent) v (lent after log entries sent)

@@ -1,9 +1,8 @@
 // Steps 07 and 09: a correct site takes a turn, or reads the next entry of the log.
 ghost use mathlib.Core.Path.{_≡_};
-ghost use mathlib.Core.Bool.{true};
+ghost use mathlib.Core.Bool.{true, false};
 ghost use mathlib.Core.List.{List};
 ghost use Prim.Native.Nat.{_+_, _*_, _≤_, _<_, ℕ};
-ghost use lib.Dec.{ltb};
 ghost use lib.ListN.{length};
 ghost use Rattle.sets.specs.Sets.{capacity};
 ghost use Rattle.commands.specs.Book.{commandsOf};
@@ -11,9 +10,9 @@ ghost use Rattle.protocol.specs.World as protocol;
 ghost use Rattle.layout.specs.Layout.{siteSize, headOf};
 ghost use Rattle.site.specs.Steps.{ReadEntry};
 ghost use Rattle.entries.specs.Entries.{entrySize};
-ghost use Rattle.world.specs.World.{siteAt, maxLog, Outcome};
+ghost use Rattle.world.specs.World.{siteAt, Outcome};
 ghost use Rattle.world.specs.Parts.{lent, AtSite};
-ghost use Rattle.moves.specs.Moves.{Ready, TurnedBy, goodNext, thirdNext, LogRead};
+ghost use Rattle.moves.specs.Moves.{Ready, TurnedBy, LogRead};
 use entries::Entry;
 use layout::Site;
 use refusals::Refusal;
@@ -22,7 +21,7 @@ use site::Turn;
 use table::SiteTable;
 use world::Stepped;
 
-// Site i takes its turn, by the rows of conflicts and the first entries of the log.
+// Site i takes its turn, by the rows of conflicts and the first entries of the log. What is pending has no conflict, so only what is new is tested.
 fn turn_at(sites: &mut [u8], log: &[u8], entries: usize, rows: &[u64], i: usize) -> Turn
     requires { ⌜ (i * siteSize + siteSize ≤ length (now sites)) × (entries * entrySize ≤ length (now log)) × (length (now rows) ≡ capacity) ⌝ }
     ensures { λ r. ⌜ AtSite i (TurnedBy (now (rows .entry)) (now (log .entry)) entries i r) (now (sites .entry)) (now (sites .exit)) ⌝ }
@@ -31,7 +30,10 @@ fn turn_at(sites: &mut [u8], log: &[u8], entries: usize, rows: &[u64], i: usize)
     let to = from + Site::SIZE;
     let header = Site::read(&sites[from..to]);
     let undelivered = header.received.without(header.delivered);
-    let free = calm::is_free(rows, undelivered);
+    let new = header
+        .received
+        .without(header.delivered.union(header.pending));
+    let free = calm::is_free_between(rows, new, undelivered);
     let own = entries::entries_of(log, entries, i, header.round as usize);
     site::take_turn(&mut sites[from..to], free, own)
 }
@@ -96,64 +98,27 @@ pub fn turn(
     }
 }
 
-// Whether the entry at a log position, where there is one, is in range.
-fn next_in_range(log: &[u8], entries: usize, k: usize, sites: usize, commands: usize) -> bool
-    requires { ⌜ entries * entrySize ≤ length (now log) ⌝ }
-    ensures { λ r. ⌜ r ≡ goodNext (now (log .entry)) entries k sites commands ⌝ }
-{
-    if k >= entries {
-        return true;
-    }
-    let entry = entries::read_entry(log, k);
-    entries::in_range(entry, sites, commands)
-}
-
-// Whether it is a third of its site and round.
-fn next_is_third(log: &[u8], entries: usize, k: usize) -> bool
-    requires { ⌜ entries * entrySize ≤ length (now log) ⌝ }
-    ensures { λ r. ⌜ r ≡ thirdNext (now (log .entry)) entries k ⌝ }
-{
-    if k >= entries {
-        return false;
-    }
-    let site = entries::site_of(log, k);
-    let round = entries::round_of(log, k);
-    let before = entries::entries_of(log, k, site, round);
-    before >= 2
-}
-
-// Site i reads the next entry, where one is left that is no third.
-fn read_at(sites: &mut [u8], i: usize, left: bool, third: bool) -> Verdict
+// Site i reads the next entry, where one is left. It is no third of its site and round.
+fn read_at(sites: &mut [u8], i: usize, left: bool) -> Verdict
     requires { ⌜ (i * siteSize + siteSize ≤ length (now sites)) × (left ≡ true → headOf (siteAt (now sites) i) .position < 65535) ⌝ }
-    ensures { λ v. ⌜ AtSite i (λ b after. ReadEntry left third b v after) (now (sites .entry)) (now (sites .exit)) ⌝ }
+    ensures { λ v. ⌜ AtSite i (λ b after. ReadEntry left false b v after) (now (sites .entry)) (now (sites .exit)) ⌝ }
 {
     let from = i * Site::SIZE;
     let to = from + Site::SIZE;
-    site::read_entry(&mut sites[from..to], left, third)
+    site::read_entry(&mut sites[from..to], left, false)
 }
 
-// 09: site i reads the next entry of the log.
-pub fn log_read(
-    sites: &mut [u8],
-    log: &[u8],
-    entries: usize,
-    table: SiteTable,
-    commands: usize,
-    i: usize,
-) -> Verdict
-    requires { ⌜ (length (now sites) ≡ table .sites * siteSize) × (entries * entrySize ≤ length (now log)) × (length (now log) ≤ maxLog) ⌝ }
-    ensures { λ v. ⌜ LogRead table commands i (now (log .entry)) entries (now (sites .entry)) v (now (sites .exit)) ⌝ }
+// 09: site i reads the next entry of the log. Every entry that a run appends is in range, and none is a third of its site and round.
+pub fn log_read(sites: &mut [u8], entries: usize, table: SiteTable, i: usize) -> Verdict
+    requires { ⌜ (length (now sites) ≡ table .sites * siteSize) × (entries ≤ 65535) ⌝ }
+    ensures { λ v. ⌜ LogRead table i entries (now (sites .entry)) v (now (sites .exit)) ⌝ }
 {
     if i >= table.sites {
-        return Verdict::Refused(Refusal::Range);
-    }
-    let position = world::position_of(&sites[..], i);
-    if !next_in_range(log, entries, position, table.sites, commands) {
         return Verdict::Refused(Refusal::Range);
     }
     if table.is_faulty(i) {
         return Verdict::Refused(Refusal::Role);
     }
-    let third = next_is_third(log, entries, position);
-    read_at(sites, i, position < entries, third)
+    let position = world::position_of(&sites[..], i);
+    read_at(sites, i, position < entries)
 }

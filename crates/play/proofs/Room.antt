@@ -1,5 +1,5 @@
--- The room that a step finds: in every run the log has at most two entries a site and round, and a site acknowledges at most once a command and round.
--- Rests on agreement's Capacity.
+-- What a step finds in every run: nothing that is pending conflicts, the log has at most two entries a site and round, and a site acknowledges at most once a command and round.
+-- Rests on agreement's Invariant and Capacity.
 use mathlib.Core.Path.{_≡_, sym, ap, subst, _∙_}
 use mathlib.Core.Bool.{true}
 use mathlib.Core.List.{List, [], _∷_, _++_, foldl-append}
@@ -12,13 +12,18 @@ use Rattle.table.proofs.Laws.{good-limits, good-quorums, good-few}
 use Rattle.register.specs.declared.Command.{Command}
 use Rattle.commands.specs.Book.{maxCommands, commandsOf}
 use Rattle.commands.proofs.Walk.{few-commands}
+use Rattle.protocol.specs.System.{free}
+use Rattle.protocol.specs.Recovery.{entries}
+use Rattle.protocol.specs.Site.{Site}
 use Rattle.protocol.specs.World.{World, Step, start, step, play}
 use Rattle.agreement.specs.Acked.{Sizes}
-use Rattle.agreement.specs.Capacity.{acks-bound, log-bound}
+use Rattle.agreement.specs.Invariant.{good-play}
+use Rattle.agreement.specs.Capacity.{capacity-play, acks-bound, log-bound}
 use Rattle.system.specs.Dash.{dash}
+use Rattle.layout.specs.Layout.{view}
 use Rattle.entries.specs.Entries.{viewEntry, entryOf, logTo}
 use Rattle.sent.specs.Sent.{maxAcknowledgments}
-use Rattle.world.specs.World.{Buffers, worldOf, HoldsWorld}
+use Rattle.world.specs.World.{Buffers, siteAt, worldOf, HoldsWorld}
 use Rattle.play.specs.Played.{logRoom}
 
 sizes : (t : SiteTable) (book : List Command) → isGood t ≡ true → Sizes (dash t book) (t .faults)
@@ -36,6 +41,18 @@ module _ (t : SiteTable) (s : List ℕ) (good : isGood t ≡ true) (past : List 
   entries-few =
       let e = ap (λ (w : World (dash t (commandsOf s))). length (w .log)) (h .says) in
       omega (arith, length-log (b .log) (b .entries), log-bound (dash t (commandsOf s)) (t .faults) (sizes t (commandsOf s) good) past, good-limits t good .sites)
+
+  -- So the log says.
+  pub entries-twice : (j r : ℕ) → entries j r (logTo (b .log) (b .entries)) ≤ 2
+  entries-twice j r =
+      subst (λ (w : World (dash t (commandsOf s))). entries j r (w .log) ≤ 2) (sym (h .says))
+      (capacity-play (dash t (commandsOf s)) (t .faults) (sizes t (commandsOf s) good) past .twice j r)
+
+  -- What is pending at a site is free of conflicts.
+  pub pending-free : (i : ℕ) → i < t .sites → free (dash t (commandsOf s)) (view t (commandsOf s) (siteAt (b .sites) i) .pending) ≡ true
+  pending-free i l =
+      ap (λ (x : Site (dash t (commandsOf s))). free (dash t (commandsOf s)) (x .pending)) (h .site i l .says)
+      ∙ good-play (dash t (commandsOf s)) (t .faults) (sizes t (commandsOf s) good) past .pending i .calm
 
   -- After any further step too, a site has sent at most one acknowledgment a command in a round.
   pub acks-few : (u : Step) (j r : ℕ) → length (step (dash t (commandsOf s)) (worldOf t (commandsOf s) b) u .acks j r) ≤ maxAcknowledgments

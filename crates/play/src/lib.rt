@@ -107,6 +107,7 @@ pub fn play_steps(
     let mut number: usize = 1;
     while at < n {
         let reading = steps::read_step(&steps[at..]);
+        let size = extent(reading, n - at);
         let stepped = carry_out(
             sites,
             log,
@@ -122,7 +123,7 @@ pub fn play_steps(
         let verdict = stepped.verdict;
         end = report(out, end, number, verdict);
         entries = stepped.entries;
-        at += extent(reading, n - at);
+        at += size;
         number += 1;
     }
     Played {

@@ -88,7 +88,7 @@ pub fn step(
         }
         Step::LogRead { site } => {
             let i = site as usize;
-            let verdict = moves::log_read(sites, &log[..], entries, table, commands, i);
+            let verdict = moves::log_read(sites, entries, table, i);
             Stepped { verdict, entries }
         }
         Step::RoundEnd { site } => {

@@ -5,6 +5,7 @@ use native.Mathlib.Omega.{arith}
 use denote.Ref.{now}
 use Prim.Native.Nat.{_+_, _*_, _-_}
 use mathlib.Core.Path.{sym, ap, subst}
+use mathlib.Core.Bool.{false}
 use mathlib.Core.List.{List}
 use Prim.Native.Nat.{ℕ, _<_}
 use Rattle.layout.specs.Layout.{siteSize, headOf}
@@ -41,7 +42,7 @@ same-length c = search needs
 returns : tie.Need-returns
 returns c =
     let o = c .before .before .before .before .before in
-    at-site (λ b after. ReadEntry (o .args .left) (o .args .third) b (c .before .before .read-entry .result) after) (now (o .args .sites)) (o .args .i) ((o .args .i * siteSize + siteSize) - o .args .i * siteSize) _ (omega arith) (omega arith)
+    at-site (λ b after. ReadEntry (o .args .left) false b (c .before .before .read-entry .result) after) (now (o .args .sites)) (o .args .i) ((o .args .i * siteSize + siteSize) - o .args .i * siteSize) _ (omega arith) (omega arith)
     (c .before .before .read-entry .kept .0) (c .before .before .read-entry .ensures)
 
 pub read-at-spec : {M : Type 1} → statement M

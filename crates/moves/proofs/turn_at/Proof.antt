@@ -32,8 +32,14 @@ read-requires c κs = search needs
 without-requires : tie.Need-without-requires
 without-requires c κs = search needs
 
-is-free-requires : tie.Need-is-free-requires
-is-free-requires c κs = search needs
+union-requires : tie.Need-union-requires
+union-requires c κs = search needs
+
+without-requires-2 : tie.Need-without-requires-2
+without-requires-2 c κs = search needs
+
+is-free-between-requires : tie.Need-is-free-between-requires
+is-free-between-requires c κs = search needs
 
 cast-entries-of : tie.Need-cast-entries-of
 cast-entries-of c = search needs
@@ -58,10 +64,10 @@ same-length c = search needs
 
 returns : tie.Need-returns
 returns c =
-    let o = c .before .before .before .before .before .before .before .before .before .before .before .before .before .before in
+    let o = c .before .before .before .before .before .before .before .before .before .before .before .before .before .before .before .before in
     at-site (TurnedBy (now (o .args .rows)) (now (o .args .log)) (o .args .entries) (o .args .i) (c .before .before .take-turn .result)) (now (o .args .sites)) (o .args .i) ((o .args .i * siteSize + siteSize) - o .args .i * siteSize) _ (omega arith) (omega arith)
     (c .before .before .take-turn .kept .0)
-    (turned-by (now (o .args .rows)) (now (o .args .log)) (o .args .entries) (o .args .i) _ (c .before .before .before .before .before .before .before .before .read .ensures) (c .before .before .before .before .before .before .before .without .ensures) (c .before .before .before .before .before .before .is-free .ensures) (c .before .before .before .before .entries-of .ensures) (c .before .before .take-turn .ensures))
+    (turned-by (now (o .args .rows)) (now (o .args .log)) (o .args .entries) (o .args .i) _ (c .before .before .before .before .before .before .before .before .before .before .read .ensures) (c .before .before .before .before .before .before .before .before .before .without .ensures) (c .before .before .before .before .before .before .before .before .union .ensures) (c .before .before .before .before .before .before .before .without2 .ensures) (c .before .before .before .before .before .before .is-free-between .ensures) (c .before .before .before .before .entries-of .ensures) (c .before .before .take-turn .ensures))
 
 pub turn-at-spec : {M : Type 1} → statement M
 turn-at-spec =
@@ -74,7 +80,9 @@ turn-at-spec =
     part-read-end
     read-requires
     without-requires
-    is-free-requires
+    union-requires
+    without-requires-2
+    is-free-between-requires
     cast-entries-of
     entries-of-requires
     sub-take-turn

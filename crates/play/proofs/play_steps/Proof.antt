@@ -10,7 +10,7 @@ use Rattle.commands.specs.Book.{commandsOf}
 use Rattle.world.specs.Parts.{lent}
 use Rattle.play.specs.Played.{lineRoom}
 use Rattle.play.proofs.Laws.{within, Playing, playing-none, playing-next, playing-end}
-use Rattle.play.proofs.Room.{entries-few, acks-few}
+use Rattle.play.proofs.Room.{entries-few, entries-twice, pending-free, acks-few}
 use Rattle.play.proofs.play_steps.Statement.{statement}
 use Rattle.play.proofs.play_steps.Tie as tie
 
@@ -56,10 +56,16 @@ part-read-step-end c = search needs
 read-step-requires : tie.Need-read-step-requires Inv-loop μ-loop
 read-step-requires c κs = search needs
 
+sub-extent : tie.Need-sub-extent Inv-loop μ-loop
+sub-extent c = search needs
+
+extent-requires : tie.Need-extent-requires Inv-loop μ-loop
+extent-requires c κs = search needs
+
 carry-out-requires : tie.Need-carry-out-requires Inv-loop μ-loop
 carry-out-requires c κs =
-    let a = c .before .before .before .before .before .before .before .before .before .before .before .before .before .before .before in
-    let l = c .before .before .before .before .before .before .loop in
+    let a = c .before .before .before .before .before .before .before .before .before .before .before .before .before .before .before .before in
+    let l = c .before .before .before .before .before .before .before .loop in
     let p = l .inv .8 in
     let t = a .args .table in
     let s = now (a .args .book) in
@@ -69,6 +75,8 @@ carry-out-requires c κs =
         table = g;
         conflicts = a .pre .conflicts;
         world = p .world .good;
+        pending = pending-free t s g (p .past) (p .world);
+        twice = entries-twice t s g (p .past) (p .world);
         room = omega (arith, a .pre .log, l .inv .5);
         acks = acks-few t s g (p .past) (p .world) u;
       }),
@@ -79,12 +87,6 @@ carry-out-requires c κs =
 report-requires : tie.Need-report-requires Inv-loop μ-loop
 report-requires c κs = search needs
 
-sub-extent : tie.Need-sub-extent Inv-loop μ-loop
-sub-extent c = search needs
-
-extent-requires : tie.Need-extent-requires Inv-loop μ-loop
-extent-requires c κs = search needs
-
 add-at : tie.Need-add-at Inv-loop μ-loop
 add-at c =
     let a = c .before .before .before .before .before .before .before .before .before .before .before .before .before .before .before .before .before .before .before .before .before .before .before .before .before .before .before in
@@ -93,7 +95,7 @@ add-at c =
     let r = c .before .before .before .before .before .before .before .before .before .before .before .before .before .before .before .read-step .result in
     let e = ap readStep (sym (part-all s (l .at))) ∙ sym (c .before .before .before .before .before .before .before .before .before .before .before .before .before .before .before .read-step .ensures) in
     let h = c .before .before .before .before .before .before .before .before .before .before .before .before .before .before .before .before .before .loop-test .taken in
-    let i = within s (l .at) r (omega arith) e (c .extent .ensures) in
+    let i = within s (l .at) r (omega arith) e (c .before .before .before .before .before .before .before .before .before .before .before .before .before .before .extent .ensures) in
     record { fits = omega (arith, a .pre .short) }
 
 add-number : tie.Need-add-number Inv-loop μ-loop
@@ -110,7 +112,7 @@ loop-less c =
     let r = c .before .before .before .before .before .before .before .before .before .before .before .before .before .before .before .read-step .result in
     let e = ap readStep (sym (part-all s (l .at))) ∙ sym (c .before .before .before .before .before .before .before .before .before .before .before .before .before .before .before .read-step .ensures) in
     let h = c .before .before .before .before .before .before .before .before .before .before .before .before .before .before .before .before .before .loop-test .taken in
-    let i = within s (l .at) r (omega arith) e (c .extent .ensures) in
+    let i = within s (l .at) r (omega arith) e (c .before .before .before .before .before .before .before .before .before .before .before .before .before .before .extent .ensures) in
     omega arith
 
 loop-again : tie.Need-loop-again Inv-loop μ-loop
@@ -121,9 +123,9 @@ loop-again c =
     let r = c .before .before .before .before .before .before .before .before .before .before .before .before .before .before .before .read-step .result in
     let e = ap readStep (sym (part-all s (l .at))) ∙ sym (c .before .before .before .before .before .before .before .before .before .before .before .before .before .before .before .read-step .ensures) in
     let h = c .before .before .before .before .before .before .before .before .before .before .before .before .before .before .before .before .before .loop-test .taken in
-    let i = within s (l .at) r (omega arith) e (c .extent .ensures) in
-    let k = c .before .before .before .before .before .before .before .before .before .before .before .carry-out in
-    let w = c .before .before .before .report in
+    let i = within s (l .at) r (omega arith) e (c .before .before .before .before .before .before .before .before .before .before .before .before .before .before .extent .ensures) in
+    let k = c .before .before .before .before .before .before .before .before .before .before .carry-out in
+    let w = c .before .before .report in
     let m = l .inv .1 (omega arith) in (
       i .inside,
       (λ k. omega (arith, i .two k)),
@@ -134,7 +136,7 @@ loop-again c =
       k .kept .1 .1 .0 ∙ l .inv .6,
       w .kept .0 ∙ l .inv .7,
       playing-next (a .args .table) (commandsOf (now (a .args .book))) s (now (a .args .out)) (a .args .from) (l .inv .8) r
-          (omega arith) (omega arith) e (c .extent .ensures) (k .ensures) (w .ensures .0),
+          (omega arith) (omega arith) e (c .before .before .before .before .before .before .before .before .before .before .before .before .before .before .extent .ensures) (k .ensures) (w .ensures .0),
     )
 
 same-length : tie.Need-same-length Inv-loop μ-loop
@@ -167,10 +169,10 @@ play-steps-spec =
     part-read-step-start
     part-read-step-end
     read-step-requires
-    carry-out-requires
-    report-requires
     sub-extent
     extent-requires
+    carry-out-requires
+    report-requires
     add-at
     add-number
     loop-less

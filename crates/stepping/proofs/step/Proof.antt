@@ -2,6 +2,7 @@
 -- Assumes nothing.
 use borrow.Author.Needs.{needs}
 use denote.Ref.{now}
+use native.Mathlib.Omega.{arith}
 use Rattle.commands.specs.Book.{commandsOf}
 use mathlib.Core.Path.{sym}
 use Rattle.world.specs.Parts.{lent}
@@ -47,7 +48,9 @@ cast-i-2 : tie.Need-cast-i-2
 cast-i-2 c = search needs
 
 log-read-requires : tie.Need-log-read-requires
-log-read-requires c κs = search needs
+log-read-requires c κs =
+    let w = c .before .before .before .before .before .before .before .before .before .before .pre .0 .world in
+    (w .size, omega (arith, w .room, w .short))
 
 enum-known-step-5 : tie.Need-enum-known-step-5
 enum-known-step-5 c = search needs
@@ -98,30 +101,27 @@ returns-3 c =
 same-length-6 : tie.Need-same-length-6
 same-length-6 c = search needs
 
+returns-4 : tie.Need-returns-4
+returns-4 c =
+    let o = c .before .before .before .before .before .before .before .before .before .before .before .before .before in
+    arm (o .args .table) (commandsOf (now (o .args .book))) (lent (now (o .args .sites)) (now (o .args .log)) (o .args .entries) (now (o .args .sent))) _ (c .before .before .before .before .before .step4 .given .1) (c .before .before .log-read .ensures (commandsOf (now (o .args .book))) (now (o .args .log)) (now (o .args .sent)) (o .pre .0 .world) (o .pre .0 .twice))
+
 same-length-7 : tie.Need-same-length-7
 same-length-7 c = search needs
 
-returns-4 : tie.Need-returns-4
-returns-4 c =
-    let o = c .before .before .before .before .before .before .before .before .before .before .before .before .before .before in
-    arm (o .args .table) (commandsOf (now (o .args .book))) (lent (now (o .args .sites)) (now (o .args .log)) (o .args .entries) (now (o .args .sent))) _ (c .before .before .before .before .before .before .step4 .given .1) (c .before .before .log-read .ensures (commandsOf (now (o .args .book))) (now (o .args .sent)) (sym (o .pre .2)) (o .pre .0 .world))
-
 same-length-8 : tie.Need-same-length-8
 same-length-8 c = search needs
-
-same-length-9 : tie.Need-same-length-9
-same-length-9 c = search needs
 
 returns-5 : tie.Need-returns-5
 returns-5 c =
     let o = c .before .before .before .before .before .before .before .before .before .before .before .before .before .before in
     arm (o .args .table) (commandsOf (now (o .args .book))) (lent (now (o .args .sites)) (now (o .args .log)) (o .args .entries) (now (o .args .sent))) _ (c .before .before .before .before .before .before .step5 .given .1) (c .before .before .round-end .ensures (now (o .args .sent)) (o .pre .0 .world))
 
+same-length-9 : tie.Need-same-length-9
+same-length-9 c = search needs
+
 same-length-10 : tie.Need-same-length-10
 same-length-10 c = search needs
-
-same-length-11 : tie.Need-same-length-11
-same-length-11 c = search needs
 
 returns-6 : tie.Need-returns-6
 returns-6 c =
@@ -157,11 +157,10 @@ step-spec =
     same-length-5
     returns-3
     same-length-6
-    same-length-7
     returns-4
+    same-length-7
     same-length-8
-    same-length-9
     returns-5
+    same-length-9
     same-length-10
-    same-length-11
     returns-6)
