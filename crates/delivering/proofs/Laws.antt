@@ -31,10 +31,11 @@ use Rattle.recovery.specs.declared.Sets.{Sets}
 use Rattle.recovery.specs.declared.Decision.{Decision}
 use Rattle.recovery.specs.declared.Decision.the-variants.{Undecided, Decided}
 use Rattle.recovery.specs.Decisions.{decisionOf}
+use Rattle.recovery.proofs.Within.{sets-within}
 use Rattle.layout.specs.Layout.{siteSize, headOf, view}
 use Rattle.layout.specs.Good.{Good}
 use Rattle.ending.specs.Ending.{Told, RoundEnded}
-use Rattle.closings.proofs.Decisions.{sets-within, told-none, told-decided}
+use Rattle.ending.proofs.Telling.{told-none, told-decided}
 use Rattle.judging.specs.Outcomes.{outcome, answered, _then_}
 use Rattle.judging.specs.Judging.{tableOf, systemOf, siteIn, withSite, forSite, forSiteAndLog}
 use Rattle.judging.proofs.Demands.{then-taken, then-refused, answered-refused}
