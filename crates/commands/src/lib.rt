@@ -21,7 +21,7 @@ pub enum Reading {
 }
 
 // How many commands a book has.
-enum Measured {
+pub enum Measured {
     Commands(usize),
     Unreadable,
 }
@@ -88,7 +88,7 @@ pub fn read_command(bytes: &[u8]) -> Reading
 }
 
 // How many commands a book has; Unreadable where it is refused.
-fn measure(book: &[u8]) -> Measured
+pub fn measure(book: &[u8]) -> Measured
     ensures { λ r. ⌜ r ≡ measureBook (now (book .entry)) ⌝ }
 {
     let n = book.len();

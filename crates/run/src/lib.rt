@@ -124,10 +124,11 @@ fn print_noted(
     requires { ⌜ Playable table (now steps) (now out) × Lent (now log) (now sent) × (length (now sites) ≡ maxSites * siteSize) ⌝ }
     ensures { λ r. ⌜ Wrote (now (out .exit)) r (now (out .entry)) 0 (played table (commandsOf (now (book .entry))) (stepsOf (now (steps .entry)))) ⌝ }
 {
+    let commands = commands::count(book);
     let mut places = [0u16; 64];
-    commands::index(book, &mut places);
+    commands::index(book, commands, &mut places);
     let mut rows = [0u64; 64];
-    conflicts::conflict_rows(book, &places, &mut rows);
+    conflicts::conflict_rows(book, &places, commands, &mut rows);
     print_in(sites, log, sent, table, book, &places, &rows, steps, out)
 }
 
