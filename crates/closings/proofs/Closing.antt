@@ -32,14 +32,15 @@ use Rattle.recovery.specs.declared.Sets.{Sets}
 use Rattle.recovery.specs.declared.Decision.{Decision}
 use Rattle.recovery.specs.declared.Decision.the-variants.{Undecided, Decided}
 use Rattle.recovery.specs.Decisions.{decisionOf}
+use Rattle.recovery.proofs.Within.{sets-within}
 use Rattle.ending.specs.Ending.{Told, RoundEnded}
+use Rattle.ending.proofs.Telling.{told-none, told-decided}
 use Rattle.rounds.specs.Rounds.{keptRounds, Kept}
 use Rattle.world.specs.World.{siteAt, GoodWorld, worldOf}
 use Rattle.world.specs.Parts.{lent, AtSite}
 use Rattle.world.proofs.Sites.{lent-part}
 use Rattle.world.proofs.Hold.{seen, refused, carried-site}
 use Rattle.closings.specs.Closings.{GoodSites, GoodLog, KeptLog, FastAt, Closed}
-use Rattle.closings.proofs.Decisions.{told-none, told-decided, sets-within}
 
 -- ---- 08
 

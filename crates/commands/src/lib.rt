@@ -21,7 +21,7 @@ pub enum Reading {
 }
 
 // How many commands a book has.
-enum Measured {
+pub enum Measured {
     Commands(usize),
     Unreadable,
 }
@@ -88,7 +88,7 @@ pub fn read_command(bytes: &[u8]) -> Reading
 }
 
 // How many commands a book has; Unreadable where it is refused.
-fn measure(book: &[u8]) -> Measured
+pub fn measure(book: &[u8]) -> Measured
     ensures { λ r. ⌜ r ≡ measureBook (now (book .entry)) ⌝ }
 {
     let n = book.len();
@@ -136,12 +136,11 @@ fn wide(x: u16) -> usize
     x as usize
 }
 
-// The place of each command is noted.
-pub fn index(book: &[u8], places: &mut [u16])
-    requires { ⌜ length (commandsOf (now book)) ≤ length (now places) ⌝ }
+// The place of each of the n commands is noted.
+pub fn index(book: &[u8], n: usize, places: &mut [u16])
+    requires { ⌜ (n ≡ length (commandsOf (now book))) × (length (commandsOf (now book)) ≤ length (now places)) ⌝ }
     ensures { λ _. ⌜ now (places .exit) ≡ sets (now (places .entry)) 0 (placesOf (now (book .entry))) ⌝ }
 {
-    let n = count(book);
     let mut at: usize = 0;
     let mut k: usize = 0;
     while k < n {

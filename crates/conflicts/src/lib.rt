@@ -114,12 +114,11 @@ fn fill_rows(
     }
 }
 
-// The rows of all 64 command numbers, from the noted places.
-pub fn conflict_rows(book: &[u8], places: &[u16], rows: &mut [u64])
-    requires { ⌜ (length (now rows) ≡ maxCommands) × (take (length (commandsOf (now book))) (now places) ≡ placesOf (now book)) ⌝ }
+// The rows of all 64 command numbers, from the noted places of the n commands.
+pub fn conflict_rows(book: &[u8], places: &[u16], n: usize, rows: &mut [u64])
+    requires { ⌜ (length (now rows) ≡ maxCommands) × (n ≡ length (commandsOf (now book))) × (take (length (commandsOf (now book))) (now places) ≡ placesOf (now book)) ⌝ }
     ensures { λ _. ⌜ now (rows .exit) ≡ conflictRows (now (book .entry)) ⌝ }
 {
-    let n = commands::count(book);
     let mut on = [0u64; 32];
     let mut adds = [0u64; 32];
     let mut reads = [0u64; 32];
@@ -127,12 +126,12 @@ pub fn conflict_rows(book: &[u8], places: &[u16], rows: &mut [u64])
     fill_rows(book, places, n, &on, &adds, &reads, rows);
 }
 
-// The rows of all 64 command numbers of a book.
-pub fn conflicts_of(book: &[u8], rows: &mut [u64])
-    requires { ⌜ length (now rows) ≡ maxCommands ⌝ }
+// The rows of all 64 command numbers of a book with n commands.
+pub fn conflicts_of(book: &[u8], n: usize, rows: &mut [u64])
+    requires { ⌜ (length (now rows) ≡ maxCommands) × (n ≡ length (commandsOf (now book))) ⌝ }
     ensures { λ _. ⌜ now (rows .exit) ≡ conflictRows (now (book .entry)) ⌝ }
 {
     let mut places = [0u16; 64];
-    commands::index(book, &mut places);
-    conflict_rows(book, &places, rows);
+    commands::index(book, n, &mut places);
+    conflict_rows(book, &places, n, rows);
 }

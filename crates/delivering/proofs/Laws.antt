@@ -1,6 +1,6 @@
 -- What the calls that deliver answer: one law an answer.
 -- Assumes nothing.
-use mathlib.Core.Path.{_≡_, refl, sym, ap, _∙_}
+use mathlib.Core.Path.{_≡_, refl, sym, ap, subst, _∙_}
 use mathlib.Core.Bool.{Bool, true, false}
 use mathlib.Core.List.{List, _++_}
 use Prim.Native.Nat.{ℕ, _*_, _/_, _≤_, _<_}
@@ -31,10 +31,11 @@ use Rattle.recovery.specs.declared.Sets.{Sets}
 use Rattle.recovery.specs.declared.Decision.{Decision}
 use Rattle.recovery.specs.declared.Decision.the-variants.{Undecided, Decided}
 use Rattle.recovery.specs.Decisions.{decisionOf}
+use Rattle.recovery.proofs.Within.{sets-within}
 use Rattle.layout.specs.Layout.{siteSize, headOf, view}
 use Rattle.layout.specs.Good.{Good}
-use Rattle.ending.specs.Ending.{Told, RoundEnded}
-use Rattle.closings.proofs.Decisions.{sets-within, told-none, told-decided}
+use Rattle.ending.specs.Ending.{RoundEnded}
+use Rattle.ending.proofs.Telling.{told-none, told-decided}
 use Rattle.judging.specs.Outcomes.{outcome, answered, _then_}
 use Rattle.judging.specs.Judging.{tableOf, systemOf, siteIn, withSite, forSite, forSiteAndLog}
 use Rattle.judging.proofs.Demands.{then-taken, then-refused, answered-refused}
@@ -71,8 +72,8 @@ module _ (n f : ℕ) (book site : List ℕ) (m : ℕ) {k : ℕ} (q : k ≡ codeO
       unfolding fastDeliveryCall
       fast-range h = answered-refused Range _ site (first false (le-ltb m (length (commandsOf book)) (omega arith)))
 
-      pub fast-ready : m < commands → Good n (length (commandsOf book)) (take siteSize site) × (isGood (tableOf n f) ≡ true) × (m < length (commandsOf book))
-      fast-ready h = (judged .good, judged .table, omega arith)
+      pub fast-ready : m < commands → Good n commands (take siteSize site) × (isGood (tableOf n f) ≡ true) × (length (commandsOf book) ≡ commands) × (m < commands)
+      fast-ready h = (subst (λ (k : ℕ). Good n k (take siteSize site)) (sym e) (judged .good), judged .table, sym e, h)
 
       pub fast-done : m < commands → ((i : ℕ) → getD site i 0 < 256) → {r : Verdict} {b : List ℕ} {code : ℕ}
           → FastDelivered (tableOf n f) (commandsOf book) m (take siteSize site) r b → code ≡ codeOf r → outcome code (b ++ drop siteSize site) ≡ fastDeliveryCall n f book site m
@@ -95,8 +96,9 @@ pub decided-by : (t : SiteTable) (book rows log : List ℕ) {p r : ℕ} (b : Lis
     → d ≡ decisionOf (rowsSystem t (conflictRows book)) (recovery.decide (rowsSystem t (conflictRows book)) (headOf b .round) (logTo log (headOf b .position)))
 decided-by t book rows log b e ep er ed = ed ∙ (λ i. decisionOf (rowsSystem t (e i)) (recovery.decide (rowsSystem t (e i)) (er i) (logTo log (ep i))))
 
-module _ (t : SiteTable) (table : isGood t ≡ true) (book log b : List ℕ) (small : (i : ℕ) → getD log i 0 < 256)
-    (position : headOf b .position ≤ length log / entrySize) (before : goodTo log (t .sites) (length (commandsOf book)) (headOf b .position) ≡ true)
+module _ (t : SiteTable) (table : isGood t ≡ true) (book log b : List ℕ) {commands : ℕ} (count : length (commandsOf book) ≡ commands)
+    (small : (i : ℕ) → getD log i 0 < 256)
+    (position : headOf b .position ≤ length log / entrySize) (before : goodTo log (t .sites) commands (headOf b .position) ≡ true)
     {d : Decision}
     (ed : d ≡ decisionOf (rowsSystem t (conflictRows book)) (recovery.decide (rowsSystem t (conflictRows book)) (headOf b .round) (logTo log (headOf b .position)))) where
   room : headOf b .position * entrySize ≤ length log
@@ -104,24 +106,30 @@ module _ (t : SiteTable) (table : isGood t ≡ true) (book log b : List ℕ) (sm
 
   logged : (p : ℕ) → p < headOf b .position → inRangeOf (t .sites) (length (commandsOf book)) (entryOf log p) ≡ true
   logged p l =
-      left (inRangeOf (t .sites) (length (commandsOf book)) (entryOf log p)) (ltb (entries (entryOf log p .site) (entryOf log p .round) (logTo log p)) 2)
-      (all-at (headOf b .position) (goodAt log (t .sites) (length (commandsOf book))) before p l)
+      ap (λ (k : ℕ). inRangeOf (t .sites) k (entryOf log p)) count
+      ∙ left (inRangeOf (t .sites) commands (entryOf log p)) (ltb (entries (entryOf log p .site) (entryOf log p .round) (logTo log p)) 2)
+      (all-at (headOf b .position) (goodAt log (t .sites) commands) before p l)
 
   read : protocol.decision (dash t (commandsOf book)) (view t (commandsOf book) b) (logOf log) ≡ recovery.decide (dash t (commandsOf book)) (headOf b .round) (logTo log (headOf b .position))
   read = ap (recovery.decide (dash t (commandsOf book)) (headOf b .round)) (log-of-take log (headOf b .position) position)
 
-  pub within-sets : (s : Sets) → d ≡ Decided s → (withinOf (s .nc) (length (commandsOf book)) ≡ true) × (withinOf (s .c) (length (commandsOf book)) ≡ true)
-  within-sets s h = sets-within t table book (conflictRows book) log small (headOf b .position) (headOf b .round) room logged refl ed s h
+  pub within-sets : (s : Sets) → d ≡ Decided s → (withinOf (s .nc) commands ≡ true) × (withinOf (s .c) commands ≡ true)
+  within-sets s h =
+      subst (λ (k : ℕ). (withinOf (s .nc) k ≡ true) × (withinOf (s .c) k ≡ true)) count
+      (sets-within t table book (conflictRows book) log small (headOf b .position) (headOf b .round) room logged refl ed s h)
 
-  module _ (good : Good (t .sites) (length (commandsOf book)) b) where
+  module _ (good : Good (t .sites) commands b) where
+    good-book : Good (t .sites) (length (commandsOf book)) b
+    good-book = subst (λ (k : ℕ). Good (t .sites) k b) (sym count) good
+
     pub ended-undecided : {nc c : Set} {r : Verdict} {b′ : List ℕ} → d ≡ Undecided → RoundEnded (commandsOf book) false nc c b r b′ → Ended t (commandsOf book) (logOf log) b r b′
     ended-undecided {nc} {c} h o =
-        o t (logOf log) good
+        o t (logOf log) good-book
         (told-none t table book (conflictRows book) log small (headOf b .position) (headOf b .round) room logged refl ed (view t (commandsOf book) b) (logOf log) read refl nc c h)
 
     pub ended-decided : (s : Sets) {r : Verdict} {b′ : List ℕ} → d ≡ Decided s → RoundEnded (commandsOf book) true (s .nc) (s .c) b r b′ → Ended t (commandsOf book) (logOf log) b r b′
     ended-decided s h o =
-        o t (logOf log) good
+        o t (logOf log) good-book
         (told-decided t table book (conflictRows book) log small (headOf b .position) (headOf b .round) room logged refl ed (view t (commandsOf book) b) (logOf log) read refl s h)
 
 module _ (n f : ℕ) (book site log : List ℕ) {k : ℕ} (q : k ≡ codeOf (verdict (forSiteAndLog n f book true site log))) where
@@ -137,10 +145,16 @@ module _ (n f : ℕ) (book site log : List ℕ) {k : ℕ} (q : k ≡ codeOf (ver
     pub end-sized : siteSize ≤ length site
     end-sized = judged-log .0 .sized
 
-    pub end-ready : Good n (length (commandsOf book)) (take siteSize site) × (isGood (tableOf n f) ≡ true)
-        × (headOf (take siteSize site) .position ≤ length log / entrySize)
-        × (goodTo log n (length (commandsOf book)) (headOf (take siteSize site) .position) ≡ true)
-    end-ready = (judged-log .0 .good, judged-log .0 .table, judged-log .1 .position, judged-log .1 .before)
+    pub end-ready : {commands : ℕ} → commands ≡ length (commandsOf book)
+        → Good n commands (take siteSize site) × (isGood (tableOf n f) ≡ true) × (length (commandsOf book) ≡ commands)
+        × (headOf (take siteSize site) .position ≤ length log / entrySize) × (goodTo log n commands (headOf (take siteSize site) .position) ≡ true)
+    end-ready e = (
+      subst (λ (k : ℕ). Good n k (take siteSize site)) (sym e) (judged-log .0 .good),
+      judged-log .0 .table,
+      sym e,
+      judged-log .1 .position,
+      subst (λ (k : ℕ). goodTo log n k (headOf (take siteSize site) .position) ≡ true) (sym e) (judged-log .1 .before),
+    )
 
     pub end-done : ((i : ℕ) → getD site i 0 < 256) → {r : Verdict} {b : List ℕ} {code : ℕ}
         → Ended (tableOf n f) (commandsOf book) (logOf log) (take siteSize site) r b → code ≡ codeOf r → outcome code (b ++ drop siteSize site) ≡ roundEndCall n f book site log

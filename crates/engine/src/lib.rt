@@ -33,11 +33,11 @@ pub fn receive_command(
 ) -> u32
     ensures { λ r. ⌜ outcome r (now (site .exit)) ≡ receiveCommandCall sites faults (now (book .entry)) (now (site .entry)) command ⌝ }
 {
-    let code = judging::judge_site(true, sites, faults, book, &site[..]);
-    if code != 0 {
-        return code;
+    let judged = judging::judge_site(true, sites, faults, book, &site[..]);
+    if judged.code != 0 {
+        return judged.code;
     }
-    if command >= commands::count(book) {
+    if command >= judged.commands {
         return REFUSED_RANGE;
     }
     site::receive_command(&mut site[..Site::SIZE], command);
@@ -56,12 +56,12 @@ pub fn receive_acknowledgment(
 ) -> u32
     ensures { λ r. ⌜ outcome r (now (site .exit)) ≡ receiveAcknowledgmentCall sites faults (now (book .entry)) (now (site .entry)) sender round set ⌝ }
 {
-    let code = judging::judge_site(true, sites, faults, book, &site[..]);
-    if code != 0 {
-        return code;
+    let judged = judging::judge_site(true, sites, faults, book, &site[..]);
+    if judged.code != 0 {
+        return judged.code;
     }
     let acknowledged = Set { bits: set };
-    let known = acknowledged.within(commands::count(book));
+    let known = acknowledged.within(judged.commands);
     let good = (sender < sites) & (1 <= round) & (round <= Site::ROUNDS) & known;
     if !good {
         return REFUSED_RANGE;
@@ -74,12 +74,12 @@ pub fn receive_acknowledgment(
 pub fn receive_check(sites: usize, faults: usize, book: &[u8], site: &mut [u8], set: u64) -> u32
     ensures { λ r. ⌜ outcome r (now (site .exit)) ≡ receiveCheckCall sites faults (now (book .entry)) (now (site .entry)) set ⌝ }
 {
-    let code = judging::judge_site(true, sites, faults, book, &site[..]);
-    if code != 0 {
-        return code;
+    let judged = judging::judge_site(true, sites, faults, book, &site[..]);
+    if judged.code != 0 {
+        return judged.code;
     }
     let checked = Set { bits: set };
-    if !checked.within(commands::count(book)) {
+    if !checked.within(judged.commands) {
         return REFUSED_RANGE;
     }
     site::receive(&mut site[..Site::SIZE], checked);
@@ -113,12 +113,12 @@ fn next_is_third(log: &[u8], position: usize) -> bool
 pub fn log_read(sites: usize, faults: usize, book: &[u8], site: &mut [u8], log: &[u8]) -> u32
     ensures { λ r. ⌜ outcome r (now (site .exit)) ≡ logReadCall sites faults (now (book .entry)) (now (site .entry)) (now (log .entry)) ⌝ }
 {
-    let code = judging::judge_site_and_log(true, sites, faults, book, &site[..], log);
-    if code != 0 {
-        return code;
+    let judged = judging::judge_site_and_log(true, sites, faults, book, &site[..], log);
+    if judged.code != 0 {
+        return judged.code;
     }
     let position = judging::position_of(&site[..Site::SIZE]);
-    if !next_in_range(log, position, sites, commands::count(book)) {
+    if !next_in_range(log, position, sites, judged.commands) {
         return REFUSED_RANGE;
     }
     let left = position < log.len() / Entry::BYTES;

@@ -3,8 +3,7 @@
 use mathlib.Core.Path.{_≡_, refl, sym, ap, subst, _∙_}
 use mathlib.Core.Bool.{Bool, true, false, cond, not, _&&_}
 use mathlib.Core.List.{List}
-use mathlib.Core.Option.{Option, none, some}
-use Prim.Native.Nat.{ℕ, _+_, _*_, _/_, _%_, _≤_, _<_}
+use Prim.Native.Nat.{ℕ, _*_, _/_, _%_, _≤_}
 use native.Mathlib.Omega.{arith}
 use lib.Dec.{eqb, leb}
 use lib.ListN.{length, take, length-take}
@@ -13,14 +12,14 @@ use Rattle.theory.specs.Counting.{left, right, not-true, not-false}
 use Rattle.refusals.specs.declared.Refusal.{Refusal}
 use Rattle.refusals.specs.declared.Refusal.the-variants.{Book, Table, Form, Range, Size}
 use Rattle.refusals.specs.declared.Verdict.{Verdict}
-use Rattle.refusals.specs.declared.Verdict.the-variants.{Taken, Refused}
 use Rattle.refusals.specs.Refusals.{numberOf, codeOf}
 use Rattle.table.specs.declared.SiteTable.{SiteTable}
 use Rattle.table.specs.declared.Judged.the-variants as judged
-use Rattle.register.specs.declared.Command.{Command}
 use Rattle.table.specs.Table.{maxSites, goodTable, judgeTable}
 use Rattle.table.proofs.Laws.{limits}
-use Rattle.commands.specs.Book.{commandsOf, judgeBook, verdictOf, readUpTo, maxCommands}
+use Rattle.commands.specs.declared.Measured.the-variants.{Commands, Unreadable}
+use Rattle.commands.specs.Book.{commandsOf, judgeBook, measureBook}
+use Rattle.commands.proofs.Walk.{is-counted, not-counted}
 use Rattle.protocol.specs.System.{Demands, granted, _else_⨾_, verdict}
 use Rattle.entries.specs.Entries.{entrySize, goodTo}
 use Rattle.layout.specs.Layout.{siteSize, positionPlace, headOf}
@@ -28,7 +27,8 @@ use Rattle.layout.specs.Good as layout
 use Rattle.layout.specs.Good.{goodSite}
 use Rattle.lent.proofs.Judged.{site-good}
 use Rattle.judging.specs.Outcomes.{isTaken, _then_}
-use Rattle.judging.specs.Judging.{anyPosition, entriesIn, isWhole, forTable, forBook, forCall, forSite, forSiteAndLog}
+use Rattle.judging.specs.declared.Judgement.{Judgement}
+use Rattle.judging.specs.Judging.{anyPosition, entriesIn, isWhole, forTable, forBook, forCall, forSite, forSiteAndLog, Judges}
 use Rattle.judging.proofs.Demands.{Met, met, then-taken, then-code}
 
 -- The first bytes of a buffer that is long enough.
@@ -54,13 +54,23 @@ module _ (n f mask : ℕ) where
       go true s e = absurd (let z : _≡_ {A = ℕ} 0 1 = cc in omega arith)
       go false s {r} e = let q : r ≡ Table = cc in ap numberOf q
 
-pub book-judged : (s : List ℕ) {v : Verdict} {k : ℕ} → v ≡ judgeBook s → k ≡ codeOf v → k ≡ codeOf (verdict (forBook s))
-unfolding judgeBook
-book-judged s e q = q ∙ ap codeOf e ∙ go (readUpTo maxCommands s)
-  where
-    go : (o : Option (List Command)) → codeOf (verdictOf o) ≡ codeOf (verdict (isTaken (verdictOf o) else Book ⨾ granted))
-    go none = refl
-    go (some cs) = refl
+-- A refusal counts no commands; demands that are met before others leave the count to those.
+module _ {v : Verdict} (book : List ℕ) {j : Judgement} where
+  pub judges-refused : {k : ℕ} → (j .code ≡ k) × (j .commands ≡ 0) → k ≡ codeOf v → (k ≡ 0 → ⊥) → Judges v book j
+  judges-refused e q n = record { code = e .0 ∙ q; taken = λ z. absurd (n (sym (e .0) ∙ z)); refused = λ _. e .1 }
+
+  pub judges-also : {w : Verdict} → Judges w book j → j .code ≡ codeOf v → Judges v book j
+  judges-also h q = record { code = q; taken = h .taken; refused = h .refused }
+
+-- The book that was measured.
+pub book-counted : (s : List ℕ) {j : Judgement} → j .code ≡ 0 → measureBook s ≡ Commands (j .commands) → Judges (verdict (forBook s)) s j
+book-counted s e h =
+    let m = is-counted s h in
+    record { code = e ∙ (λ i. codeOf (verdict (isTaken (m .0 i) else Book ⨾ granted))); taken = λ _. m .1; refused = λ n. absurd (n e) }
+
+pub book-refused : (s : List ℕ) {j : Judgement} → (j .code ≡ 1) × (j .commands ≡ 0) → measureBook s ≡ Unreadable → Judges (verdict (forBook s)) s j
+book-refused s e h =
+    judges-refused s e (λ i. codeOf (verdict (isTaken (not-counted s h .0 i) else Book ⨾ granted))) (λ z. omega arith)
 
 -- A demand that does not hold, and one that does.
 pub demand-not : (t : Bool) (r : Refusal) (d : Demands) → not t ≡ true → numberOf r ≡ codeOf (verdict (t else r ⨾ d))

@@ -1,11 +1,14 @@
 -- What every call judges of what it is lent, in document 01's order 9, 2, 1, 3, 4, and how a lent site is seen and written.
 -- Assumes nothing.
+use mathlib.Core.Path.{_≡_}
 use mathlib.Core.Bool.{Bool, _&&_}
 use mathlib.Core.List.{List, _++_}
 use Prim.Native.Nat.{ℕ, _/_, _%_}
 use lib.Dec.{eqb, leb}
 use lib.ListN.{length, take, drop}
 use Rattle.refusals.specs.declared.Refusal.the-variants.{Book, Table, Form, Range, Size}
+use Rattle.refusals.specs.declared.Verdict.{Verdict}
+use Rattle.refusals.specs.Refusals.{codeOf}
 use Rattle.table.specs.declared.SiteTable.{SiteTable}
 use Rattle.table.specs.Table.{goodTable}
 use Rattle.commands.specs.Book.{commandsOf, judgeBook}
@@ -15,6 +18,7 @@ use Rattle.system.specs.Dash.{dash}
 use Rattle.entries.specs.Entries.{entrySize, goodTo}
 use Rattle.layout.specs.Layout.{siteSize, view, encode}
 use Rattle.layout.specs.Good.{goodSite}
+use Rattle.judging.specs.declared.Judgement.{Judgement}
 use Rattle.judging.specs.Outcomes.{isTaken}
 
 -- The site table of one site's engine, which does not know who is faulty.
@@ -32,6 +36,12 @@ entriesIn log = length log / entrySize
 -- The log does not end in a cut entry.
 abbrev pub isWhole : List ℕ → Bool
 isWhole log = eqb (length log % entrySize) 0
+
+-- What a judge answers is its verdict's number, and with it the number of commands of the book: 0 where the verdict is a refusal.
+pub record Judges (v : Verdict) (book : List ℕ) (j : Judgement) : Type 0 where
+  pub code : j .code ≡ codeOf v
+  pub taken : j .code ≡ 0 → j .commands ≡ length (commandsOf book)
+  pub refused : (j .code ≡ 0 → ⊥) → j .commands ≡ 0
 
 -- The site table and the book.
 abbrev pub forTable : ℕ → ℕ → ℕ → Demands

@@ -10,7 +10,7 @@ use lib.Dec.{eqb, leb, ltb}
 use lib.ListN.{length}
 use borrow.Author.Tests.{ltb-true, lt-ltb, leb-true, le-leb, eqb-true, eq-eqb}
 use Rattle.theory.specs.Sets.{all}
-use Rattle.theory.specs.Counting.{both, left, right, either, true-or, or-true, lt-or-le, all-at, all-of, all-more, all-not}
+use Rattle.theory.specs.Counting.{both, left, right, either, true-or, or-true, lt-or-le, all-at, all-of}
 use Rattle.wire.specs.Wire.{readLe}
 use Rattle.sets.specs.declared.Set.{Set}
 use Rattle.sets.specs.Sets.{capacity, withinOf, readSet}
@@ -21,16 +21,6 @@ use Rattle.register.proofs.Lent.{view-within}
 use Rattle.layout.specs.declared.Site.{Site}
 use Rattle.layout.specs.Layout.{siteSize, phasePlace, countPlace, positionPlace, ncPlace, cPlace, registerPlace, siteRounds, heardSets, heardAt, slot, headOf, proposalOf}
 use Rattle.layout.specs.Good.{GoodHead, GoodTables, Good, goodHead, goodHeard, goodSlot, goodPhase, goodSite}
-
--- A loop over a test: one that fails, one more that holds, and all.
-pub loop-not : (n : ℕ) (p : ℕ → Bool) (k : ℕ) {t : Bool} → k < n → t ≡ p k → t ≡ false → false ≡ all n p
-loop-not n p k l e h = sym (all-not n p k l (sym e ∙ h))
-
-pub loop-more : (k : ℕ) (p : ℕ → Bool) {t : Bool} → all k p ≡ true → t ≡ p k → t ≡ true → all (k + 1) p ≡ true
-loop-more k p h e l = all-more k p h (sym e ∙ l)
-
-pub loop-done : (n k : ℕ) (p : ℕ → Bool) → all k p ≡ true → k ≡ n → true ≡ all n p
-loop-done n k p h e = sym (ap (λ (m : ℕ). all m p) (sym e) ∙ h)
 
 -- What the code of judge makes of its parts, where the size is right.
 pub judged : (sites commands entries : ℕ) (b : List ℕ) {h : Site} {p e w d g : Bool} → length b ≡ siteSize → h ≡ headOf b → p ≡ goodPhase b → g ≡ goodHead commands h

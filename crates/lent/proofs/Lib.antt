@@ -1,4 +1,4 @@
 pub mod Judged
 pub mod Blank
 pub mod RoundTrip
-pub mod Heard
+pub mod Tables

@@ -1,3 +1,3 @@
 pub mod Fresh
 pub mod Range
-pub mod Joined
+pub mod Clear

@@ -12,7 +12,7 @@ ghost use Rattle.protocol.specs.Site as protocol;
 ghost use Rattle.system.specs.Dash.{dash};
 ghost use Rattle.layout.specs.Layout.{siteSize, heardSets};
 ghost use Rattle.lent.specs.Fresh.{freshHead};
-ghost use Rattle.lent.specs.Joined.{joined};
+ghost use Rattle.lent.specs.Clear.{clearFrom, withinAt, recordedAt};
 ghost use Rattle.layout.specs.Good.{goodHead, goodHeard, goodSlot, goodPhase, goodSite, Holds};
 use layout::Phase;
 use layout::Site;
@@ -49,19 +49,36 @@ fn judge_header(header: Site, commands: usize) -> bool
         & proposed.c.within(commands)
 }
 
-// The commands of the sets heard from one place up to another, all together.
-fn heard_between(site: &[u8], from: usize, to: usize) -> Set
-    requires { ⌜ (length (now site) ≡ siteSize) × (from ≤ to) × (to ≤ heardSets) ⌝ }
-    ensures { λ r. ⌜ r ≡ joined (now (site .entry)) from (to - from) ⌝ }
+// Whether the bytes from one place up to another are 0: found by their union, without a branch a byte.
+fn is_clear(site: &[u8], from: usize, to: usize) -> bool
+    requires { ⌜ (from ≤ to) × (to ≤ length (now site)) ⌝ }
+    ensures { λ r. ⌜ r ≡ clearFrom (now (site .entry)) from (to - from) ⌝ }
 {
-    let mut all = Set::empty();
-    let mut k = from;
-    while k < to {
+    let mut found: u8 = 0;
+    let mut at = from;
+    while at < to {
+        found = found | site[at];
+        at += 1;
+    }
+    found == 0
+}
+
+// Whether the first n sets heard are within the book: found by the union of what is past it. A book of 64 commands has all that a set can hold.
+fn heard_within(site: &[u8], n: usize, commands: usize) -> bool
+    requires { ⌜ (length (now site) ≡ siteSize) × (n ≤ heardSets) ⌝ }
+    ensures { λ r. ⌜ r ≡ all n (withinAt commands (now (site .entry))) ⌝ }
+{
+    if commands >= Set::CAPACITY {
+        return true;
+    }
+    let mut beyond: u64 = 0;
+    let mut k = 0;
+    while k < n {
         let set = Set::read(site, Site::HEARD + Set::BYTES * k);
-        all = all.union(set);
+        beyond = beyond | (set.bits >> commands);
         k += 1;
     }
-    all
+    beyond == 0
 }
 
 // Whether every set heard is within the book, and those of senders that there are not are empty.
@@ -70,34 +87,35 @@ fn judge_heard(site: &[u8], sites: usize, commands: usize) -> bool
     ensures { λ r. ⌜ r ≡ all heardSets (goodHeard sites commands (now (site .entry))) ⌝ }
 {
     let senders = Site::ROUNDS * sites;
-    let heard = heard_between(site, 0, senders);
-    let silent = heard_between(site, senders, Site::HEARD_SETS);
-    heard.within(commands) & silent.is_empty()
+    let silent = Site::HEARD + Set::BYTES * senders;
+    heard_within(site, senders, commands) & is_clear(site, silent, Site::REGISTER)
 }
 
-// Whether the place k for a delivery holds a command of the book where it is recorded, and else nothing.
-fn judge_slot(site: &[u8], commands: usize, recorded: usize, k: usize) -> bool
-    requires { ⌜ (length (now site) ≡ siteSize) × (k < capacity) ⌝ }
-    ensures { λ r. ⌜ r ≡ goodSlot commands recorded (now (site .entry)) k ⌝ }
+// Whether the first n places for a delivery hold commands of the book.
+fn recorded_within(site: &[u8], n: usize, commands: usize) -> bool
+    requires { ⌜ (length (now site) ≡ siteSize) × (n ≤ capacity) ⌝ }
+    ensures { λ r. ⌜ r ≡ all n (recordedAt commands (now (site .entry))) ⌝ }
 {
-    let place = Site::DELIVERIES + Site::DELIVERY * k;
-    let command = wire::get1(site, place) as usize;
-    let answer = wire::get4(site, place + 1);
-    (k < recorded) & (command < commands) | (recorded <= k) & (command == 0) & (answer == 0)
+    let mut good = true;
+    let mut k = 0;
+    while k < n {
+        let command = wire::get1(site, Site::DELIVERIES + Site::DELIVERY * k);
+        good = good & ((command as usize) < commands);
+        k += 1;
+    }
+    good
 }
 
+// Whether the recorded places for a delivery hold commands of the book, and those after them nothing.
 fn judge_deliveries(site: &[u8], commands: usize, recorded: usize) -> bool
     requires { ⌜ length (now site) ≡ siteSize ⌝ }
     ensures { λ r. ⌜ r ≡ all capacity (goodSlot commands recorded (now (site .entry))) ⌝ }
 {
-    let mut k = 0;
-    while k < Set::CAPACITY {
-        if !judge_slot(site, commands, recorded, k) {
-            return false;
-        }
-        k += 1;
+    if recorded >= Set::CAPACITY {
+        return recorded_within(site, Set::CAPACITY, commands);
     }
-    true
+    let rest = Site::DELIVERIES + Site::DELIVERY * recorded;
+    recorded_within(site, recorded, commands) & is_clear(site, rest, Site::SIZE)
 }
 
 // Whether lent bytes are a site, for so many sites, commands and log entries.

@@ -38,9 +38,9 @@ pub fn status(sites: usize, faults: usize, book: &[u8], site: &[u8], out: &mut [
     ensures { λ r. ⌜ outcome r (now (out .exit)) ≡ statusCall sites faults (now (book .entry)) (now (site .entry)) (now (out .entry)) ⌝ }
 {
     let enough = out.len() >= STATUS_BYTES;
-    let code = judging::judge_site(enough, sites, faults, book, site);
-    if code != 0 {
-        return code;
+    let judged = judging::judge_site(enough, sites, faults, book, site);
+    if judged.code != 0 {
+        return judged.code;
     }
     write_status(&site[..Site::SIZE], out);
     0
@@ -68,9 +68,9 @@ pub fn bike(
     ensures { λ r. ⌜ outcome r (now (out .exit)) ≡ bikeCall sites faults (now (book .entry)) (now (site .entry)) bike (now (out .entry)) ⌝ }
 {
     let enough = out.len() >= Bike::SIZE;
-    let code = judging::judge_site(enough, sites, faults, book, site);
-    if code != 0 {
-        return code;
+    let judged = judging::judge_site(enough, sites, faults, book, site);
+    if judged.code != 0 {
+        return judged.code;
     }
     if bike >= Bike::COUNT {
         return judging::REFUSED_RANGE;
@@ -112,9 +112,9 @@ pub fn delivery(
     ensures { λ r. ⌜ outcome r (now (out .exit)) ≡ deliveryCall sites faults (now (book .entry)) (now (site .entry)) k (now (out .entry)) ⌝ }
 {
     let enough = out.len() >= Site::DELIVERY;
-    let code = judging::judge_site(enough, sites, faults, book, site);
-    if code != 0 {
-        return code;
+    let judged = judging::judge_site(enough, sites, faults, book, site);
+    if judged.code != 0 {
+        return judged.code;
     }
     if k >= count(&site[..Site::SIZE]) {
         return judging::REFUSED_RANGE;

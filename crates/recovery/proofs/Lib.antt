@@ -2,3 +2,4 @@ pub mod Counts
 pub mod Sources
 pub mod Decided
 pub mod Members
+pub mod Within

@@ -105,10 +105,11 @@ fn print_noted(
         × Worked table (commandsOf (now (book .entry))) (stepsOf (now (steps .entry)))
         (working (now (sites .entry)) (now (log .entry)) (now (sent .entry))) (working (now (sites .exit)) (now (log .exit)) (now (sent .exit))) ⌝ }
 {
+    let commands = commands::count(book);
     let mut places = [0u16; 64];
-    commands::index(book, &mut places);
+    commands::index(book, commands, &mut places);
     let mut rows = [0u64; 64];
-    conflicts::conflict_rows(book, &places, &mut rows);
+    conflicts::conflict_rows(book, &places, commands, &mut rows);
     print_in(sites, log, sent, table, book, &places, &rows, steps, out)
 }
 

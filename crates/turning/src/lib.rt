@@ -33,12 +33,12 @@ const SET: usize = 1;
 const ENTRY: usize = 9;
 
 // Whether no two undelivered commands of a site conflict.
-fn is_calm(book: &[u8], site: &[u8]) -> bool
-    requires { ⌜ length (now site) ≡ siteSize ⌝ }
+fn is_calm(book: &[u8], commands: usize, site: &[u8]) -> bool
+    requires { ⌜ (commands ≡ length (commandsOf (now book))) × (length (now site) ≡ siteSize) ⌝ }
     ensures { λ r. ⌜ ((t : SiteTable) → r ≡ protocol.acknowledges (dash t (commandsOf (now (book .entry)))) (view t (commandsOf (now (book .entry))) (now (site .entry)))) ⌝ }
 {
     let mut rows = [0u64; 64];
-    conflicts::conflicts_of(book, &mut rows);
+    conflicts::conflicts_of(book, commands, &mut rows);
     let received = Set::read(site, Site::RECEIVED);
     let delivered = Set::read(site, Site::DELIVERED);
     calm::is_free(&rows, received.without(delivered))
@@ -119,14 +119,14 @@ pub fn turn(
     ensures { λ r. ⌜ outcome r (buffers (now (site .exit)) (now (out .exit))) ≡ turnCall sites faults (now (book .entry)) (now (site .entry)) (now (log .entry)) own (now (out .entry)) ⌝ }
 {
     let enough = out.len() >= TURN_BYTES;
-    let code = judging::judge_site_and_log(enough, sites, faults, book, &site[..], log);
-    if code != 0 {
-        return code;
+    let judged = judging::judge_site_and_log(enough, sites, faults, book, &site[..], log);
+    if judged.code != 0 {
+        return judged.code;
     }
     if own >= sites {
         return REFUSED_RANGE;
     }
-    let free = is_calm(book, &site[..Site::SIZE]);
+    let free = is_calm(book, judged.commands, &site[..Site::SIZE]);
     let round = round_of(&site[..Site::SIZE]);
     let appended = entries::entries_of(log, log.len() / Entry::BYTES, own, round);
     let answer = site::take_turn(&mut site[..Site::SIZE], free, appended >= 2);

@@ -6,9 +6,6 @@ use Rattle.conflicts.proofs.Gathering.{gathered-none}
 use Rattle.conflicts.proofs.conflict_rows.Statement.{statement}
 use Rattle.conflicts.proofs.conflict_rows.Tie as tie
 
-count-requires : tie.Need-count-requires
-count-requires c κs = search needs
-
 slice-aggregate-gather : tie.Need-slice-aggregate-gather
 slice-aggregate-gather c = search needs
 
@@ -19,7 +16,7 @@ slice-aggregate-gather-3 : tie.Need-slice-aggregate-gather-3
 slice-aggregate-gather-3 c = search needs
 
 gather-requires : tie.Need-gather-requires
-gather-requires c κs = let s = now (c .before .before .before .before .before .before .before .args .book) in (c .before .before .before .count .ensures, c .before .before .before .before .before .before .before .pre .1, gathered-none anyKind s, gathered-none isAdd s, gathered-none isRead s)
+gather-requires c κs = let s = now (c .before .before .before .before .before .before .args .book) in (c .before .before .before .before .before .before .pre .1, c .before .before .before .before .before .before .pre .2, gathered-none anyKind s, gathered-none isAdd s, gathered-none isRead s)
 
 slice-aggregate-fill-rows : tie.Need-slice-aggregate-fill-rows
 slice-aggregate-fill-rows c = search needs
@@ -43,7 +40,6 @@ pub conflict-rows-spec : {M : Type 1} → statement M
 conflict-rows-spec =
     tie.close
     (tie.spec
-    count-requires
     slice-aggregate-gather
     slice-aggregate-gather-2
     slice-aggregate-gather-3

@@ -9,13 +9,13 @@ slice-aggregate-index : tie.Need-slice-aggregate-index
 slice-aggregate-index c = search needs
 
 index-requires : tie.Need-index-requires
-index-requires c κs = few-commands (now (c .before .before .before .args .book))
+index-requires c κs = (c .before .before .before .pre .1, few-commands (now (c .before .before .before .args .book)))
 
 slice-aggregate-conflict-rows : tie.Need-slice-aggregate-conflict-rows
 slice-aggregate-conflict-rows c = search needs
 
 conflict-rows-requires : tie.Need-conflict-rows-requires
-conflict-rows-requires c κs = let s = now (c .before .before .before .before .before .before .before .args .book) in (c .before .before .before .before .before .before .before .pre, index-noted s _ (few-commands s) (c .before .before .before .index .ensures))
+conflict-rows-requires c κs = let s = now (c .before .before .before .before .before .before .before .args .book) in (c .before .before .before .before .before .before .before .pre .0, c .before .before .before .before .before .before .before .pre .1, index-noted s _ (few-commands s) (c .before .before .before .index .ensures))
 
 same-length : tie.Need-same-length
 same-length c = search needs

@@ -10,11 +10,11 @@ use borrow.Author.Needs.{needs}
 use Rattle.delivering.proofs.decide.Statement.{statement}
 use Rattle.delivering.proofs.decide.Tie as tie
 
-slice-aggregate-conflicts-of : tie.Need-slice-aggregate-conflicts-of
-slice-aggregate-conflicts-of c = search needs
+slice-aggregate-conflict-rows : tie.Need-slice-aggregate-conflict-rows
+slice-aggregate-conflict-rows c = search needs
 
-conflicts-of-requires : tie.Need-conflicts-of-requires
-conflicts-of-requires c κs = search needs
+conflict-rows-requires : tie.Need-conflict-rows-requires
+conflict-rows-requires c κs = let p = c .before .before .before .before .before .pre in (search needs, sym (p .4), p .3)
 
 position-of-requires : tie.Need-position-of-requires
 position-of-requires c κs = search needs
@@ -27,18 +27,21 @@ slice-aggregate-decide c = search needs
 
 decide-requires : tie.Need-decide-requires
 decide-requires c κs =
-    let s = c .before .before .before .before .before .before .before .before .before in
+    let s = c .before .before .before .before .before .before .before .before .before .before in
     (s .pre .1, subst (λ (p : ℕ). p * entrySize ≤ length (now (s .args .log))) (sym (c .before .before .position-of .ensures)) (s .pre .2), search needs)
 
 returns : tie.Need-returns
-returns c = let s = c .before .before .before .before .before .before .before .before .before .before in decided-by (s .args .table) (now (s .args .book)) _ (now (s .args .log)) (now (s .args .site)) (c .before .before .before .before .before .conflicts-of .ensures) (c .before .before .before .position-of .ensures) (c .before .before .round-of .ensures) (c .decide .ensures)
+returns c =
+    let s = c .before .before .before .before .before .before .before .before .before .before .before in
+    decided-by (s .args .table) (now (s .args .book)) _ (now (s .args .log)) (now (s .args .site)) (c .before .before .before .before .before .conflict-rows .ensures) (c .before .before .before .position-of .ensures) (c .before .before .round-of .ensures)
+    (c .decide .ensures)
 
 pub decide-spec : {M : Type 1} → statement M
 decide-spec =
     tie.close
     (tie.spec
-    slice-aggregate-conflicts-of
-    conflicts-of-requires
+    slice-aggregate-conflict-rows
+    conflict-rows-requires
     position-of-requires
     round-of-requires
     slice-aggregate-decide

@@ -17,19 +17,16 @@ same-length : tie.Need-same-length
 same-length c = refl
 
 returns : tie.Need-returns
-returns c = let a = c .before .before .before .before .before .before .args in read-refused (a .sites) (a .faults) (now (a .book)) (now (a .site)) (now (a .log)) (c .before .judge-site-and-log .ensures) (c .if1 .taken)
+returns c = let a = c .before .before .before .before .before .before .before .args in read-refused (a .sites) (a .faults) (now (a .book)) (now (a .site)) (now (a .log)) (c .before .before .judge-site-and-log .ensures .code) (c .if1 .taken)
 
 slice-reshare-prefix-position-of : tie.Need-slice-reshare-prefix-position-of
-slice-reshare-prefix-position-of c = let a = c .before .before .before .before .before .before .args in read-sized (a .sites) (a .faults) (now (a .book)) (now (a .site)) (now (a .log)) (c .before .judge-site-and-log .ensures) (c .if1 .left)
+slice-reshare-prefix-position-of c = let a = c .before .before .before .before .before .before .before .args in read-sized (a .sites) (a .faults) (now (a .book)) (now (a .site)) (now (a .log)) (c .before .before .judge-site-and-log .ensures .code) (c .if1 .left)
 
 slice-aggregate-position-of : tie.Need-slice-aggregate-position-of
-slice-aggregate-position-of c = let a = c .before .before .before .before .before .before .before .args in first-length siteSize (now (a .site)) (read-sized (a .sites) (a .faults) (now (a .book)) (now (a .site)) (now (a .log)) (c .before .before .judge-site-and-log .ensures) (c .before .if1 .left))
+slice-aggregate-position-of c = let a = c .before .before .before .before .before .before .before .before .args in first-length siteSize (now (a .site)) (read-sized (a .sites) (a .faults) (now (a .book)) (now (a .site)) (now (a .log)) (c .before .before .before .judge-site-and-log .ensures .code) (c .before .if1 .left))
 
 position-of-requires : tie.Need-position-of-requires
-position-of-requires c κs = let a = c .before .before .before .before .before .before .before .args in sym (first-length siteSize (now (a .site)) (read-sized (a .sites) (a .faults) (now (a .book)) (now (a .site)) (now (a .log)) (c .before .before .judge-site-and-log .ensures) (c .before .if1 .left)))
-
-count-requires : tie.Need-count-requires
-count-requires c κs = search needs
+position-of-requires c κs = let a = c .before .before .before .before .before .before .before .before .args in sym (first-length siteSize (now (a .site)) (read-sized (a .sites) (a .faults) (now (a .book)) (now (a .site)) (now (a .log)) (c .before .before .before .judge-site-and-log .ensures .code) (c .before .if1 .left)))
 
 next-in-range-requires : tie.Need-next-in-range-requires
 next-in-range-requires c κs = search needs
@@ -38,19 +35,19 @@ same-length-2 : tie.Need-same-length-2
 same-length-2 c = refl
 
 returns-2 : tie.Need-returns-2
-returns-2 c = let a = c .before .before .before .before .before .before .before .before .before .before .before .args in read-range (a .sites) (a .faults) (now (a .book)) (now (a .site)) (now (a .log)) (c .before .before .before .before .before .before .judge-site-and-log .ensures) (c .before .before .before .before .before .if1 .left) (c .before .before .before .position-of .ensures) (c .before .before .count .ensures) (c .before .next-in-range .ensures) (c .if2 .taken)
+returns-2 c = let a = c .before .before .before .before .before .before .before .before .before .before .before .args in read-range (a .sites) (a .faults) (now (a .book)) (now (a .site)) (now (a .log)) (c .before .before .before .before .before .before .judge-site-and-log .ensures .code) (c .before .before .before .before .if1 .left) (c .before .before .position-of .ensures) (c .before .before .before .before .before .before .judge-site-and-log .ensures .taken (c .before .before .before .before .if1 .left)) (c .before .next-in-range .ensures) (c .if2 .taken)
 
 next-is-third-requires : tie.Need-next-is-third-requires
 next-is-third-requires c κs = search needs
 
 slice-relend-prefix-read-entry : tie.Need-slice-relend-prefix-read-entry
-slice-relend-prefix-read-entry c = let a = c .before .before .before .before .before .before .before .before .before .before .before .before .args in read-sized (a .sites) (a .faults) (now (a .book)) (now (a .site)) (now (a .log)) (c .before .before .before .before .before .before .before .judge-site-and-log .ensures) (c .before .before .before .before .before .before .if1 .left)
+slice-relend-prefix-read-entry c = let a = c .before .before .before .before .before .before .before .before .before .before .before .before .args in read-sized (a .sites) (a .faults) (now (a .book)) (now (a .site)) (now (a .log)) (c .before .before .before .before .before .before .before .judge-site-and-log .ensures .code) (c .before .before .before .before .before .if1 .left)
 
 slice-aggregate-read-entry : tie.Need-slice-aggregate-read-entry
-slice-aggregate-read-entry c = let a = c .before .before .before .before .before .before .before .before .before .before .before .before .before .args in first-length siteSize (now (a .site)) (read-sized (a .sites) (a .faults) (now (a .book)) (now (a .site)) (now (a .log)) (c .before .before .before .before .before .before .before .before .judge-site-and-log .ensures) (c .before .before .before .before .before .before .before .if1 .left))
+slice-aggregate-read-entry c = let a = c .before .before .before .before .before .before .before .before .before .before .before .before .before .args in first-length siteSize (now (a .site)) (read-sized (a .sites) (a .faults) (now (a .book)) (now (a .site)) (now (a .log)) (c .before .before .before .before .before .before .before .before .judge-site-and-log .ensures .code) (c .before .before .before .before .before .before .if1 .left))
 
 read-entry-requires : tie.Need-read-entry-requires
-read-entry-requires c κs = let a = c .before .before .before .before .before .before .before .before .before .before .before .before .before .args in (sym (first-length siteSize (now (a .site)) (read-sized (a .sites) (a .faults) (now (a .book)) (now (a .site)) (now (a .log)) (c .before .before .before .before .before .before .before .before .judge-site-and-log .ensures) (c .before .before .before .before .before .before .before .if1 .left))), λ _. read-early (a .sites) (a .faults) (now (a .book)) (now (a .site)) (now (a .log)) (c .before .before .before .before .before .before .before .before .judge-site-and-log .ensures) (c .before .before .before .before .before .before .before .if1 .left))
+read-entry-requires c κs = let a = c .before .before .before .before .before .before .before .before .before .before .before .before .before .args in (sym (first-length siteSize (now (a .site)) (read-sized (a .sites) (a .faults) (now (a .book)) (now (a .site)) (now (a .log)) (c .before .before .before .before .before .before .before .before .judge-site-and-log .ensures .code) (c .before .before .before .before .before .before .if1 .left))), λ _. read-early (a .sites) (a .faults) (now (a .book)) (now (a .site)) (now (a .log)) (c .before .before .before .before .before .before .before .before .judge-site-and-log .ensures .code) (c .before .before .before .before .before .before .if1 .left))
 
 code-requires : tie.Need-code-requires
 code-requires c κs = search needs
@@ -59,7 +56,7 @@ same-length-3 : tie.Need-same-length-3
 same-length-3 c = let a = c .before .before .before .before .before .before .before .before .before .before .before .before .before .before .before .before .before .args in length-front (now (a .site)) (c .before .before .before .read-entry .last .0) siteSize (c .before .before .before .read-entry .kept .0)
 
 returns-3 : tie.Need-returns-3
-returns-3 c = let a = c .before .before .before .before .before .before .before .before .before .before .before .before .before .before .before .before .before .args in read-done (a .sites) (a .faults) (now (a .book)) (now (a .site)) (now (a .log)) (c .before .before .before .before .before .before .before .before .before .before .before .before .judge-site-and-log .ensures) (c .before .before .before .before .before .before .before .before .before .before .before .if1 .left) (c .before .before .before .before .before .before .before .before .before .position-of .ensures) (c .before .before .before .before .before .before .before .before .count .ensures) (c .before .before .before .before .before .before .before .next-in-range .ensures) (c .before .before .before .before .before .before .if2 .left) (λ i. c .before .before .before .before .before .before .before .before .before .before .before .before .before .before .before .slice-known .given i .fits) (c .before .before .before .before .before .next-is-third .ensures) (c .before .before .before .read-entry .ensures) (c .code .ensures)
+returns-3 c = let a = c .before .before .before .before .before .before .before .before .before .before .before .before .before .before .before .before .before .args in read-done (a .sites) (a .faults) (now (a .book)) (now (a .site)) (now (a .log)) (c .before .before .before .before .before .before .before .before .before .before .before .before .judge-site-and-log .ensures .code) (c .before .before .before .before .before .before .before .before .before .before .if1 .left) (c .before .before .before .before .before .before .before .before .position-of .ensures) (c .before .before .before .before .before .before .before .before .before .before .before .before .judge-site-and-log .ensures .taken (c .before .before .before .before .before .before .before .before .before .before .if1 .left)) (c .before .before .before .before .before .before .before .next-in-range .ensures) (c .before .before .before .before .before .before .if2 .left) (λ i. c .before .before .before .before .before .before .before .before .before .before .before .before .before .before .before .slice-known .given i .fits) (c .before .before .before .before .before .next-is-third .ensures) (c .before .before .before .read-entry .ensures) (c .code .ensures)
 
 pub log-read-spec : {M : Type 1} → statement M
 log-read-spec =
@@ -71,7 +68,6 @@ log-read-spec =
     slice-reshare-prefix-position-of
     slice-aggregate-position-of
     position-of-requires
-    count-requires
     next-in-range-requires
     same-length-2
     returns-2

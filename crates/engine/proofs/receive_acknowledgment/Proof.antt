@@ -17,10 +17,7 @@ same-length : tie.Need-same-length
 same-length c = refl
 
 returns : tie.Need-returns
-returns c = let a = c .before .before .before .before .before .args in acknowledgment-refused (a .sites) (a .faults) (now (a .book)) (now (a .site)) (c .before .judge-site .ensures) (a .sender) (a .round) (a .set) (c .if1 .taken)
-
-count-requires : tie.Need-count-requires
-count-requires c κs = search needs
+returns c = let a = c .before .before .before .before .before .before .args in acknowledgment-refused (a .sites) (a .faults) (now (a .book)) (now (a .site)) (c .before .before .judge-site .ensures .code) (a .sender) (a .round) (a .set) (c .if1 .taken)
 
 within-requires : tie.Need-within-requires
 within-requires c κs = search needs
@@ -29,25 +26,25 @@ same-length-2 : tie.Need-same-length-2
 same-length-2 c = refl
 
 returns-2 : tie.Need-returns-2
-returns-2 c = let a = c .before .before .before .before .before .before .before .before .args in acknowledgment-range (a .sites) (a .faults) (now (a .book)) (now (a .site)) (c .before .before .before .before .judge-site .ensures) (a .sender) (a .round) (a .set) (c .before .before .before .if1 .left) (c .before .before .count .ensures) (c .before .within .ensures) (c .if2 .taken)
+returns-2 c = let a = c .before .before .before .before .before .before .before .before .args in acknowledgment-range (a .sites) (a .faults) (now (a .book)) (now (a .site)) (c .before .before .before .before .judge-site .ensures .code) (a .sender) (a .round) (a .set) (c .before .before .if1 .left) (c .before .before .before .before .judge-site .ensures .taken (c .before .before .if1 .left)) (c .before .within .ensures) (c .if2 .taken)
 
 slice-relend-prefix-hear : tie.Need-slice-relend-prefix-hear
-slice-relend-prefix-hear c = let a = c .before .before .before .before .before .before .before .before .args in sized (a .sites) (a .faults) (now (a .book)) (now (a .site)) (c .before .before .before .before .judge-site .ensures) (c .before .before .before .if1 .left)
+slice-relend-prefix-hear c = let a = c .before .before .before .before .before .before .before .before .args in sized (a .sites) (a .faults) (now (a .book)) (now (a .site)) (c .before .before .before .before .judge-site .ensures .code) (c .before .before .if1 .left)
 
 slice-aggregate-hear : tie.Need-slice-aggregate-hear
-slice-aggregate-hear c = let a = c .before .before .before .before .before .before .before .before .before .args in first-length siteSize (now (a .site)) (sized (a .sites) (a .faults) (now (a .book)) (now (a .site)) (c .before .before .before .before .before .judge-site .ensures) (c .before .before .before .before .if1 .left))
+slice-aggregate-hear c = let a = c .before .before .before .before .before .before .before .before .before .args in first-length siteSize (now (a .site)) (sized (a .sites) (a .faults) (now (a .book)) (now (a .site)) (c .before .before .before .before .before .judge-site .ensures .code) (c .before .before .before .if1 .left))
 
 hear-requires : tie.Need-hear-requires
 hear-requires c κs =
     let a = c .before .before .before .before .before .before .before .before .before .args in
-    let h = hear-ready (a .sites) (a .faults) (now (a .book)) (now (a .site)) (c .before .before .before .before .before .judge-site .ensures) (a .sender) (a .round) (a .set) (c .before .before .before .before .if1 .left) (c .before .before .before .count .ensures) (c .before .before .within .ensures) (c .before .if2 .left) in
-    (sym (first-length siteSize (now (a .site)) (sized (a .sites) (a .faults) (now (a .book)) (now (a .site)) (c .before .before .before .before .before .judge-site .ensures) (c .before .before .before .before .if1 .left))), h .0, h .1, h .2)
+    let h = hear-ready (a .sites) (a .faults) (now (a .book)) (now (a .site)) (c .before .before .before .before .before .judge-site .ensures .code) (a .sender) (a .round) (a .set) (c .before .before .before .if1 .left) (c .before .before .before .before .before .judge-site .ensures .taken (c .before .before .before .if1 .left)) (c .before .before .within .ensures) (c .before .if2 .left) in
+    (sym (first-length siteSize (now (a .site)) (sized (a .sites) (a .faults) (now (a .book)) (now (a .site)) (c .before .before .before .before .before .judge-site .ensures .code) (c .before .before .before .if1 .left))), h .0, h .1, h .2)
 
 same-length-3 : tie.Need-same-length-3
 same-length-3 c = let a = c .before .before .before .before .before .before .before .before .before .before .before .before .args in length-front (now (a .site)) (c .before .before .hear .last .0) siteSize (c .before .before .hear .kept .0)
 
 returns-3 : tie.Need-returns-3
-returns-3 c = let a = c .before .before .before .before .before .before .before .before .before .before .before .before .args in acknowledgment-taken (a .sites) (a .faults) (now (a .book)) (now (a .site)) (c .before .before .before .before .before .before .before .before .judge-site .ensures) (a .sender) (a .round) (a .set) (c .before .before .before .before .before .before .before .if1 .left) (c .before .before .before .before .before .before .count .ensures) (c .before .before .before .before .before .within .ensures) (c .before .before .before .before .if2 .left) (c .before .before .hear .ensures)
+returns-3 c = let a = c .before .before .before .before .before .before .before .before .before .before .before .before .args in acknowledgment-taken (a .sites) (a .faults) (now (a .book)) (now (a .site)) (c .before .before .before .before .before .before .before .before .judge-site .ensures .code) (a .sender) (a .round) (a .set) (c .before .before .before .before .before .before .if1 .left) (c .before .before .before .before .before .before .before .before .judge-site .ensures .taken (c .before .before .before .before .before .before .if1 .left)) (c .before .before .before .before .before .within .ensures) (c .before .before .before .before .if2 .left) (c .before .before .hear .ensures)
 
 pub receive-acknowledgment-spec : {M : Type 1} → statement M
 receive-acknowledgment-spec =
@@ -56,7 +53,6 @@ receive-acknowledgment-spec =
     judge-site-requires
     same-length
     returns
-    count-requires
     within-requires
     same-length-2
     returns-2

@@ -17,10 +17,7 @@ same-length : tie.Need-same-length
 same-length c = refl
 
 returns : tie.Need-returns
-returns c = let a = c .before .before .before .before .before .args in check-refused (a .sites) (a .faults) (now (a .book)) (now (a .site)) (c .before .judge-site .ensures) (a .set) (c .if1 .taken)
-
-count-requires : tie.Need-count-requires
-count-requires c κs = search needs
+returns c = let a = c .before .before .before .before .before .before .args in check-refused (a .sites) (a .faults) (now (a .book)) (now (a .site)) (c .before .before .judge-site .ensures .code) (a .set) (c .if1 .taken)
 
 within-requires : tie.Need-within-requires
 within-requires c κs = search needs
@@ -29,22 +26,22 @@ same-length-2 : tie.Need-same-length-2
 same-length-2 c = refl
 
 returns-2 : tie.Need-returns-2
-returns-2 c = let a = c .before .before .before .before .before .before .before .before .args in check-range (a .sites) (a .faults) (now (a .book)) (now (a .site)) (c .before .before .before .before .judge-site .ensures) (a .set) (c .before .before .before .if1 .left) (c .before .before .count .ensures) (c .before .within .ensures) (c .if2 .taken)
+returns-2 c = let a = c .before .before .before .before .before .before .before .before .args in check-range (a .sites) (a .faults) (now (a .book)) (now (a .site)) (c .before .before .before .before .judge-site .ensures .code) (a .set) (c .before .before .if1 .left) (c .before .before .before .before .judge-site .ensures .taken (c .before .before .if1 .left)) (c .before .within .ensures) (c .if2 .taken)
 
 slice-relend-prefix-receive : tie.Need-slice-relend-prefix-receive
-slice-relend-prefix-receive c = let a = c .before .before .before .before .before .before .before .before .args in sized (a .sites) (a .faults) (now (a .book)) (now (a .site)) (c .before .before .before .before .judge-site .ensures) (c .before .before .before .if1 .left)
+slice-relend-prefix-receive c = let a = c .before .before .before .before .before .before .before .before .args in sized (a .sites) (a .faults) (now (a .book)) (now (a .site)) (c .before .before .before .before .judge-site .ensures .code) (c .before .before .if1 .left)
 
 slice-aggregate-receive : tie.Need-slice-aggregate-receive
-slice-aggregate-receive c = let a = c .before .before .before .before .before .before .before .before .before .args in first-length siteSize (now (a .site)) (sized (a .sites) (a .faults) (now (a .book)) (now (a .site)) (c .before .before .before .before .before .judge-site .ensures) (c .before .before .before .before .if1 .left))
+slice-aggregate-receive c = let a = c .before .before .before .before .before .before .before .before .before .args in first-length siteSize (now (a .site)) (sized (a .sites) (a .faults) (now (a .book)) (now (a .site)) (c .before .before .before .before .before .judge-site .ensures .code) (c .before .before .before .if1 .left))
 
 receive-requires : tie.Need-receive-requires
-receive-requires c κs = let a = c .before .before .before .before .before .before .before .before .before .args in sym (first-length siteSize (now (a .site)) (sized (a .sites) (a .faults) (now (a .book)) (now (a .site)) (c .before .before .before .before .before .judge-site .ensures) (c .before .before .before .before .if1 .left)))
+receive-requires c κs = let a = c .before .before .before .before .before .before .before .before .before .args in sym (first-length siteSize (now (a .site)) (sized (a .sites) (a .faults) (now (a .book)) (now (a .site)) (c .before .before .before .before .before .judge-site .ensures .code) (c .before .before .before .if1 .left)))
 
 same-length-3 : tie.Need-same-length-3
 same-length-3 c = let a = c .before .before .before .before .before .before .before .before .before .before .before .before .args in length-front (now (a .site)) (c .before .before .receive .last .0) siteSize (c .before .before .receive .kept .0)
 
 returns-3 : tie.Need-returns-3
-returns-3 c = let a = c .before .before .before .before .before .before .before .before .before .before .before .before .args in check-taken (a .sites) (a .faults) (now (a .book)) (now (a .site)) (c .before .before .before .before .before .before .before .before .judge-site .ensures) (a .set) (c .before .before .before .before .before .before .before .if1 .left) (c .before .before .before .before .before .before .count .ensures) (c .before .before .before .before .before .within .ensures) (c .before .before .before .before .if2 .left) (c .before .before .receive .ensures)
+returns-3 c = let a = c .before .before .before .before .before .before .before .before .before .before .before .before .args in check-taken (a .sites) (a .faults) (now (a .book)) (now (a .site)) (c .before .before .before .before .before .before .before .before .judge-site .ensures .code) (a .set) (c .before .before .before .before .before .before .if1 .left) (c .before .before .before .before .before .before .before .before .judge-site .ensures .taken (c .before .before .before .before .before .before .if1 .left)) (c .before .before .before .before .before .within .ensures) (c .before .before .before .before .if2 .left) (c .before .before .receive .ensures)
 
 pub receive-check-spec : {M : Type 1} → statement M
 receive-check-spec =
@@ -53,7 +50,6 @@ receive-check-spec =
     judge-site-requires
     same-length
     returns
-    count-requires
     within-requires
     same-length-2
     returns-2

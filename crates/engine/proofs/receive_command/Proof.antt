@@ -17,31 +17,28 @@ same-length : tie.Need-same-length
 same-length c = refl
 
 returns : tie.Need-returns
-returns c = let a = c .before .before .before .before .before .args in command-refused (a .sites) (a .faults) (now (a .book)) (now (a .site)) (c .before .judge-site .ensures) (a .command) (c .if1 .taken)
-
-count-requires : tie.Need-count-requires
-count-requires c κs = search needs
+returns c = let a = c .before .before .before .before .before .before .args in command-refused (a .sites) (a .faults) (now (a .book)) (now (a .site)) (c .before .before .judge-site .ensures .code) (a .command) (c .if1 .taken)
 
 same-length-2 : tie.Need-same-length-2
 same-length-2 c = refl
 
 returns-2 : tie.Need-returns-2
-returns-2 c = let a = c .before .before .before .before .before .before .before .args in command-range (a .sites) (a .faults) (now (a .book)) (now (a .site)) (c .before .before .before .judge-site .ensures) (a .command) (c .before .before .if1 .left) (c .before .count .ensures) (c .if2 .taken)
+returns-2 c = let a = c .before .before .before .before .before .before .before .before .args in command-range (a .sites) (a .faults) (now (a .book)) (now (a .site)) (c .before .before .before .before .judge-site .ensures .code) (a .command) (c .before .before .if1 .left) (c .before .before .before .before .judge-site .ensures .taken (c .before .before .if1 .left)) (c .if2 .taken)
 
 slice-relend-prefix-receive-command : tie.Need-slice-relend-prefix-receive-command
-slice-relend-prefix-receive-command c = let a = c .before .before .before .before .before .before .before .args in sized (a .sites) (a .faults) (now (a .book)) (now (a .site)) (c .before .before .before .judge-site .ensures) (c .before .before .if1 .left)
+slice-relend-prefix-receive-command c = let a = c .before .before .before .before .before .before .before .before .args in sized (a .sites) (a .faults) (now (a .book)) (now (a .site)) (c .before .before .before .before .judge-site .ensures .code) (c .before .before .if1 .left)
 
 slice-aggregate-receive-command : tie.Need-slice-aggregate-receive-command
-slice-aggregate-receive-command c = let a = c .before .before .before .before .before .before .before .before .args in first-length siteSize (now (a .site)) (sized (a .sites) (a .faults) (now (a .book)) (now (a .site)) (c .before .before .before .before .judge-site .ensures) (c .before .before .before .if1 .left))
+slice-aggregate-receive-command c = let a = c .before .before .before .before .before .before .before .before .before .args in first-length siteSize (now (a .site)) (sized (a .sites) (a .faults) (now (a .book)) (now (a .site)) (c .before .before .before .before .before .judge-site .ensures .code) (c .before .before .before .if1 .left))
 
 receive-command-requires : tie.Need-receive-command-requires
-receive-command-requires c κs = let a = c .before .before .before .before .before .before .before .before .args in (sym (first-length siteSize (now (a .site)) (sized (a .sites) (a .faults) (now (a .book)) (now (a .site)) (c .before .before .before .before .judge-site .ensures) (c .before .before .before .if1 .left))), command-below (a .sites) (a .faults) (now (a .book)) (now (a .site)) (c .before .before .before .before .judge-site .ensures) (a .command) (c .before .before .before .if1 .left) (c .before .before .count .ensures) (c .before .if2 .left))
+receive-command-requires c κs = let a = c .before .before .before .before .before .before .before .before .before .args in (sym (first-length siteSize (now (a .site)) (sized (a .sites) (a .faults) (now (a .book)) (now (a .site)) (c .before .before .before .before .before .judge-site .ensures .code) (c .before .before .before .if1 .left))), command-below (a .sites) (a .faults) (now (a .book)) (now (a .site)) (c .before .before .before .before .before .judge-site .ensures .code) (a .command) (c .before .before .before .if1 .left) (c .before .before .before .before .before .judge-site .ensures .taken (c .before .before .before .if1 .left)) (c .before .if2 .left))
 
 same-length-3 : tie.Need-same-length-3
-same-length-3 c = let a = c .before .before .before .before .before .before .before .before .before .before .before .args in length-front (now (a .site)) (c .before .before .receive-command .last .0) siteSize (c .before .before .receive-command .kept .0)
+same-length-3 c = let a = c .before .before .before .before .before .before .before .before .before .before .before .before .args in length-front (now (a .site)) (c .before .before .receive-command .last .0) siteSize (c .before .before .receive-command .kept .0)
 
 returns-3 : tie.Need-returns-3
-returns-3 c = let a = c .before .before .before .before .before .before .before .before .before .before .before .args in command-taken (a .sites) (a .faults) (now (a .book)) (now (a .site)) (c .before .before .before .before .before .before .before .judge-site .ensures) (a .command) (c .before .before .before .before .before .before .if1 .left) (c .before .before .before .before .before .count .ensures) (c .before .before .before .before .if2 .left) (c .before .before .receive-command .ensures)
+returns-3 c = let a = c .before .before .before .before .before .before .before .before .before .before .before .before .args in command-taken (a .sites) (a .faults) (now (a .book)) (now (a .site)) (c .before .before .before .before .before .before .before .before .judge-site .ensures .code) (a .command) (c .before .before .before .before .before .before .if1 .left) (c .before .before .before .before .before .before .before .before .judge-site .ensures .taken (c .before .before .before .before .before .before .if1 .left)) (c .before .before .before .before .if2 .left) (c .before .before .receive-command .ensures)
 
 pub receive-command-spec : {M : Type 1} → statement M
 receive-command-spec =
@@ -50,7 +47,6 @@ receive-command-spec =
     judge-site-requires
     same-length
     returns
-    count-requires
     same-length-2
     returns-2
     slice-relend-prefix-receive-command

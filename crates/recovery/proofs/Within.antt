@@ -5,37 +5,33 @@ use mathlib.Core.Bool.{Bool, true, false, _&&_, _||_, not}
 use mathlib.Core.List.{List}
 use mathlib.Core.Logic.{_⊎_, inl, inr, ⊎-elim}
 use mathlib.Core.Option.{Option, none, some}
-use Prim.Native.Nat.{ℕ, zero, suc, _+_, _-_, _*_, _/_, _≤_, _<_}
+use Prim.Native.Nat.{ℕ, zero, suc, _*_, _≤_, _<_}
 use native.Mathlib.Omega.{arith}
 use lib.Dec.{leb, ltb}
-use lib.ListN.{length, take, getD}
+use lib.ListN.{length, getD}
 use borrow.Author.Tests.{leb-true, lt-ltb, ltb-true}
 use Rattle.theory.specs.Sets.{any, count}
-use Rattle.theory.specs.Counting.{left, right, either, known, never, all-at, all-of, any-some, count-some, last-or-below}
-use Rattle.sets.specs.declared.Set.{Set}
+use Rattle.theory.specs.Counting.{left, right, either, known, never, all-at, all-of, any-some, count-some}
 use Rattle.sets.specs.Sets.{capacity, inSet, withinOf}
 use Rattle.table.specs.declared.SiteTable.{SiteTable}
-use Rattle.table.specs.Table.{isGood, nChkOf, majorityOf}
+use Rattle.table.specs.Table.{isGood, majorityOf}
 use Rattle.table.proofs.Laws.{good-limits}
 use Rattle.register.specs.declared.Command.{Command}
 use Rattle.commands.specs.Book.{commandsOf}
 use Rattle.conflicts.specs.Conflicts.{conflictRows}
 use Rattle.calm.specs.Rows.{rowsSystem}
-use Rattle.protocol.specs.Recovery.{Entry, Log, Standing, absent, valid, excluded, isValid, ncOf, cOf, Tally, decide, ncSet, cSet}
+use Rattle.protocol.specs.Recovery.{Entry, Standing, absent, valid, excluded, isValid, ncOf, cOf, Tally, decide, ncSet}
 use Rattle.protocol.specs.RecoveryLaws.{decided-count}
 use Rattle.protocol.specs.StandingLaws.{Logged, logged-split, Backed, decided-backed}
-use Rattle.protocol.specs.Site as protocol
-use Rattle.protocol.specs.Site.{isSome, tallyOr, decision}
 use Rattle.system.specs.Dash.{dash, lastRound}
 use Rattle.entries.specs.Entries.{entrySize, entryOf, viewEntry, logTo, inRangeOf}
 use Rattle.entries.proofs.Judging.{in-range-told}
 use Rattle.recovery.specs.declared.Sets.{Sets}
 use Rattle.recovery.specs.declared.Decision.{Decision}
 use Rattle.recovery.specs.declared.Decision.the-variants.{Undecided, Decided}
 use Rattle.recovery.specs.Decisions.{setsOf, decisionOf}
 use Rattle.recovery.proofs.Decided.{decision-dash}
 use Rattle.recovery.proofs.Members.{members-nc, members-c}
-use Rattle.ending.specs.Ending.{Told}
 
 -- An entry in range, as the protocol knows it.
 record InRange (commands : ℕ) (e : Entry) : Type 0 where
@@ -108,14 +104,14 @@ module _ (t : SiteTable) (table : isGood t ≡ true) (bytes rows : List ℕ) (b 
             (either (nc m) (c m) h)
         go excluded h w = absurd (never false h refl)
 
-    decided-round : r ≤ lastRound
+    pub decided-round : r ≤ lastRound
     decided-round =
         let l = good-limits t table in
         let n = decided-count (dash t book) r (logTo b k) d e in
         let w = count-some (t .sites) (λ j. isValid (d j)) (omega (arith, l .enough)) in
         backed (w .0) (w .2)
 
-    majority : 1 ≤ majorityOf t
+    pub majority : 1 ≤ majorityOf t
     majority = let l = good-limits t table in omega (arith, l .enough)
 
     nc-within : withinOf (setsOf (dash t book) d .nc) (length book) ≡ true
@@ -176,31 +172,3 @@ module _ (t : SiteTable) (table : isGood t ≡ true) (bytes rows : List ℕ) (b 
     sets-within s h =
         let w = decided s h in
         (ap (λ (x : Sets). withinOf (x .nc) (length book)) (w .sets) ∙ nc-within (w .tally) (w .decides), ap (λ (x : Sets). withinOf (x .c) (length book)) (w .sets) ∙ c-within (w .tally) (w .decides))
-
-    -- A site of that round that has read k entries is told so.
-    module _ (s : protocol.Site (dash t book)) (log : Log) (es : decision (dash t book) s log ≡ decide (dash t book) r (logTo b k)) (round : s .round ≡ r) where
-      pub told-none : (nc c : Set) → a ≡ Undecided → Told t book false nc c s log
-      told-none nc c h =
-          record {
-            is = sym (ap isSome (es ∙ undecided h));
-            inNc = λ z. absurd (never false z refl);
-            inC = λ z. absurd (never false z refl);
-            round = λ z. absurd (never false z refl);
-          }
-
-      pub told-decided : (x : Sets) → a ≡ Decided x → Told t book true (x .nc) (x .c) s log
-      told-decided x h =
-          let w = decided x h in
-          let q = es ∙ w .decides in
-          record {
-            is = sym (ap isSome q);
-            inNc =
-                λ z m.
-                (λ i. inSet (w .sets i .nc) m) ∙ (λ i. members-nc b small (dash t book) r k room (w .tally) (w .decides) (majority (w .tally) (w .decides)) i m)
-                ∙ sym (ap (λ (o : Option Tally). ncSet (dash t book) (tallyOr o) m) q);
-            inC =
-                λ z m.
-                (λ i. inSet (w .sets i .c) m) ∙ (λ i. members-c b small (dash t book) r k room (w .tally) (w .decides) i m)
-                ∙ sym (ap (λ (o : Option Tally). cSet (dash t book) (tallyOr o) m) q);
-            round = λ z. let l = decided-round (w .tally) (w .decides) in omega arith;
-          }
