@@ -5,14 +5,15 @@ use mathlib.Core.List.{List, [], _∷_}
 use Prim.Native.Nat.{ℕ, zero, suc, _+_, _-_, _≤_, _<_, min}
 use native.Mathlib.Numerals.{add-one}
 use native.Mathlib.Omega.{arith}
-use lib.ListN.{length, getD, take, drop, set, length-take}
-use lib.Seq.{sets, sets-eq, take-at, getD-take}
+use lib.Dec.{eqb}
+use lib.ListN.{length, getD, take, drop, set, length-take, length-drop}
+use lib.Seq.{sets, sets-eq, take-at, getD-take, getD-drop}
 use Rattle.register.specs.Register.{Valid}
 use Rattle.register.specs.declared.Command.{Command}
 use Rattle.register.specs.declared.Command.the-variants.{Read}
 use Rattle.commands.specs.declared.Reading.the-variants.{Whole}
-use Rattle.commands.specs.Book.{sizeOf, readCommand, commandsOf, commandOf, placesFrom, placesOf}
-use Rattle.commands.proofs.Laws.{front}
+use Rattle.commands.specs.Book.{sizeOf, readCommand, commandsOf, commandOf, placesFrom, placesOf, headOf}
+use Rattle.commands.proofs.Laws.{Front, front}
 use Rattle.commands.proofs.Walk.{rest, rest-all, next, Took}
 
 pub index-all : (s p : List ℕ) → sets p 0 (placesFrom 0 (rest s 0 0)) ≡ sets p 0 (placesOf s)
@@ -103,3 +104,17 @@ index-noted s p h e =
     let l = length-places 0 (commandsOf s) in
     ap (take (length (commandsOf s))) (e ∙ sets-eq (placesFrom 0 (commandsOf s)) p 0 (omega arith))
     ∙ take-at (placesFrom 0 (commandsOf s)) (drop (0 + length (placesFrom 0 (commandsOf s))) p) (length (commandsOf s)) l
+
+-- The first two bytes at the place of the k-th command say its kind and its bike.
+module _ (s p : List ℕ) (k : ℕ) (h : k < length (commandsOf s)) (e : take (length (commandsOf s)) p ≡ placesOf s) {at : ℕ} (q : at ≡ getD p k 0) where
+  here : Front (drop at s) (commandOf s k)
+  here = front (drop at s) (place-read s p k h e q)
+
+  pub head-inside : at + 2 ≤ length s
+  head-inside = let l = here .two in omega (arith, length-drop at s)
+
+  pub head-noted : record { bike = getD s (at + 1) 0; add = eqb (getD s at 0) 1; read = eqb (getD s at 0) 3 } ≡ headOf (commandOf s k)
+  head-noted =
+      let z : at + 0 ≡ at = omega arith in
+      let first = sym (getD-drop at s 0 0 ∙ ap (λ (n : ℕ). getD s n 0) z) in
+      (λ i. record { bike = sym (getD-drop at s 1 0) i; add = eqb (first i) 1; read = eqb (first i) 3 }) ∙ here .head

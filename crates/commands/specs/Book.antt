@@ -13,11 +13,12 @@ use Rattle.signed.specs.Signed.{signed16, word16}
 use Rattle.refusals.specs.declared.Verdict.{Verdict}
 use Rattle.refusals.specs.declared.Verdict.the-variants.{Taken, Refused}
 use Rattle.refusals.specs.declared.Refusal.the-variants.{Book}
-use Rattle.register.specs.Register.{bikes, maxReading}
+use Rattle.register.specs.Register.{bikes, maxReading, bikeOf, isAdd, isRead}
 use Rattle.register.specs.declared.Command.{Command}
 use Rattle.register.specs.declared.Command.the-variants.{Add, Fit, Read, Trim}
 use Rattle.commands.specs.declared.Reading.{Reading}
 use Rattle.commands.specs.declared.Reading.the-variants.{Whole, Bad}
+use Rattle.commands.specs.declared.Head.{Head}
 use Rattle.commands.specs.declared.Measured.{Measured}
 use Rattle.commands.specs.declared.Measured.the-variants.{Commands, Unreadable}
 
@@ -110,6 +111,10 @@ placesFrom at (c ∷ cs) = at ∷ placesFrom (at + sizeOf c) cs
 -- The place in bytes of each command of a book.
 unfoldable pub placesOf : List ℕ → List ℕ
 placesOf s = placesFrom 0 (commandsOf s)
+
+-- The kind and the bike of a command.
+abbrev pub headOf : Command → Head
+headOf c = record { bike = bikeOf c; add = isAdd c; read = isRead c }
 
 -- The bytes of a command.
 abbrev pub encodeCommand : Command → List ℕ

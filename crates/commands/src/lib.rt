@@ -5,7 +5,7 @@ ghost use mathlib.Core.List.{_∷_, []};
 ghost use lib.ListN.{length, take};
 ghost use lib.Seq.{sets};
 ghost use Rattle.wire.specs.Wire.{splice};
-ghost use Rattle.commands.specs.Book.{sizeOf, readCommand, measureBook, judgeBook, commandsOf, commandOf, placesOf, encodeCommand, encodeBook};
+ghost use Rattle.commands.specs.Book.{sizeOf, readCommand, measureBook, judgeBook, commandsOf, commandOf, placesOf, headOf, encodeCommand, encodeBook};
 use refusals::Refusal;
 use refusals::Verdict;
 use register::Bike;
@@ -164,6 +164,28 @@ pub fn indexed(book: &[u8], places: &[u16], k: usize) -> Command
     match reading {
         Reading::Whole(command) => command,
         Reading::Bad => Command::Read { bike: 0 },
+    }
+}
+
+// The kind and the bike of a command, as its first two bytes say.
+pub struct Head {
+    pub bike: u8,
+    pub add: bool,
+    pub read: bool,
+}
+
+// Kind and bike of the k-th command, from the noted places, without a look at its operands.
+pub fn head_at(book: &[u8], places: &[u16], k: usize) -> Head
+    requires { ⌜ (k < length (commandsOf (now book))) × (take (length (commandsOf (now book))) (now places) ≡ placesOf (now book)) ⌝ }
+    ensures { λ r. ⌜ r ≡ headOf (commandOf (now (book .entry)) k) ⌝ }
+{
+    let at = wide(places[k]);
+    let kind = book[at];
+    let bike = book[at + 1];
+    Head {
+        bike: bike,
+        add: kind == 1,
+        read: kind == 3,
     }
 }
 

@@ -16,7 +16,8 @@ use Rattle.sets.proofs.Laws.{in-empty, in-with, in-without, in-setOf, build-non
 use Rattle.register.specs.declared.Command.{Command}
 use Rattle.register.specs.declared.Command.the-variants.{Add, Fit, Read, Trim}
 use Rattle.register.specs.Register.{bikes, bikeOf, isAdd, isRead, alike}
-use Rattle.commands.specs.Book.{commandsOf, commandOf}
+use Rattle.commands.specs.declared.Head.{Head}
+use Rattle.commands.specs.Book.{commandsOf, commandOf, headOf}
 use Rattle.commands.proofs.Places.{commands-valid}
 use Rattle.conflicts.specs.Conflicts.{conflictIn, conflictRow, isOn, anyKind, withNoted, Gathered, unopposed}
 use Rattle.conflicts.proofs.Laws.{no-more, and-false, conflict-in-sym, in-row, out-right, in-book}
@@ -62,17 +63,23 @@ pub note-told : (ws : List ℕ) (at k : ℕ) (test : Bool) {x y : Set} {after : 
     → after ≡ withNoted ws at k test
 note-told ws at k test ex ey ea = ea ∙ ap (storeSet ws at) (ey ∙ ap (λ (x : Set). pick test (withOf x k) x) ex)
 
-module _ (s : List ℕ) (k : ℕ) {c : Command} {b : ℕ} (inside : k < length (commandsOf s)) (ec : c ≡ commandOf s k) (eb : b ≡ bikeOf c) where
-  pub bike-below : b < bikes
-  bike-below = subst (λ (x : ℕ). x < bikes) (sym (eb ∙ ap bikeOf ec)) (commands-valid s k inside .bike)
+module _ (s : List ℕ) (k : ℕ) {c : Head} (inside : k < length (commandsOf s)) (ec : c ≡ headOf (commandOf s k)) where
+  pub bike-below : c .bike < bikes
+  bike-below = subst (λ (x : Head). x .bike < bikes) (sym ec) (commands-valid s k inside .bike)
 
-  pub bike-place : {n : ℕ} → n ≡ bikes → b < n
-  bike-place e = subst (λ (x : ℕ). b < x) (sym e) bike-below
+  pub bike-place : {n : ℕ} → n ≡ bikes → c .bike < n
+  bike-place e = subst (λ (x : ℕ). c .bike < x) (sym e) bike-below
 
-  pub gathered-told : (kind : Command → Bool) (ws : List ℕ) (test : Bool) {after : List ℕ} → test ≡ kind c → after ≡ withNoted ws b k test → Gathered kind s k ws
-      → Gathered kind s (k + 1) after
+  pub gathered-told : (kind : Command → Bool) (ws : List ℕ) (test : Bool) {after : List ℕ} → test ≡ kind (commandOf s k) → after ≡ withNoted ws (c .bike) k test
+      → Gathered kind s k ws → Gathered kind s (k + 1) after
   gathered-told kind ws test et ea g =
-      subst (Gathered kind s (k + 1)) (sym ea) (gathered-more kind s ws k b test (eb ∙ ap bikeOf ec) bike-below (et ∙ ap kind ec) g)
+      subst (Gathered kind s (k + 1)) (sym ea) (gathered-more kind s ws k (c .bike) test (λ i. ec i .bike) bike-below et g)
+
+  pub adds-told : c .add ≡ isAdd (commandOf s k)
+  adds-told = λ i. ec i .add
+
+  pub reads-told : c .read ≡ isRead (commandOf s k)
+  reads-told = λ i. ec i .read
 
 -- ---- a row
 
@@ -134,7 +141,7 @@ module _ (s : List ℕ) (m : ℕ) (few : length (commandsOf s) ≤ capacity) (in
   nowhere false y = refl
 
   unopposed-in : (c : Command) (k : ℕ) → k < capacity
-      → inSet (unopposed c (gathered isAdd) (gathered isRead)) k ≡ (ltb k n && (on k && alike (commandOf s k) c))
+      → inSet (unopposed (headOf c) (gathered isAdd) (gathered isRead)) k ≡ (ltb k n && (on k && alike (commandOf s k) c))
   unopposed-in (Add b km) k l =
       gathered-in isAdd k l ∙ ap (λ (t : Bool). ltb k n && (on k && t)) (right-true (isAdd (commandOf s k)) (isRead (commandOf s k)))
   unopposed-in (Fit b dash start) k l =
@@ -147,23 +154,23 @@ module _ (s : List ℕ) (m : ℕ) (few : length (commandsOf s) ≤ capacity) (in
   fits : (p : ℕ → Bool) → setOf capacity p .bits < 2 ^ 64
   fits p = word-lt capacity p
 
-  unopposed-fits : (c : Command) → unopposed c (gathered isAdd) (gathered isRead) .bits < 2 ^ 64
+  unopposed-fits : (c : Command) → unopposed (headOf c) (gathered isAdd) (gathered isRead) .bits < 2 ^ 64
   unopposed-fits (Add b km) = fits _
   unopposed-fits (Fit b dash start) = omega arith
   unopposed-fits (Read b) = fits _
   unopposed-fits (Trim b km) = omega arith
 
-  row-same : withoutOf (gathered anyKind) (withOf (unopposed (commandOf s m) (gathered isAdd) (gathered isRead)) m) ≡ conflictRow s m
+  row-same : withoutOf (gathered anyKind) (withOf (unopposed (headOf (commandOf s m)) (gathered isAdd) (gathered isRead)) m) ≡ conflictRow s m
   unfolding conflictRow conflictIn
   row-same =
       set-ext _ (conflictRow s m)
-      (without-fits (gathered anyKind) (withOf (unopposed (commandOf s m) (gathered isAdd) (gathered isRead)) m) (fits _)
-      (with-fits (unopposed (commandOf s m) (gathered isAdd) (gathered isRead)) m (unopposed-fits (commandOf s m)) (omega arith)))
+      (without-fits (gathered anyKind) (withOf (unopposed (headOf (commandOf s m)) (gathered isAdd) (gathered isRead)) m) (fits _)
+      (with-fits (unopposed (headOf (commandOf s m)) (gathered isAdd) (gathered isRead)) m (unopposed-fits (commandOf s m)) (omega arith)))
       (fits (conflictIn s m))
       same
     where
       U : Set
-      U = unopposed (commandOf s m) (gathered isAdd) (gathered isRead)
+      U = unopposed (headOf (commandOf s m)) (gathered isAdd) (gathered isRead)
 
       same : (k : ℕ) → k < 64 → inSet (withoutOf (gathered anyKind) (withOf U m)) k ≡ inSet (conflictRow s m) k
       same k l =
@@ -178,19 +185,17 @@ module _ (s : List ℕ) (m : ℕ) (few : length (commandsOf s) ≤ capacity) (in
   told : (kind : Command → Bool) {b : ℕ} {x : Set} → b ≡ bikeOf (commandOf s m) → x ≡ setOf n (isOn kind s b) → x ≡ gathered kind
   told kind bike e = e ∙ ap (λ (b : ℕ). setOf n (isOn kind s b)) bike ∙ up-to n (isOn kind s (bikeOf (commandOf s m))) few
 
-  -- The row of a command, from the sets of its bike.
-  row-gathered : {c : Command} {b : ℕ} {all adds reads : Set} → c ≡ commandOf s m → b ≡ bikeOf c
-      → all ≡ setOf n (isOn anyKind s b) → adds ≡ setOf n (isOn isAdd s b) → reads ≡ setOf n (isOn isRead s b)
-      → withoutOf all (withOf (unopposed c adds reads) m) ≡ conflictRow s m
-  row-gathered ec eb ea ed er =
-      let bike = eb ∙ ap bikeOf ec in
-      (λ i. withoutOf (told anyKind bike ea i) (withOf (unopposed (ec i) (told isAdd bike ed i) (told isRead bike er i)) m)) ∙ row-same
-
-  -- The same, as the code tells it.
-  pub row-told : {c : Command} {b k : ℕ} {all adds reads peaceful with row : Set} → k ≡ n → c ≡ commandOf s m → b ≡ bikeOf c
-      → all ≡ setOf k (isOn anyKind s b) → adds ≡ setOf k (isOn isAdd s b) → reads ≡ setOf k (isOn isRead s b)
+  -- The row of a command, from the sets of its bike, as the code tells it.
+  pub row-told : {c : Head} {k : ℕ} {all adds reads peaceful with row : Set} → k ≡ n → c ≡ headOf (commandOf s m)
+      → all ≡ setOf k (isOn anyKind s (c .bike)) → adds ≡ setOf k (isOn isAdd s (c .bike)) → reads ≡ setOf k (isOn isRead s (c .bike))
       → peaceful ≡ unopposed c adds reads → with ≡ withOf peaceful m → row ≡ withoutOf all with → row ≡ conflictRow s m
-  row-told {c} {b} {k} {all} ek ec eb ea ed er ep ew ex =
+  row-told {c} {k} {all} ek ec ea ed er ep ew ex =
+      let bike : c .bike ≡ bikeOf (commandOf s m) = λ i. ec i .bike in
       ex
       ∙ ap (withoutOf all) (ew ∙ ap (λ (x : Set). withOf x m) ep)
-      ∙ row-gathered ec eb (ea ∙ ap (λ (j : ℕ). setOf j (isOn anyKind s b)) ek) (ed ∙ ap (λ (j : ℕ). setOf j (isOn isAdd s b)) ek) (er ∙ ap (λ (j : ℕ). setOf j (isOn isRead s b)) ek)
+      ∙ (λ i.
+      withoutOf (told anyKind bike (ea ∙ ap (λ (j : ℕ). setOf j (isOn anyKind s (c .bike))) ek) i)
+      (withOf
+      (unopposed (ec i) (told isAdd bike (ed ∙ ap (λ (j : ℕ). setOf j (isOn isAdd s (c .bike))) ek) i) (told isRead bike (er ∙ ap (λ (j : ℕ). setOf j (isOn isRead s (c .bike))) ek) i))
+      m))
+      ∙ row-same

@@ -10,7 +10,8 @@ use Rattle.theory.specs.Sets.{pick}
 use Rattle.sets.specs.declared.Set.{Set}
 use Rattle.sets.specs.Sets.{capacity, setOf, emptyOf, withOf, loadSet, storeSet}
 use Rattle.register.specs.declared.Command.{Command}
-use Rattle.register.specs.Register.{bikes, bikeOf, isAdd, isRead, conflictAt}
+use Rattle.register.specs.Register.{bikes, bikeOf, conflictAt}
+use Rattle.commands.specs.declared.Head.{Head}
 use Rattle.commands.specs.Book.{maxCommands, commandsOf, commandOf}
 
 -- The commands at two places conflict: both are in the book, the places differ, and the commands conflict.
@@ -49,5 +50,5 @@ pub record Gathered (kind : Command → Bool) (s : List ℕ) (n : ℕ) (sets : L
   pub at : (b : ℕ) → b < bikes → loadSet sets b ≡ setOf n (isOn kind s b)
 
 -- Of a bike's ADDs and READs those that a command of the bike does not conflict with.
-abbrev pub unopposed : Command → Set → Set → Set
-unopposed c adds reads = pick (isAdd c) adds (pick (isRead c) reads emptyOf)
+abbrev pub unopposed : Head → Set → Set → Set
+unopposed c adds reads = pick (c .add) adds (pick (c .read) reads emptyOf)

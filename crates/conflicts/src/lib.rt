@@ -7,7 +7,7 @@ ghost use Rattle.sets.specs.Sets.{withOf, capacity};
 ghost use Rattle.register.specs.Register.{isAdd, isRead};
 ghost use Rattle.commands.specs.Book.{maxCommands, commandsOf, placesOf};
 ghost use Rattle.conflicts.specs.Conflicts.{conflictRow, conflictRows, withNoted, anyKind, Gathered, unopposed};
-use register::Command;
+use commands::Head;
 use sets::Set;
 
 // The set with one command more, where a test holds.
@@ -43,25 +43,23 @@ fn gather(
 {
     let mut k: usize = 0;
     while k < n {
-        let command = commands::indexed(book, places, k);
-        let bike = register::bike_of(command) as usize;
-        let add = register::is_add(command);
-        let read = register::is_read(command);
+        let head = commands::head_at(book, places, k);
+        let bike = head.bike as usize;
         note(on, bike, k, true);
-        note(adds, bike, k, add);
-        note(reads, bike, k, read);
+        note(adds, bike, k, head.add);
+        note(reads, bike, k, head.read);
         k += 1;
     }
 }
 
 // Of a bike's ADDs and READs those that a command of the bike does not conflict with.
-fn unopposed(command: Command, adds: Set, reads: Set) -> Set
-    ensures { λ r. ⌜ r ≡ unopposed command adds reads ⌝ }
+fn unopposed(head: Head, adds: Set, reads: Set) -> Set
+    ensures { λ r. ⌜ r ≡ unopposed head adds reads ⌝ }
 {
-    if register::is_add(command) {
+    if head.add {
         return adds;
     }
-    if register::is_read(command) {
+    if head.read {
         return reads;
     }
     Set::empty()
@@ -84,10 +82,10 @@ fn row(
     if m >= n {
         return Set::empty();
     }
-    let command = commands::indexed(book, places, m);
-    let bike = register::bike_of(command) as usize;
+    let head = commands::head_at(book, places, m);
+    let bike = head.bike as usize;
     let all = Set::load(on, bike);
-    let peaceful = unopposed(command, Set::load(adds, bike), Set::load(reads, bike));
+    let peaceful = unopposed(head, Set::load(adds, bike), Set::load(reads, bike));
     all.without(peaceful.with(m))
 }
 

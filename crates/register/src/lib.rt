@@ -34,8 +34,7 @@ impl Bike {
     pub const SIZE: usize = 8;
 }
 
-// Whether a command is an ADD.
-pub fn is_add(command: Command) -> bool
+fn is_add(command: Command) -> bool
     ensures { λ r. ⌜ r ≡ isAdd command ⌝ }
 {
     match command {
@@ -50,8 +49,7 @@ pub fn is_add(command: Command) -> bool
     }
 }
 
-// Whether a command is a READ.
-pub fn is_read(command: Command) -> bool
+fn is_read(command: Command) -> bool
     ensures { λ r. ⌜ r ≡ isRead command ⌝ }
 {
     match command {

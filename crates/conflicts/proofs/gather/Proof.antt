@@ -9,7 +9,7 @@ use Rattle.register.specs.Register.{isAdd, isRead}
 use Rattle.commands.specs.Book.{commandsOf}
 use Rattle.commands.proofs.Walk.{few-commands}
 use Rattle.conflicts.specs.Conflicts.{anyKind, Gathered}
-use Rattle.conflicts.proofs.Gathering.{bike-place, gathered-told}
+use Rattle.conflicts.proofs.Gathering.{bike-place, gathered-told, adds-told, reads-told}
 use Rattle.conflicts.proofs.gather.Statement.{statement}
 use Rattle.conflicts.proofs.gather.Tie as tie
 
@@ -22,38 +22,29 @@ abbrev μ-loop : tie.MeasureT-loop
 loop-holds : tie.Need-loop-holds Inv-loop μ-loop
 loop-holds c = (omega arith, c .before .before .before .before .before .pre .2, c .before .before .before .before .before .pre .3, c .before .before .before .before .before .pre .4)
 
-indexed-requires : tie.Need-indexed-requires Inv-loop μ-loop
-indexed-requires c κs = (omega arith, c .before .before .before .before .before .before .before .pre .1)
-
-bike-of-requires : tie.Need-bike-of-requires Inv-loop μ-loop
-bike-of-requires c κs = search needs
+head-at-requires : tie.Need-head-at-requires Inv-loop μ-loop
+head-at-requires c κs = (omega arith, c .before .before .before .before .before .before .before .pre .1)
 
 cast-bike : tie.Need-cast-bike Inv-loop μ-loop
 cast-bike c = search needs
 
-is-add-requires : tie.Need-is-add-requires Inv-loop μ-loop
-is-add-requires c κs = search needs
-
-is-read-requires : tie.Need-is-read-requires Inv-loop μ-loop
-is-read-requires c κs = search needs
-
 note-requires : tie.Need-note-requires Inv-loop μ-loop
 note-requires c κs =
-    let s = now (c .before .before .before .before .before .before .before .before .before .before .before .before .args .book) in
-    let l = c .before .before .before .before .before .before .loop in
-    (bike-place s (l .k) (omega arith) (c .before .before .before .before .indexed .ensures) (c .before .before .before .bike-of .ensures) (l .inv .1 .size), omega (arith, few-commands s))
+    let s = now (c .before .before .before .before .before .before .before .before .before .before .args .book) in
+    let l = c .before .before .before .before .loop in
+    (bike-place s (l .k) (omega arith) (c .before .before .head-at .ensures) (l .inv .1 .size), omega (arith, few-commands s))
 
 note-requires-2 : tie.Need-note-requires-2 Inv-loop μ-loop
 note-requires-2 c κs =
-    let s = now (c .before .before .before .before .before .before .before .before .before .before .before .before .before .before .before .before .args .book) in
-    let l = c .before .before .before .before .before .before .before .before .before .before .loop in
-    (bike-place s (l .k) (omega arith) (c .before .before .before .before .before .before .before .before .indexed .ensures) (c .before .before .before .before .before .before .before .bike-of .ensures) (l .inv .2 .size), omega (arith, few-commands s))
+    let s = now (c .before .before .before .before .before .before .before .before .before .before .before .before .before .before .args .book) in
+    let l = c .before .before .before .before .before .before .before .before .loop in
+    (bike-place s (l .k) (omega arith) (c .before .before .before .before .before .before .head-at .ensures) (l .inv .2 .size), omega (arith, few-commands s))
 
 note-requires-3 : tie.Need-note-requires-3 Inv-loop μ-loop
 note-requires-3 c κs =
-    let s = now (c .before .before .before .before .before .before .before .before .before .before .before .before .before .before .before .before .before .before .before .before .args .book) in
-    let l = c .before .before .before .before .before .before .before .before .before .before .before .before .before .before .loop in
-    (bike-place s (l .k) (omega arith) (c .before .before .before .before .before .before .before .before .before .before .before .before .indexed .ensures) (c .before .before .before .before .before .before .before .before .before .before .before .bike-of .ensures) (l .inv .3 .size), omega (arith, few-commands s))
+    let s = now (c .before .before .before .before .before .before .before .before .before .before .before .before .before .before .before .before .before .before .args .book) in
+    let l = c .before .before .before .before .before .before .before .before .before .before .before .before .loop in
+    (bike-place s (l .k) (omega arith) (c .before .before .before .before .before .before .before .before .before .before .head-at .ensures) (l .inv .3 .size), omega (arith, few-commands s))
 
 add-k : tie.Need-add-k Inv-loop μ-loop
 add-k c = omega arith
@@ -63,13 +54,13 @@ loop-less c = omega arith
 
 loop-again : tie.Need-loop-again Inv-loop μ-loop
 loop-again c =
-    let s = now (c .before .before .before .before .before .before .before .before .before .before .before .before .before .before .before .before .before .before .before .before .before .before .before .args .book) in
-    let l = c .before .before .before .before .before .before .before .before .before .before .before .before .before .before .before .before .before .loop in
+    let s = now (c .before .before .before .before .before .before .before .before .before .before .before .before .before .before .before .before .before .before .before .before .before .args .book) in
+    let l = c .before .before .before .before .before .before .before .before .before .before .before .before .before .before .before .loop in
     let below : l .k < length (commandsOf s) = omega arith in (
       omega arith,
-      gathered-told s (l .k) below (c .before .before .before .before .before .before .before .before .before .before .before .before .before .before .before .indexed .ensures) (c .before .before .before .before .before .before .before .before .before .before .before .before .before .before .bike-of .ensures) anyKind (l .on) true refl (c .before .before .before .before .before .before .before .before .before .before .note .ensures) (l .inv .1),
-      gathered-told s (l .k) below (c .before .before .before .before .before .before .before .before .before .before .before .before .before .before .before .indexed .ensures) (c .before .before .before .before .before .before .before .before .before .before .before .before .before .before .bike-of .ensures) isAdd (l .adds) _ (c .before .before .before .before .before .before .before .before .before .before .before .before .before .is-add .ensures) (c .before .before .before .before .before .before .note2 .ensures) (l .inv .2),
-      gathered-told s (l .k) below (c .before .before .before .before .before .before .before .before .before .before .before .before .before .before .before .indexed .ensures) (c .before .before .before .before .before .before .before .before .before .before .before .before .before .before .bike-of .ensures) isRead (l .reads) _ (c .before .before .before .before .before .before .before .before .before .before .before .before .is-read .ensures) (c .before .before .note3 .ensures) (l .inv .3),
+      gathered-told s (l .k) below (c .before .before .before .before .before .before .before .before .before .before .before .before .before .head-at .ensures) anyKind (l .on) true refl (c .before .before .before .before .before .before .before .before .before .before .note .ensures) (l .inv .1),
+      gathered-told s (l .k) below (c .before .before .before .before .before .before .before .before .before .before .before .before .before .head-at .ensures) isAdd (l .adds) _ (adds-told s (l .k) below (c .before .before .before .before .before .before .before .before .before .before .before .before .before .head-at .ensures)) (c .before .before .before .before .before .before .note2 .ensures) (l .inv .2),
+      gathered-told s (l .k) below (c .before .before .before .before .before .before .before .before .before .before .before .before .before .head-at .ensures) isRead (l .reads) _ (reads-told s (l .k) below (c .before .before .before .before .before .before .before .before .before .before .before .before .before .head-at .ensures)) (c .before .before .note3 .ensures) (l .inv .3),
     )
 
 same-length : tie.Need-same-length Inv-loop μ-loop
@@ -97,11 +88,8 @@ gather-spec =
     Inv-loop
     μ-loop
     loop-holds
-    indexed-requires
-    bike-of-requires
+    head-at-requires
     cast-bike
-    is-add-requires
-    is-read-requires
     note-requires
     note-requires-2
     note-requires-3

@@ -14,23 +14,20 @@ empty-requires c κs = search needs
 returns : tie.Need-returns
 returns c = c .empty .ensures ∙ row-none (now (c .before .before .before .before .before .before .before .args .book)) (c .before .before .before .before .before .before .before .args .m) (omega arith)
 
-indexed-requires : tie.Need-indexed-requires
-indexed-requires c κs = search needs
-
-bike-of-requires : tie.Need-bike-of-requires
-bike-of-requires c κs = search needs
+head-at-requires : tie.Need-head-at-requires
+head-at-requires c κs = search needs
 
 cast-bike : tie.Need-cast-bike
 cast-bike c = search needs
 
 load-requires : tie.Need-load-requires
-load-requires c κs = bike-place (now (c .before .before .before .before .before .before .before .before .args .book)) (c .before .before .before .before .before .before .before .before .args .m) (omega arith) (c .before .indexed .ensures) (c .bike-of .ensures) (c .before .before .before .before .before .before .before .before .pre .2 .size)
+load-requires c κs = bike-place (now (c .before .before .before .before .before .before .before .before .args .book)) (c .before .before .before .before .before .before .before .before .args .m) (omega arith) (c .before .head-at .ensures) (c .before .before .before .before .before .before .before .before .pre .2 .size)
 
 load-requires-2 : tie.Need-load-requires-2
-load-requires-2 c κs = bike-place (now (c .before .before .before .before .before .before .before .before .before .args .book)) (c .before .before .before .before .before .before .before .before .before .args .m) (omega arith) (c .before .before .indexed .ensures) (c .before .bike-of .ensures) (c .before .before .before .before .before .before .before .before .before .pre .3 .size)
+load-requires-2 c κs = bike-place (now (c .before .before .before .before .before .before .before .before .before .args .book)) (c .before .before .before .before .before .before .before .before .before .args .m) (omega arith) (c .before .before .head-at .ensures) (c .before .before .before .before .before .before .before .before .before .pre .3 .size)
 
 load-requires-3 : tie.Need-load-requires-3
-load-requires-3 c κs = bike-place (now (c .before .before .before .before .before .before .before .before .before .before .args .book)) (c .before .before .before .before .before .before .before .before .before .before .args .m) (omega arith) (c .before .before .before .indexed .ensures) (c .before .before .bike-of .ensures) (c .before .before .before .before .before .before .before .before .before .before .pre .4 .size)
+load-requires-3 c κs = bike-place (now (c .before .before .before .before .before .before .before .before .before .before .args .book)) (c .before .before .before .before .before .before .before .before .before .before .args .m) (omega arith) (c .before .before .before .head-at .ensures) (c .before .before .before .before .before .before .before .before .before .before .pre .4 .size)
 
 unopposed-requires : tie.Need-unopposed-requires
 unopposed-requires c κs = search needs
@@ -44,8 +41,8 @@ without-requires c κs = search needs
 returns-2 : tie.Need-returns-2
 returns-2 c =
     let s = now (c .before .before .before .before .before .before .before .before .before .before .before .before .before .before .args .book) in
-    let b = bike-below s (c .before .before .before .before .before .before .before .before .before .before .before .before .before .before .args .m) (omega arith) (c .before .before .before .before .before .before .before .indexed .ensures) (c .before .before .before .before .before .before .bike-of .ensures) in
-    row-told s (c .before .before .before .before .before .before .before .before .before .before .before .before .before .before .args .m) (few-commands s) (omega arith) (c .before .before .before .before .before .before .before .before .before .before .before .before .before .before .pre .0) (c .before .before .before .before .before .before .before .indexed .ensures) (c .before .before .before .before .before .before .bike-of .ensures)
+    let b = bike-below s (c .before .before .before .before .before .before .before .before .before .before .before .before .before .before .args .m) (omega arith) (c .before .before .before .before .before .before .before .head-at .ensures) in
+    row-told s (c .before .before .before .before .before .before .before .before .before .before .before .before .before .before .args .m) (few-commands s) (omega arith) (c .before .before .before .before .before .before .before .before .before .before .before .before .before .before .pre .0) (c .before .before .before .before .before .before .before .head-at .ensures)
     (c .before .before .before .before .before .load .ensures ∙ c .before .before .before .before .before .before .before .before .before .before .before .before .before .before .pre .2 .at _ b) (c .before .before .before .before .load2 .ensures ∙ c .before .before .before .before .before .before .before .before .before .before .before .before .before .before .pre .3 .at _ b) (c .before .before .before .load3 .ensures ∙ c .before .before .before .before .before .before .before .before .before .before .before .before .before .before .pre .4 .at _ b)
     (c .before .before .unopposed .ensures) (c .before .with .ensures) (c .without .ensures)
 
@@ -55,8 +52,7 @@ row-spec =
     (tie.spec
     empty-requires
     returns
-    indexed-requires
-    bike-of-requires
+    head-at-requires
     cast-bike
     load-requires
     load-requires-2
