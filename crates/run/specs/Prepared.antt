@@ -32,7 +32,8 @@ pub record Sized (t : SiteTable) (w : Working) : Type 0 where
   pub log : length (w .log) ≡ logBytes
   pub sent : length (w .sent) ≡ sentSize
 
--- The places of a book's commands, and which of them conflict.
-pub record Noted (book p r : List ℕ) : Type 0 where
+-- The places of a book's n commands, and which of them conflict.
+pub record Noted (book p r : List ℕ) (n : ℕ) : Type 0 where
+  pub count : n ≡ length (commandsOf book)
   pub places : take (length (commandsOf book)) p ≡ placesOf book
   pub rows : r ≡ conflictRows book

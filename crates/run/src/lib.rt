@@ -32,16 +32,16 @@ fn print_on(
     book: &[u8],
     places: &[u16],
     rows: &[u64],
+    commands: usize,
     steps: &[u8],
     out: &mut [u8],
 ) -> usize
-    requires { ⌜ Playable table (now steps) (now out) × Sized table (working (now sites) (now log) (now sent)) × Noted (now book) (now places) (now rows) ⌝ }
+    requires { ⌜ Playable table (now steps) (now out) × Sized table (working (now sites) (now log) (now sent)) × Noted (now book) (now places) (now rows) commands ⌝ }
     ensures { λ r. ⌜ Wrote (now (out .exit)) r (now (out .entry)) 0 (played table (commandsOf (now (book .entry))) (stepsOf (now (steps .entry))))
         × HoldsLast table (commandsOf (now (book .entry))) (stepsOf (now (steps .entry))) (now (sites .exit)) (now (log .exit)) (now (sent .exit)) ⌝ }
 {
     world::start(sites, sent, table);
     let faulty = table.faulty_count();
-    let commands = commands::count(book);
     let first = lines::put_run_line(out, 0, table.sites, faulty, commands);
     let played = play::play_steps(
         sites,
@@ -68,10 +68,11 @@ fn print_in(
     book: &[u8],
     places: &[u16],
     rows: &[u64],
+    commands: usize,
     steps: &[u8],
     out: &mut [u8],
 ) -> usize
-    requires { ⌜ Playable table (now steps) (now out) × Roomy (working (now sites) (now log) (now sent)) × Noted (now book) (now places) (now rows) ⌝ }
+    requires { ⌜ Playable table (now steps) (now out) × Roomy (working (now sites) (now log) (now sent)) × Noted (now book) (now places) (now rows) commands ⌝ }
     ensures { λ r. ⌜ Wrote (now (out .exit)) r (now (out .entry)) 0 (played table (commandsOf (now (book .entry))) (stepsOf (now (steps .entry))))
         × Worked table (commandsOf (now (book .entry))) (stepsOf (now (steps .entry)))
         (working (now (sites .entry)) (now (log .entry)) (now (sent .entry))) (working (now (sites .exit)) (now (log .exit)) (now (sent .exit))) ⌝ }
@@ -85,6 +86,7 @@ fn print_in(
         book,
         places,
         rows,
+        commands,
         steps,
         out,
     )
@@ -110,7 +112,18 @@ fn print_noted(
     commands::index(book, commands, &mut places);
     let mut rows = [0u64; 64];
     conflicts::conflict_rows(book, &places, commands, &mut rows);
-    print_in(sites, log, sent, table, book, &places, &rows, steps, out)
+    print_in(
+        sites,
+        log,
+        sent,
+        table,
+        book,
+        &places,
+        &rows,
+        commands,
+        steps,
+        out,
+    )
 }
 
 // Whether buffers of these sizes have room for any run.

@@ -56,7 +56,7 @@ same-length-3 : tie.Need-same-length-3
 same-length-3 c = let a = c .before .before .before .before .before .before .before .before .before .before .before .before .before .before .before .before .before .before .before .before .before .before in length-back sentSize (now (a .args .sent)) (c .before .before .before .before .before .before .before .before .print-on .last .1 .1 .0) (a .pre .1 .sent) (c .before .before .before .before .before .before .before .before .print-on .kept .1 .1 .0)
 
 same-length-4 : tie.Need-same-length-4
-same-length-4 c = c .before .before .before .before .before .before .before .before .print-on .kept .1 .1 .1 .1 .1 .1 .1 .1 .0
+same-length-4 c = c .before .before .before .before .before .before .before .before .print-on .kept .1 .1 .1 .1 .1 .1 .1 .1 .1 .0
 
 returns : tie.Need-returns
 returns c =

@@ -37,7 +37,7 @@ print-in-requires : tie.Need-print-in-requires
 print-in-requires c κs =
     let a = c .before .before .before .before .before .before .before .before .before .before .before .before .before .before .before .before .before .before .before .before in
     let s = now (a .args .book) in
-    (a .pre .0, a .pre .1, record { places = index-noted s _ (few-commands s) (c .before .before .before .before .before .before .before .before .before .before .before .index .ensures); rows = c .before .before .before .before .before .before .before .conflict-rows .ensures })
+    (a .pre .0, a .pre .1, record { count = c .before .before .before .before .before .before .before .before .before .before .before .before .before .count .ensures; places = index-noted s _ (few-commands s) (c .before .before .before .before .before .before .before .before .before .before .before .index .ensures); rows = c .before .before .before .before .before .before .before .conflict-rows .ensures })
 
 same-length : tie.Need-same-length
 same-length c = search needs

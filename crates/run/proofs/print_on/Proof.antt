@@ -17,41 +17,38 @@ start-requires c κs = search needs
 faulty-count-requires : tie.Need-faulty-count-requires
 faulty-count-requires c κs = search needs
 
-count-requires : tie.Need-count-requires
-count-requires c κs = search needs
-
 put-run-line-requires : tie.Need-put-run-line-requires
 put-run-line-requires c κs =
-    let a = c .before .before .before .before .before .before .before .before .before .before .before .before .before .before .before .before .before .before in
-    omega (arith, first-short (a .args .table) (now (a .args .book)) (a .pre .0 .good) (c .before .before .faulty-count .ensures) (c .before .count .ensures), a .pre .0 .room)
+    let a = c .before .before .before .before .before .before .before .before .before .before .before .before .before .before .before .before .before in
+    omega (arith, first-short (a .args .table) (now (a .args .book)) (a .pre .0 .good) (c .before .faulty-count .ensures) (a .pre .2 .count), a .pre .0 .room)
 
 play-steps-requires : tie.Need-play-steps-requires
 play-steps-requires c κs =
-    let a = c .before .before .before .before .before .before .before .before .before .before .before .before .before .before .before .before .before .before .before .before .before .before .before .before .before in
+    let a = c .before .before .before .before .before .before .before .before .before .before .before .before .before .before .before .before .before .before .before .before .before .before .before .before in
     let w = c .before .before .before .before .before .before .put-run-line in
     record {
       good = a .pre .0 .good;
       short = a .pre .0 .short;
-      room = omega (arith, first-short (a .args .table) (now (a .args .book)) (a .pre .0 .good) (c .before .before .before .before .before .before .before .before .before .faulty-count .ensures) (c .before .before .before .before .before .before .before .before .count .ensures), a .pre .0 .room, w .ensures .end, w .kept .0);
+      room = omega (arith, first-short (a .args .table) (now (a .args .book)) (a .pre .0 .good) (c .before .before .before .before .before .before .before .before .faulty-count .ensures) (a .pre .2 .count), a .pre .0 .room, w .ensures .end, w .kept .0);
       log = omega (arith, a .pre .1 .log);
       noted = a .pre .2 .places;
       conflicts = a .pre .2 .rows;
-      counted = sym (c .before .before .before .before .before .before .before .before .count .ensures);
-      world = c .before .before .before .before .before .before .before .before .before .before .before .before .before .before .start .ensures .holds (commandsOf (now (a .args .book))) (now (a .args .log)) (omega (arith, a .pre .1 .log));
+      counted = sym (a .pre .2 .count);
+      world = c .before .before .before .before .before .before .before .before .before .before .before .before .before .start .ensures .holds (commandsOf (now (a .args .book))) (now (a .args .log)) (omega (arith, a .pre .1 .log));
     }
 
 put-site-lines-requires : tie.Need-put-site-lines-requires
 put-site-lines-requires c κs =
-    let a = c .before .before .before .before .before .before .before .before .before .before .before .before .before .before .before .before .before .before .before .before .before .before .before .before .before .before .before .before .before .before .before .before .before .before .before .before in
+    let a = c .before .before .before .before .before .before .before .before .before .before .before .before .before .before .before .before .before .before .before .before .before .before .before .before .before .before .before .before .before .before .before .before .before .before .before in
     let w = c .before .before .before .before .before .before .before .before .before .before .before .before .before .before .before .before .before .put-run-line in
     let p = c .before .before .before .before .before .before .before .before .before .before .play-steps in
     let n = good-limits (a .args .table) (a .pre .0 .good) in (
       held-printable (a .args .table) (commandsOf (now (a .args .book))) (p .ensures .world),
-      omega (arith, first-short (a .args .table) (now (a .args .book)) (a .pre .0 .good) (c .before .before .before .before .before .before .before .before .before .before .before .before .before .before .before .before .before .before .before .before .faulty-count .ensures) (c .before .before .before .before .before .before .before .before .before .before .before .before .before .before .before .before .before .before .before .count .ensures), a .pre .0 .room, w .ensures .end, w .kept .0, p .ensures .room, p .kept .1 .1 .1 .1 .1 .1 .1 .1 .1 .0),
+      omega (arith, first-short (a .args .table) (now (a .args .book)) (a .pre .0 .good) (c .before .before .before .before .before .before .before .before .before .before .before .before .before .before .before .before .before .before .before .faulty-count .ensures) (a .pre .2 .count), a .pre .0 .room, w .ensures .end, w .kept .0, p .ensures .room, p .kept .1 .1 .1 .1 .1 .1 .1 .1 .1 .0),
     )
 
 same-length : tie.Need-same-length
-same-length c = c .before .before .before .before .before .before .before .before .before .before .before .before .before .play-steps .kept .0 ∙ c .before .before .before .before .before .before .before .before .before .before .before .before .before .before .before .before .before .before .before .before .before .before .before .before .before .before .before .before .start .kept .0
+same-length c = c .before .before .before .before .before .before .before .before .before .before .before .before .before .play-steps .kept .0 ∙ c .before .before .before .before .before .before .before .before .before .before .before .before .before .before .before .before .before .before .before .before .before .before .before .before .before .before .before .start .kept .0
 
 same-length-2 : tie.Need-same-length-2
 same-length-2 c = search needs
@@ -64,8 +61,8 @@ same-length-4 c = search needs
 
 returns : tie.Need-returns
 returns c =
-    let a = c .before .before .before .before .before .before .before .before .before .before .before .before .before .before .before .before .before .before .before .before .before .before .before .before .before .before .before .before .before .before .before .before .before .before .before .before .before .before .before in (
-      all-parts (a .args .table) (commandsOf (now (a .args .book))) (now (a .args .steps)) (c .before .before .before .before .before .before .before .before .before .before .before .before .before .before .before .before .before .before .before .before .before .before .before .faulty-count .ensures) (c .before .before .before .before .before .before .before .before .before .before .before .before .before .before .before .before .before .before .before .before .before .before .count .ensures)
+    let a = c .before .before .before .before .before .before .before .before .before .before .before .before .before .before .before .before .before .before .before .before .before .before .before .before .before .before .before .before .before .before .before .before .before .before .before .before .before .before in (
+      all-parts (a .args .table) (commandsOf (now (a .args .book))) (now (a .args .steps)) (c .before .before .before .before .before .before .before .before .before .before .before .before .before .before .before .before .before .before .before .before .before .before .faulty-count .ensures) (a .pre .2 .count)
           (c .before .before .before .before .before .before .before .before .before .before .before .before .before .before .before .before .before .before .before .before .put-run-line .ensures) (c .before .before .before .before .before .before .before .before .before .before .before .before .before .play-steps .ensures) (c .before .before .put-site-lines .ensures .0),
       last-held (a .args .table) (commandsOf (now (a .args .book))) (now (a .args .steps)) (c .before .before .before .before .before .before .before .before .before .before .before .before .before .play-steps .ensures),
     )
@@ -76,7 +73,6 @@ print-on-spec =
     (tie.spec
     start-requires
     faulty-count-requires
-    count-requires
     put-run-line-requires
     play-steps-requires
     put-site-lines-requires
