@@ -1,15 +1,15 @@
 -- What the calls that deliver answer: one law an answer.
 -- Assumes nothing.
 use mathlib.Core.Path.{_≡_, refl, sym, ap, subst, _∙_}
-use mathlib.Core.Bool.{Bool, true, false}
+use mathlib.Core.Bool.{Bool, true, false, not}
 use mathlib.Core.List.{List, _++_}
 use Prim.Native.Nat.{ℕ, _*_, _/_, _≤_, _<_}
 use native.Mathlib.Omega.{arith}
 use lib.Dec.{ltb}
 use lib.ListN.{length, take, drop, getD}
 use borrow.Author.Tests.{lt-ltb, le-ltb}
-use Rattle.theory.specs.Counting.{left, never, all-at}
-use Rattle.refusals.specs.declared.Refusal.the-variants.{Range}
+use Rattle.theory.specs.Counting.{left, never, not-true, all-at}
+use Rattle.refusals.specs.declared.Refusal.the-variants.{Range, Disabled, Size}
 use Rattle.refusals.specs.declared.Verdict.{Verdict}
 use Rattle.refusals.specs.Refusals.{codeOf}
 use Rattle.sets.specs.declared.Set.{Set}
@@ -19,7 +19,7 @@ use Rattle.table.specs.declared.SiteTable.{SiteTable}
 use Rattle.table.specs.Table.{isGood}
 use Rattle.commands.specs.Book.{commandsOf}
 use Rattle.conflicts.specs.Conflicts.{conflictRows}
-use Rattle.protocol.specs.System.{_else_⨾_, verdict}
+use Rattle.protocol.specs.System.{granted, _else_⨾_, verdict}
 use Rattle.protocol.specs.Recovery as recovery
 use Rattle.protocol.specs.Site as protocol
 use Rattle.system.specs.Dash.{dash}
@@ -32,9 +32,10 @@ use Rattle.recovery.specs.declared.Decision.{Decision}
 use Rattle.recovery.specs.declared.Decision.the-variants.{Undecided, Decided}
 use Rattle.recovery.specs.Decisions.{decisionOf}
 use Rattle.recovery.proofs.Within.{sets-within}
-use Rattle.layout.specs.Layout.{siteSize, headOf, view}
+use Rattle.layout.specs.Layout.{siteSize, headOf, isWaiting, view}
 use Rattle.layout.specs.Good.{Good}
 use Rattle.ending.specs.Ending.{RoundEnded}
+use Rattle.ending.proofs.Verdicts.{waits-same}
 use Rattle.ending.proofs.Telling.{told-none, told-decided}
 use Rattle.judging.specs.Outcomes.{outcome, answered, _then_}
 use Rattle.judging.specs.Judging.{tableOf, systemOf, siteIn, withSite, forSite, forSiteAndLog}
@@ -144,6 +145,19 @@ module _ (n f : ℕ) (book site log : List ℕ) {k : ℕ} (q : k ≡ codeOf (ver
 
     pub end-sized : siteSize ≤ length site
     end-sized = judged-log .0 .sized
+
+    pub end-disabled : {w : Bool} → w ≡ isWaiting (headOf (take siteSize site) .phase) → not w ≡ true → outcome 6 site ≡ roundEndCall n f book site log
+    unfolding roundEndCall
+    end-disabled {w} e h =
+        answered-refused Disabled _ site
+        (then-taken (forSiteAndLog n f book true site log) (protocol.forRoundEnd (systemOf n f book) (siteIn n f book site) (logOf log)) q z
+        ∙ (λ i.
+        verdict
+        ((sym (e ∙ waits-same (headOf (take siteSize site) .phase)) ∙ not-true w h) i else Disabled
+        ⨾ protocol.isSome (protocol.decision (systemOf n f book) (siteIn n f book site) (logOf log)) else Disabled
+        ⨾ protocol.room (systemOf n f book) (siteIn n f book site)
+        (length (protocol.due (systemOf n f book) (protocol.tallyOr (protocol.decision (systemOf n f book) (siteIn n f book site) (logOf log))) (siteIn n f book site))) else Size
+        ⨾ granted)))
 
     pub end-ready : {commands : ℕ} → commands ≡ length (commandsOf book)
         → Good n commands (take siteSize site) × (isGood (tableOf n f) ≡ true) × (length (commandsOf book) ≡ commands)

@@ -15,6 +15,7 @@ ghost use Rattle.layout.specs.Good.{Good};
 ghost use Rattle.deliver.specs.Delivering.{Noted};
 ghost use Rattle.judging.specs.Outcomes.{outcome};
 ghost use Rattle.delivering.specs.Delivering.{FastDelivered, Ended, fastDeliveryCall, roundEndCall};
+use judging::REFUSED_DISABLED;
 use judging::REFUSED_RANGE;
 use layout::Site;
 use recovery::Decision;
@@ -125,6 +126,9 @@ pub fn round_end(sites: usize, faults: usize, book: &[u8], site: &mut [u8], log:
     let judged = judging::judge_site_and_log(true, sites, faults, book, &site[..], log);
     if judged.code != 0 {
         return judged.code;
+    }
+    if !layout::is_waiting(&site[..Site::SIZE]) {
+        return REFUSED_DISABLED;
     }
     let table = SiteTable {
         sites,

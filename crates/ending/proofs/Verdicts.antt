@@ -77,7 +77,7 @@ room-decided true true r r′ e = ap (endVerdict true true) (e refl)
 room-decided true false r r′ e = refl
 room-decided false d r r′ e = refl
 
-waits-same : (p : Phase) → isWaiting p ≡ protocol.isWaiting (phaseSeen p)
+pub waits-same : (p : Phase) → isWaiting p ≡ protocol.isWaiting (phaseSeen p)
 waits-same Acknowledging = refl
 waits-same (Waiting p) = refl
 

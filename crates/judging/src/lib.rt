@@ -18,6 +18,8 @@ pub const REFUSED_FORM: u32 = 3;
 
 pub const REFUSED_RANGE: u32 = 4;
 
+pub const REFUSED_DISABLED: u32 = 6;
+
 pub const REFUSED_SIZE: u32 = 9;
 
 // Every log position that a site's bytes can hold is at most this.

@@ -1,7 +1,7 @@
 -- What each step of one site promises, at every site table and every book in which the lent bytes are good.
 -- Assumes nothing.
 use mathlib.Core.Path.{_≡_}
-use mathlib.Core.Bool.{Bool, true, false, not}
+use mathlib.Core.Bool.{Bool, true, false, not, _&&_}
 use mathlib.Core.List.{List}
 use Prim.Native.Nat.{ℕ, _<_}
 use lib.Dec.{leb, ltb}
@@ -33,6 +33,10 @@ undeliveredOf h = withoutOf (h .received) (h .delivered)
 
 abbrev pub newOf : Site → Set
 newOf h = withoutOf (undeliveredOf h) (h .pending)
+
+-- The site does not wait, and something that it received is new.
+abbrev pub hasTurn : Site → Bool
+hasTurn h = not (isWaiting (h .phase)) && not (isEmptyOf (newOf h))
 
 -- What a turn answers, by the header, the conflict test and whether the site has two entries of its round.
 unfoldable pub chosen : Site → Bool → Bool → Turn

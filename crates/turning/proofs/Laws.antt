@@ -1,7 +1,7 @@
 -- What a turn writes, and what its call answers: one law an answer.
 -- Assumes nothing.
 use mathlib.Core.Path.{_≡_, refl, sym, ap, _∙_}
-use mathlib.Core.Bool.{Bool, true, false}
+use mathlib.Core.Bool.{Bool, true, false, not}
 use mathlib.Core.List.{List, _++_, append-nil}
 use Prim.Native.Nat.{ℕ, _+_, _*_, _/_, _≤_, _<_}
 use native.Mathlib.Omega.{arith}
@@ -10,10 +10,11 @@ use lib.ListN.{length, take, drop, getD, length-take, length-drop, drop-of-lengt
 use borrow.Author.Tests.{lt-ltb, le-ltb, leb-true}
 use borrow.Rule.Slice.PartMut.{putMid}
 use Rattle.theory.specs.Sets.{pick}
+use Rattle.theory.specs.Counting.{not-true}
 use Rattle.wire.specs.Wire.{bytes, splice}
 use Rattle.wire.proofs.Laws.{mid-splice}
 use Rattle.refusals.specs.declared.Refusal.{Refusal}
-use Rattle.refusals.specs.declared.Refusal.the-variants.{Range}
+use Rattle.refusals.specs.declared.Refusal.the-variants.{Range, Disabled}
 use Rattle.refusals.specs.declared.Verdict.{Verdict}
 use Rattle.refusals.specs.declared.Verdict.the-variants.{Taken, Refused}
 use Rattle.refusals.specs.Refusals.{numberOf, codeOf}
@@ -39,13 +40,13 @@ use Rattle.layout.specs.Step.{settled}
 use Rattle.layout.proofs.Header.{next}
 use Rattle.site.specs.declared.Turn.{Turn}
 use Rattle.site.specs.declared.Turn.the-variants as turn
-use Rattle.site.specs.Steps.{answerTo, Turned, TookTurn}
-use Rattle.site.proofs.Turning.{third-entry}
+use Rattle.site.specs.Steps.{hasTurn, answerTo, Turned, TookTurn}
+use Rattle.site.proofs.Turning.{third-entry, no-turn}
 use Rattle.judging.specs.Outcomes.{Outcome, outcome, answered, _then_}
 use Rattle.judging.specs.Judging.{tableOf, systemOf, siteIn, withSite, forSiteAndLog}
 use Rattle.judging.proofs.Demands.{then-taken, then-refused, answered-refused}
 use Rattle.judging.proofs.Laws.{Judged, log-judged}
-use Rattle.judging.proofs.Steps.{written, as-before}
+use Rattle.judging.proofs.Steps.{first-small, written, as-before}
 use Rattle.turning.specs.Turning.{turnSize, buffers, acknowledgmentBytes, proposalBytes, entryFor, entryOf, sentBytes, turned, sent, turnCall}
 
 -- ---- the conflict test
@@ -138,6 +139,14 @@ module _ (n f : ℕ) (book site log : List ℕ) (own : ℕ) (o : List ℕ) {k : 
     module _ (h : own < n) where
       pub turn-own : own < 256
       turn-own = let l = judged .few in omega arith
+
+      pub turn-disabled : ((i : ℕ) → getD site i 0 < 256) → {e : Bool} → e ≡ hasTurn (headOf (take siteSize site)) → not e ≡ true
+          → outcome 6 (buffers site o) ≡ turnCall n f book site log own o
+      unfolding turnCall
+      turn-disabled small {e} ee z =
+          answered-refused Disabled _ (buffers site o)
+          (first true (lt-ltb own n h)
+          ∙ no-turn (tableOf n f) (commandsOf book) (take siteSize site) (first-small siteSize site small) (judged .good) own (logOf log) (sym ee ∙ not-true e z))
 
       module _ (small : (i : ℕ) → getD site i 0 < 256) {round code : ℕ} {b l : List ℕ} (er : round ≡ headOf (take siteSize site) .round) where
         -- By the verdict and by what the turn does.

@@ -13,6 +13,7 @@ ghost use Rattle.layout.specs.Layout.{siteSize, headOf, view};
 ghost use Rattle.judging.specs.Outcomes.{outcome};
 ghost use Rattle.turning.specs.Turning.{turnSize, buffers, acknowledgmentBytes, proposalBytes, entryOf, sent, turnCall};
 use entries::Entry;
+use judging::REFUSED_DISABLED;
 use judging::REFUSED_RANGE;
 use layout::Proposal;
 use layout::Site;
@@ -125,6 +126,9 @@ pub fn turn(
     }
     if own >= sites {
         return REFUSED_RANGE;
+    }
+    if !site::has_turn(&site[..Site::SIZE]) {
+        return REFUSED_DISABLED;
     }
     let free = is_calm(book, judged.commands, &site[..Site::SIZE]);
     let round = round_of(&site[..Site::SIZE]);

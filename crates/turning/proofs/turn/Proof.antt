@@ -6,7 +6,7 @@ use lib.Seq.{length-front}
 use denote.Ref.{now}
 use Rattle.layout.specs.Layout.{siteSize}
 use Rattle.judging.proofs.Laws.{first-length}
-use Rattle.turning.proofs.Laws.{turn-refused, turn-range, turn-sized, turn-room, turn-own, turn-done}
+use Rattle.turning.proofs.Laws.{turn-refused, turn-range, turn-disabled, turn-sized, turn-room, turn-own, turn-done}
 use borrow.Author.Needs.{needs}
 use Rattle.turning.proofs.turn.Statement.{statement}
 use Rattle.turning.proofs.turn.Tie as tie
@@ -26,47 +26,62 @@ same-length-2 c = refl
 returns-2 : tie.Need-returns-2
 returns-2 c = let a = c .before .before .before .before .before .before .before .before .before .args in turn-range (a .sites) (a .faults) (now (a .book)) (now (a .site)) (now (a .log)) (a .own) (now (a .out)) (c .before .before .before .judge-site-and-log .ensures .code) (c .before .if1 .left) (c .if2 .taken)
 
+slice-reshare-prefix-has-turn : tie.Need-slice-reshare-prefix-has-turn
+slice-reshare-prefix-has-turn c = let a = c .before .before .before .before .before .before .before .before .before .args in turn-sized (a .sites) (a .faults) (now (a .book)) (now (a .site)) (now (a .log)) (a .own) (now (a .out)) (c .before .before .before .judge-site-and-log .ensures .code) (c .before .if1 .left)
+
+slice-aggregate-has-turn : tie.Need-slice-aggregate-has-turn
+slice-aggregate-has-turn c = let a = c .before .before .before .before .before .before .before .before .before .before .args in first-length siteSize (now (a .site)) (turn-sized (a .sites) (a .faults) (now (a .book)) (now (a .site)) (now (a .log)) (a .own) (now (a .out)) (c .before .before .before .before .judge-site-and-log .ensures .code) (c .before .before .if1 .left))
+
+has-turn-requires : tie.Need-has-turn-requires
+has-turn-requires c κs = let a = c .before .before .before .before .before .before .before .before .before .before .args in sym (first-length siteSize (now (a .site)) (turn-sized (a .sites) (a .faults) (now (a .book)) (now (a .site)) (now (a .log)) (a .own) (now (a .out)) (c .before .before .before .before .judge-site-and-log .ensures .code) (c .before .before .if1 .left)))
+
+same-length-3 : tie.Need-same-length-3
+same-length-3 c = refl
+
+returns-3 : tie.Need-returns-3
+returns-3 c = let a = c .before .before .before .before .before .before .before .before .before .before .before .before .args in turn-disabled (a .sites) (a .faults) (now (a .book)) (now (a .site)) (now (a .log)) (a .own) (now (a .out)) (c .before .before .before .before .before .before .judge-site-and-log .ensures .code) (c .before .before .before .before .if1 .left) (c .before .before .before .if2 .left) (λ i. c .before .before .before .before .before .before .before .before .before .before .slice-known .given i .fits) (c .before .has-turn .ensures) (c .if3 .taken)
+
 slice-reshare-prefix-is-calm : tie.Need-slice-reshare-prefix-is-calm
-slice-reshare-prefix-is-calm c = let a = c .before .before .before .before .before .before .before .before .before .args in turn-sized (a .sites) (a .faults) (now (a .book)) (now (a .site)) (now (a .log)) (a .own) (now (a .out)) (c .before .before .before .judge-site-and-log .ensures .code) (c .before .if1 .left)
+slice-reshare-prefix-is-calm c = let a = c .before .before .before .before .before .before .before .before .before .before .before .before .args in turn-sized (a .sites) (a .faults) (now (a .book)) (now (a .site)) (now (a .log)) (a .own) (now (a .out)) (c .before .before .before .before .before .before .judge-site-and-log .ensures .code) (c .before .before .before .before .if1 .left)
 
 slice-aggregate-is-calm : tie.Need-slice-aggregate-is-calm
-slice-aggregate-is-calm c = let a = c .before .before .before .before .before .before .before .before .before .before .args in first-length siteSize (now (a .site)) (turn-sized (a .sites) (a .faults) (now (a .book)) (now (a .site)) (now (a .log)) (a .own) (now (a .out)) (c .before .before .before .before .judge-site-and-log .ensures .code) (c .before .before .if1 .left))
+slice-aggregate-is-calm c = let a = c .before .before .before .before .before .before .before .before .before .before .before .before .before .args in first-length siteSize (now (a .site)) (turn-sized (a .sites) (a .faults) (now (a .book)) (now (a .site)) (now (a .log)) (a .own) (now (a .out)) (c .before .before .before .before .before .before .before .judge-site-and-log .ensures .code) (c .before .before .before .before .before .if1 .left))
 
 is-calm-requires : tie.Need-is-calm-requires
-is-calm-requires c κs = let a = c .before .before .before .before .before .before .before .before .before .before .args in (c .before .before .before .before .judge-site-and-log .ensures .taken (c .before .before .if1 .left), sym (first-length siteSize (now (a .site)) (turn-sized (a .sites) (a .faults) (now (a .book)) (now (a .site)) (now (a .log)) (a .own) (now (a .out)) (c .before .before .before .before .judge-site-and-log .ensures .code) (c .before .before .if1 .left))))
+is-calm-requires c κs = let a = c .before .before .before .before .before .before .before .before .before .before .before .before .before .args in (c .before .before .before .before .before .before .before .judge-site-and-log .ensures .taken (c .before .before .before .before .before .if1 .left), sym (first-length siteSize (now (a .site)) (turn-sized (a .sites) (a .faults) (now (a .book)) (now (a .site)) (now (a .log)) (a .own) (now (a .out)) (c .before .before .before .before .before .before .before .judge-site-and-log .ensures .code) (c .before .before .before .before .before .if1 .left))))
 
 slice-reshare-prefix-round-of : tie.Need-slice-reshare-prefix-round-of
-slice-reshare-prefix-round-of c = let a = c .before .before .before .before .before .before .before .before .before .before .before .args in turn-sized (a .sites) (a .faults) (now (a .book)) (now (a .site)) (now (a .log)) (a .own) (now (a .out)) (c .before .before .before .before .before .judge-site-and-log .ensures .code) (c .before .before .before .if1 .left)
+slice-reshare-prefix-round-of c = let a = c .before .before .before .before .before .before .before .before .before .before .before .before .before .before .args in turn-sized (a .sites) (a .faults) (now (a .book)) (now (a .site)) (now (a .log)) (a .own) (now (a .out)) (c .before .before .before .before .before .before .before .before .judge-site-and-log .ensures .code) (c .before .before .before .before .before .before .if1 .left)
 
 slice-aggregate-round-of : tie.Need-slice-aggregate-round-of
-slice-aggregate-round-of c = let a = c .before .before .before .before .before .before .before .before .before .before .before .before .args in first-length siteSize (now (a .site)) (turn-sized (a .sites) (a .faults) (now (a .book)) (now (a .site)) (now (a .log)) (a .own) (now (a .out)) (c .before .before .before .before .before .before .judge-site-and-log .ensures .code) (c .before .before .before .before .if1 .left))
+slice-aggregate-round-of c = let a = c .before .before .before .before .before .before .before .before .before .before .before .before .before .before .before .args in first-length siteSize (now (a .site)) (turn-sized (a .sites) (a .faults) (now (a .book)) (now (a .site)) (now (a .log)) (a .own) (now (a .out)) (c .before .before .before .before .before .before .before .before .before .judge-site-and-log .ensures .code) (c .before .before .before .before .before .before .before .if1 .left))
 
 round-of-requires : tie.Need-round-of-requires
-round-of-requires c κs = let a = c .before .before .before .before .before .before .before .before .before .before .before .before .args in sym (first-length siteSize (now (a .site)) (turn-sized (a .sites) (a .faults) (now (a .book)) (now (a .site)) (now (a .log)) (a .own) (now (a .out)) (c .before .before .before .before .before .before .judge-site-and-log .ensures .code) (c .before .before .before .before .if1 .left)))
+round-of-requires c κs = let a = c .before .before .before .before .before .before .before .before .before .before .before .before .before .before .before .args in sym (first-length siteSize (now (a .site)) (turn-sized (a .sites) (a .faults) (now (a .book)) (now (a .site)) (now (a .log)) (a .own) (now (a .out)) (c .before .before .before .before .before .before .before .before .before .judge-site-and-log .ensures .code) (c .before .before .before .before .before .before .before .if1 .left)))
 
 entries-of-requires : tie.Need-entries-of-requires
 entries-of-requires c κs = omega arith
 
 slice-relend-prefix-take-turn : tie.Need-slice-relend-prefix-take-turn
-slice-relend-prefix-take-turn c = let a = c .before .before .before .before .before .before .before .before .before .before .before .before .before .before .args in turn-sized (a .sites) (a .faults) (now (a .book)) (now (a .site)) (now (a .log)) (a .own) (now (a .out)) (c .before .before .before .before .before .before .before .before .judge-site-and-log .ensures .code) (c .before .before .before .before .before .before .if1 .left)
+slice-relend-prefix-take-turn c = let a = c .before .before .before .before .before .before .before .before .before .before .before .before .before .before .before .before .before .args in turn-sized (a .sites) (a .faults) (now (a .book)) (now (a .site)) (now (a .log)) (a .own) (now (a .out)) (c .before .before .before .before .before .before .before .before .before .before .before .judge-site-and-log .ensures .code) (c .before .before .before .before .before .before .before .before .before .if1 .left)
 
 slice-aggregate-take-turn : tie.Need-slice-aggregate-take-turn
-slice-aggregate-take-turn c = let a = c .before .before .before .before .before .before .before .before .before .before .before .before .before .before .before .args in first-length siteSize (now (a .site)) (turn-sized (a .sites) (a .faults) (now (a .book)) (now (a .site)) (now (a .log)) (a .own) (now (a .out)) (c .before .before .before .before .before .before .before .before .before .judge-site-and-log .ensures .code) (c .before .before .before .before .before .before .before .if1 .left))
+slice-aggregate-take-turn c = let a = c .before .before .before .before .before .before .before .before .before .before .before .before .before .before .before .before .before .before .args in first-length siteSize (now (a .site)) (turn-sized (a .sites) (a .faults) (now (a .book)) (now (a .site)) (now (a .log)) (a .own) (now (a .out)) (c .before .before .before .before .before .before .before .before .before .before .before .before .judge-site-and-log .ensures .code) (c .before .before .before .before .before .before .before .before .before .before .if1 .left))
 
 take-turn-requires : tie.Need-take-turn-requires
-take-turn-requires c κs = let a = c .before .before .before .before .before .before .before .before .before .before .before .before .before .before .before .args in sym (first-length siteSize (now (a .site)) (turn-sized (a .sites) (a .faults) (now (a .book)) (now (a .site)) (now (a .log)) (a .own) (now (a .out)) (c .before .before .before .before .before .before .before .before .before .judge-site-and-log .ensures .code) (c .before .before .before .before .before .before .before .if1 .left)))
+take-turn-requires c κs = let a = c .before .before .before .before .before .before .before .before .before .before .before .before .before .before .before .before .before .before .args in sym (first-length siteSize (now (a .site)) (turn-sized (a .sites) (a .faults) (now (a .book)) (now (a .site)) (now (a .log)) (a .own) (now (a .out)) (c .before .before .before .before .before .before .before .before .before .before .before .before .judge-site-and-log .ensures .code) (c .before .before .before .before .before .before .before .before .before .before .if1 .left)))
 
 send-requires : tie.Need-send-requires
-send-requires c κs = let a = c .before .before .before .before .before .before .before .before .before .before .before .before .before .before .before .before .before .before .before .args in (turn-room (a .sites) (a .faults) (now (a .book)) (now (a .site)) (now (a .log)) (a .own) (now (a .out)) (c .before .before .before .before .before .before .before .before .before .before .before .before .before .judge-site-and-log .ensures .code) (c .before .before .before .before .before .before .before .before .before .before .before .if1 .left), turn-own (a .sites) (a .faults) (now (a .book)) (now (a .site)) (now (a .log)) (a .own) (now (a .out)) (c .before .before .before .before .before .before .before .before .before .before .before .before .before .judge-site-and-log .ensures .code) (c .before .before .before .before .before .before .before .before .before .before .before .if1 .left) (c .before .before .before .before .before .before .before .before .before .before .if2 .left), c .before .before .before .before .before .before .round-of .ensures .1)
-
-same-length-3 : tie.Need-same-length-3
-same-length-3 c = let a = c .before .before .before .before .before .before .before .before .before .before .before .before .before .before .before .before .before .before .before .before .before .before .args in length-front (now (a .site)) (c .before .before .before .before .before .before .take-turn .last .0) siteSize (c .before .before .before .before .before .before .take-turn .kept .0)
+send-requires c κs = let a = c .before .before .before .before .before .before .before .before .before .before .before .before .before .before .before .before .before .before .before .before .before .before .args in (turn-room (a .sites) (a .faults) (now (a .book)) (now (a .site)) (now (a .log)) (a .own) (now (a .out)) (c .before .before .before .before .before .before .before .before .before .before .before .before .before .before .before .before .judge-site-and-log .ensures .code) (c .before .before .before .before .before .before .before .before .before .before .before .before .before .before .if1 .left), turn-own (a .sites) (a .faults) (now (a .book)) (now (a .site)) (now (a .log)) (a .own) (now (a .out)) (c .before .before .before .before .before .before .before .before .before .before .before .before .before .before .before .before .judge-site-and-log .ensures .code) (c .before .before .before .before .before .before .before .before .before .before .before .before .before .before .if1 .left) (c .before .before .before .before .before .before .before .before .before .before .before .before .before .if2 .left), c .before .before .before .before .before .before .round-of .ensures .1)
 
 same-length-4 : tie.Need-same-length-4
-same-length-4 c = c .before .before .send .kept .0
+same-length-4 c = let a = c .before .before .before .before .before .before .before .before .before .before .before .before .before .before .before .before .before .before .before .before .before .before .before .before .before .args in length-front (now (a .site)) (c .before .before .before .before .before .before .take-turn .last .0) siteSize (c .before .before .before .before .before .before .take-turn .kept .0)
 
-returns-3 : tie.Need-returns-3
-returns-3 c = let a = c .before .before .before .before .before .before .before .before .before .before .before .before .before .before .before .before .before .before .before .before .before .before .args in turn-done (a .sites) (a .faults) (now (a .book)) (now (a .site)) (now (a .log)) (a .own) (now (a .out)) (c .before .before .before .before .before .before .before .before .before .before .before .before .before .before .before .before .judge-site-and-log .ensures .code) (c .before .before .before .before .before .before .before .before .before .before .before .before .before .before .if1 .left) (c .before .before .before .before .before .before .before .before .before .before .before .before .before .if2 .left) (λ i. c .before .before .before .before .before .before .before .before .before .before .before .before .before .before .before .before .before .before .before .before .slice-known .given i .fits) (c .before .before .before .before .before .before .before .before .before .round-of .ensures .0) (c .before .before .before .before .before .before .before .before .before .before .before .is-calm .ensures) (c .before .before .before .before .before .before .before .before .entries-of .ensures) (c .before .before .before .before .before .before .take-turn .ensures) (c .before .before .send .ensures)
+same-length-5 : tie.Need-same-length-5
+same-length-5 c = c .before .before .send .kept .0
+
+returns-4 : tie.Need-returns-4
+returns-4 c = let a = c .before .before .before .before .before .before .before .before .before .before .before .before .before .before .before .before .before .before .before .before .before .before .before .before .before .args in turn-done (a .sites) (a .faults) (now (a .book)) (now (a .site)) (now (a .log)) (a .own) (now (a .out)) (c .before .before .before .before .before .before .before .before .before .before .before .before .before .before .before .before .before .before .before .judge-site-and-log .ensures .code) (c .before .before .before .before .before .before .before .before .before .before .before .before .before .before .before .before .before .if1 .left) (c .before .before .before .before .before .before .before .before .before .before .before .before .before .before .before .before .if2 .left) (λ i. c .before .before .before .before .before .before .before .before .before .before .before .before .before .before .before .before .before .before .before .before .before .before .before .slice-known .given i .fits) (c .before .before .before .before .before .before .before .before .before .round-of .ensures .0) (c .before .before .before .before .before .before .before .before .before .before .before .is-calm .ensures) (c .before .before .before .before .before .before .before .before .entries-of .ensures) (c .before .before .before .before .before .before .take-turn .ensures) (c .before .before .send .ensures)
 
 pub turn-spec : {M : Type 1} → statement M
 turn-spec =
@@ -77,6 +92,11 @@ turn-spec =
     returns
     same-length-2
     returns-2
+    slice-reshare-prefix-has-turn
+    slice-aggregate-has-turn
+    has-turn-requires
+    same-length-3
+    returns-3
     slice-reshare-prefix-is-calm
     slice-aggregate-is-calm
     is-calm-requires
@@ -88,6 +108,6 @@ turn-spec =
     slice-aggregate-take-turn
     take-turn-requires
     send-requires
-    same-length-3
     same-length-4
-    returns-3)
+    same-length-5
+    returns-4)
