@@ -73,7 +73,7 @@ pub fn all() -> Vec<Box<dyn Measured>> {
         Box::new(Reference::default()),
         Box::new(Tuned::new()),
         #[cfg(feature = "archive")]
-        Box::new(crate::proved::Proved::new()),
+        Box::new(compare::proved::Proved::new()),
     ];
     programs
 }

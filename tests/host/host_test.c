@@ -1,5 +1,6 @@
 /* One site driven through document 01's case, through every refusal that one site gives, and with longer buffers.
  * A refused call must leave every byte lent as it was; a call that is taken must leave what is past its buffers. */
+#include "check.h"
 #include "dash_register.h"
 
 #include <stdio.h>
@@ -17,16 +18,6 @@ static struct {
 } lent, before;
 
 static size_t sites, faults, book_length, site_length, log_length, out_length;
-static unsigned passed, failed;
-
-static void check(const char *what, int holds) {
-  if (holds) {
-    passed++;
-  } else {
-    failed++;
-    printf("failed: %s\n", what);
-  }
-}
 
 static void expect(const char *what, uint32_t answer, uint32_t wanted) {
   if (answer != wanted) {
@@ -276,6 +267,5 @@ int main(void) {
   refuse_form_and_range();
   refuse_entries();
   refuse_full_record();
-  printf("%u passed, %u failed\n", passed, failed);
-  return failed != 0;
+  return closing_line();
 }

@@ -1,5 +1,6 @@
 /* Whole runs on lent working memory that is full of other bytes: the print, the sites that a run leaves, and all that a call must leave
  * as it was, with a buffer too short, with a run that is refused, and past the sizes. */
+#include "check.h"
 #include "dash_register.h"
 
 #include <stdio.h>
@@ -16,16 +17,6 @@ static struct {
 } lent, before;
 
 static size_t sites_length, log_length, sent_length, out_length;
-static unsigned passed, failed;
-
-static void check(const char *what, int holds) {
-  if (holds) {
-    passed++;
-  } else {
-    failed++;
-    printf("failed: %s\n", what);
-  }
-}
 
 /* Document 01's book: bike 5 gets dash 7 with the reading 14,000, and is read. */
 static const uint8_t book[] = {0x02, 0x05, 0x07, 0, 0, 0, 0xB0, 0x36, 0, 0, 0x03, 0x05};
@@ -144,6 +135,5 @@ int main(void) {
   play_six_sites(9);
   refuse_sizes();
   refuse_run();
-  printf("%u passed, %u failed\n", passed, failed);
-  return failed != 0;
+  return closing_line();
 }

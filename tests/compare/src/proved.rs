@@ -49,6 +49,31 @@ impl Proved {
         Proved { sites, log, sent, out, calls: 0 }
     }
 
+    /// Plays a run on the working memory as it is, and gives the print.
+    pub fn print(&mut self, run: &[u8]) -> &[u8] {
+        // SAFETY: each pointer comes with the length of its own live buffer, and the function keeps none of them.
+        let written = unsafe {
+            dash_register_run(
+                run.as_ptr(),
+                run.len(),
+                self.sites.as_mut_ptr(),
+                self.sites.len(),
+                self.log.as_mut_ptr(),
+                self.log.len(),
+                self.sent.as_mut_ptr(),
+                self.sent.len(),
+                self.out.as_mut_ptr(),
+                self.out.len(),
+            )
+        };
+        self.out.get(..written).expect("the print fits into its buffer")
+    }
+
+    /// The bytes that a call is lent: to work on, and for the print.
+    pub fn lent(&self) -> (usize, usize) {
+        (self.sites.len() + self.log.len() + self.sent.len(), self.out.len())
+    }
+
     /// What the working memory holds before a run must not matter to its print.
     fn fill_now_and_then(&mut self) {
         if self.calls % CALLS_BETWEEN_FILLS == 0 {
@@ -70,21 +95,6 @@ impl Default for Proved {
 impl Program for Proved {
     fn play(&mut self, run: &[u8]) -> Vec<u8> {
         self.fill_now_and_then();
-        // SAFETY: each pointer comes with the length of its own live buffer, and the function keeps none of them.
-        let written = unsafe {
-            dash_register_run(
-                run.as_ptr(),
-                run.len(),
-                self.sites.as_mut_ptr(),
-                self.sites.len(),
-                self.log.as_mut_ptr(),
-                self.log.len(),
-                self.sent.as_mut_ptr(),
-                self.sent.len(),
-                self.out.as_mut_ptr(),
-                self.out.len(),
-            )
-        };
-        self.out.get(..written).expect("the print fits into its buffer").to_vec()
+        self.print(run).to_vec()
     }
 }
