@@ -11,7 +11,7 @@ use Rattle.refusals.specs.declared.Verdict.{Verdict}
 use Rattle.refusals.specs.declared.Verdict.the-variants.{Taken, Refused}
 use Rattle.refusals.specs.declared.Refusal.the-variants.{Range, Role, ThirdEntry}
 use Rattle.theory.specs.Sets.{pick}
-use Rattle.theory.specs.Counting.{not-true, not-false}
+use Rattle.theory.specs.Counting.{not-true, not-false, not-not}
 use Rattle.sets.specs.declared.Set.{Set}
 use Rattle.sets.specs.Sets.{inSet}
 use Rattle.table.specs.declared.SiteTable.{SiteTable}
@@ -28,10 +28,6 @@ use Rattle.world.specs.Parts.{lent, Entered}
 use Rattle.world.proofs.Hold.{kept, refused, taken}
 use Rattle.world.proofs.Growing.{entry-holds, entry-back}
 use Rattle.arrivals.proofs.Judging.{entry-judged}
-
-not-not : (x : Bool) → not (not x) ≡ x
-not-not true = refl
-not-not false = refl
 
 -- The verdict on an entry, by whether it is in range, whether its site is faulty, and how many that site has in its round.
 abbrev entryVerdict : Bool → Bool → ℕ → Verdict

@@ -8,9 +8,10 @@ use native.Mathlib.Decide.{ℕ-discrete}
 use native.Mathlib.Numerals.{add-one}
 use native.Mathlib.Omega.{arith}
 use lib.ListN.{length, getD, take, drop, set, length-drop}
-use lib.Seq.{take-all, drop-drop, sets, getD-take}
+use lib.Seq.{drop-drop, sets, getD-take}
 use Rattle.refusals.specs.declared.Verdict.the-variants.{Taken, Refused}
 use Rattle.refusals.specs.declared.Refusal.the-variants.{Book}
+use Rattle.wire.proofs.Laws.{part-all}
 use Rattle.register.specs.Register.{Valid}
 use Rattle.register.specs.declared.Command.{Command}
 use Rattle.register.specs.declared.Command.the-variants.{Add, Fit, Read, Trim}
@@ -21,9 +22,6 @@ use Rattle.commands.specs.Book.{maxCommands, sizeOf, readCommand, also, 
 use Rattle.commands.proofs.Laws.{front}
 
 -- The code reads the front of the part from a position on.
-part-all : (s : List ℕ) (at : ℕ) → take (length s - at) (drop at s) ≡ drop at s
-part-all s at = take-all (length s - at) (drop at s) (omega (arith, length-drop at s))
-
 pub read-at : (s : List ℕ) (at : ℕ) {r q : Reading} → r ≡ readCommand (take (length s - at) (drop at s)) → r ≡ q → readCommand (drop at s) ≡ q
 read-at s at e w = ap readCommand (sym (part-all s at)) ∙ sym e ∙ w
 

@@ -19,7 +19,7 @@ use Rattle.table.specs.Table.{isGood, judgeTable}
 use Rattle.table.proofs.Laws.{judged-good}
 use Rattle.register.specs.declared.Command.{Command}
 use Rattle.commands.specs.Book.{maxCommands, readUpTo, verdictOf, judgeBook}
-use Rattle.steps.proofs.Laws.{part-all}
+use Rattle.wire.proofs.Laws.{part-all}
 use Rattle.protocol.specs.System.{granted, _else_⨾_, verdict}
 use Rattle.protocol.specs.CommonSequence.{isTaken}
 use Rattle.runs.specs.Run.{maxRun, headerSize, tableOf, bookSize, bookOf, stepBytes, forRun}

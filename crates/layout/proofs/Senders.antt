@@ -11,7 +11,7 @@ use lib.Dec.{eqb, leb, ltb}
 use lib.ListN.{length, take, drop, getD}
 use lib.Seq.{drop-drop, take-at, take-add}
 use borrow.Author.Tests.{lt-ltb, le-leb, eq-eqb, eqb-true, ltb-true, leb-true}
-use Rattle.theory.specs.Counting.{both, left, right, never}
+use Rattle.theory.specs.Counting.{both, left, right, never, or-false}
 use Rattle.wire.specs.Wire.{bytes, readLe}
 use Rattle.wire.proofs.Laws.{length-bytes, peel, read-lt}
 use Rattle.sets.specs.declared.Set.{Set}
@@ -32,10 +32,6 @@ table-bounds j r h =
 -- The n-th set heard is that of sender n / 33 and round n % 33 + 1.
 pub cell-number : (n : ℕ) → cell (n / siteRounds) (n % siteRounds + 1) ≡ heardAt n
 cell-number n = omega arith
-
-or-false : (p : Bool) → (p || false) ≡ p
-or-false true = refl
-or-false false = refl
 
 -- What the code of hear does, in one step.
 pub united : (b : List ℕ) (at : ℕ) (set : Set) {place : ℕ} {old new : Set} {l : List ℕ} → place ≡ at → old ≡ readSet b place → new ≡ unionOf old set

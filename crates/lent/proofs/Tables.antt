@@ -13,7 +13,7 @@ use lib.Dec.{eqb, ltb}
 use lib.ListN.{length, getD}
 use borrow.Author.Tests.{eq-eqb, ne-eqb, lt-ltb, le-ltb, le-leb, lt-leb}
 use Rattle.theory.specs.Sets.{all}
-use Rattle.theory.specs.Counting.{all-of, all-ext, any-not-all}
+use Rattle.theory.specs.Counting.{all-of, all-ext, any-not-all, not-not, or-false}
 use Rattle.wire.specs.Wire.{readLe}
 use Rattle.wire.proofs.Laws.{read-suc, read-none, read-one}
 use Rattle.sets.specs.declared.Set.{Set}
@@ -38,14 +38,6 @@ and-assoc false b c = refl
 and-true : (a : Bool) → a && true ≡ a
 and-true true = refl
 and-true false = refl
-
-or-false : (a : Bool) → a || false ≡ a
-or-false true = refl
-or-false false = refl
-
-not-not : (a : Bool) → not (not a) ≡ a
-not-not true = refl
-not-not false = refl
 
 absorbed : (x y : Bool) → (y ≡ true → x ≡ true) → x && y ≡ y
 absorbed x true h = ap (λ (t : Bool). t && true) (h refl)

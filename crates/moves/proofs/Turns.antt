@@ -16,7 +16,7 @@ use Rattle.refusals.specs.declared.Verdict.the-variants.{Taken, Refused}
 use Rattle.refusals.specs.declared.Refusal.the-variants.{Range, Role, Disabled, ThirdEntry, LastRound}
 use Rattle.theory.specs.Sets as theory
 use Rattle.theory.specs.Sets.{pick, any}
-use Rattle.theory.specs.Counting.{both, left, never}
+use Rattle.theory.specs.Counting.{both, left, never, not-not}
 use Rattle.sets.specs.declared.Set.{Set}
 use Rattle.sets.specs.Sets.{capacity, inSet, setOf, withoutOf, withinOf}
 use Rattle.sets.proofs.Laws.{in-without, word-lt}
@@ -71,10 +71,6 @@ free-new t bytes u p calm =
     (λ m k. left (inSet u m) (not (inSet p m)) (sym (in-without u p m) ∙ k))
     (λ m k. ⊎-map (λ e. e) (λ e. in-without u p m ∙ e) (new-or-pending (inSet u m) (inSet p m) k))
     ∙ free-rows bytes t (inSet u)
-
-not-not : (x : Bool) → not (not x) ≡ x
-not-not true = refl
-not-not false = refl
 
 -- The conflict test by the rows and the number of entries by what is kept of the log are those that the turn asks for.
 pub turned-by : (rows kept : List ℕ) (i : ℕ) (b : List ℕ) {u p n : Set} {f third : Bool} {round : ℕ} {r : Turn} {after : List ℕ}

@@ -13,7 +13,7 @@ use Rattle.refusals.specs.declared.Refusal.the-variants.{Disabled, ThirdEntry, 
 use Rattle.refusals.specs.declared.Verdict.{Verdict}
 use Rattle.refusals.specs.declared.Verdict.the-variants.{Taken, Refused}
 use Rattle.theory.specs.Sets.{pick, any}
-use Rattle.theory.specs.Counting.{never, same-test, lt-or-le, any-some, any-at, any-ext}
+use Rattle.theory.specs.Counting.{never, same-test, lt-or-le, any-some, any-at, any-ext, not-not}
 use Rattle.sets.specs.declared.Set.{Set}
 use Rattle.sets.specs.Sets.{capacity, inSet, setOf, withoutOf, isEmptyOf, withinOf, writeSet}
 use Rattle.sets.proofs.Laws.{in-without, in-above, without-fits, within-at, set-of-members}
@@ -108,10 +108,6 @@ by-tests Acknowledging false false false true u q = refl
 by-tests Acknowledging false false false false u q = refl
 by-tests Acknowledging false false true low u q = refl
 by-tests (Waiting p) empty free third low u q = refl
-
-not-not : (a : Bool) → not (not a) ≡ a
-not-not true = refl
-not-not false = refl
 
 -- What is in one set and neither of two others.
 neither : (r d p : Bool) → (r && not d && not p) ≡ (r && not (d || p))

@@ -5,10 +5,9 @@ use mathlib.Core.List.{List, [], _∷_, _++_}
 use Prim.Native.Nat.{ℕ, zero, suc, _+_, _-_, _≤_, _<_}
 use native.Mathlib.Omega.{arith}
 use borrow.Author.Tests.{le-leb, lt-leb}
-use lib.ListN.{length, take, drop, length-drop}
-use lib.Seq.{take-all}
+use lib.ListN.{length, take, drop}
 use Rattle.wire.specs.Wire.{splice}
-use Rattle.wire.proofs.Laws.{splice-two}
+use Rattle.wire.proofs.Laws.{splice-two, part-all}
 use Rattle.sets.specs.declared.Set.{Set}
 use Rattle.sets.specs.Sets.{readSet}
 use Rattle.steps.specs.declared.Step.{Step}
@@ -67,9 +66,6 @@ no-code s (suc (suc (suc (suc (suc (suc (suc (suc (suc (suc zero)))))))))) n₁ 
 no-code s (suc (suc (suc (suc (suc (suc (suc (suc (suc (suc (suc k))))))))))) n₁ n₂ n₃ n₄ n₅ n₆ n₇ n₈ n₉ n₁₀ = refl
 
 -- The code reads the front of the part from a position on.
-pub part-all : (s : List ℕ) (at : ℕ) → take (length s - at) (drop at s) ≡ drop at s
-part-all s at = take-all (length s - at) (drop at s) (omega (arith, length-drop at s))
-
 pub read-at : (s : List ℕ) (at : ℕ) {r q : Reading} → r ≡ readStep (take (length s - at) (drop at s)) → r ≡ q → readStep (drop at s) ≡ q
 read-at s at e w = ap readStep (sym (part-all s at)) ∙ sym e ∙ w
 

@@ -52,6 +52,14 @@ pub not-false : (a : Bool) → not a ≡ false → a ≡ true
 not-false true h = refl
 not-false false h = sym h
 
+pub not-not : (a : Bool) → not (not a) ≡ a
+not-not true = refl
+not-not false = refl
+
+pub or-false : (a : Bool) → (a || false) ≡ a
+or-false true = refl
+or-false false = refl
+
 -- A test is true or false.
 pub known : (a : Bool) → (a ≡ true) ⊎ (a ≡ false)
 known true = inl refl

@@ -7,7 +7,7 @@ use native.Mathlib.Nat.{pow-suc, div-lt-iff-lt-mul, add-assoc}
 use native.Mathlib.Numerals.{add-one, towards-suc}
 use native.Mathlib.Omega.{arith}
 use lib.ListN.{length, take, drop, getD, length-append, length-take, length-drop, take-append-drop}
-use lib.Seq.{drop-cons, sets, sets-eq, drop-drop, take-at, drop-at, take-append-le, drop-append-le, take-append-add, take-add, length-take-le, getD-drop}
+use lib.Seq.{drop-cons, sets, sets-eq, drop-drop, take-at, drop-at, take-append-le, drop-append-le, take-append-add, take-add, length-take-le, take-all, getD-drop}
 use borrow.Rule.Slice.PartMut.{putMid}
 use Rattle.wire.specs.Wire.{value, bytes, readLe, splice}
 
@@ -149,3 +149,7 @@ read-eight s at h =
       read-suc 4 s (suc (suc (suc at))) (omega arith),
       read-four s (suc (suc (suc (suc at)))) (omega arith),
     ) (simp towards-suc)
+
+-- The part from a position to the end.
+pub part-all : (s : List ℕ) (at : ℕ) → take (length s - at) (drop at s) ≡ drop at s
+part-all s at = take-all (length s - at) (drop at s) (omega (arith, length-drop at s))

@@ -5,7 +5,7 @@ use borrow.Author.Needs.{needs}
 use denote.Ref.{now}
 use lib.ListN.{length}
 use Rattle.steps.specs.Steps.{readStep}
-use Rattle.steps.proofs.Laws.{part-all}
+use Rattle.wire.proofs.Laws.{part-all}
 use Rattle.commands.specs.Book.{commandsOf}
 use Rattle.rounds.specs.Rounds.{Kept}
 use Rattle.world.specs.Parts.{lent}
