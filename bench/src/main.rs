@@ -11,7 +11,7 @@ use bench::table::Table;
 use bench::workloads::{self, Workload};
 use bench::{calls, measure};
 use compare::lent_calls::Engine;
-use compare::settings::number;
+use compare::settings::{number, text};
 use std::time::Duration;
 
 #[global_allocator]
@@ -122,9 +122,12 @@ fn main() {
     let milliseconds = number("BENCH_MILLISECONDS", 1);
     let turns = number("BENCH_TURNS", 31).max(1) as usize;
     let effort = Effort { turns, turn: Duration::from_millis(milliseconds) };
-    let (mut programs, workloads) = (programs::all(), workloads::all(number("BEURILMA_SEED", 1)));
+    let rows = text("BENCH_ROWS");
+    let (mut programs, mut workloads) = (programs::all(), workloads::all(number("BEURILMA_SEED", 1)));
+    workloads.retain(|workload| workload.name.contains(&rows));
     println!("{}", runs(&mut programs, &workloads, effort));
-    let (mut engines, cases) = (engines::all(), cases::all());
+    let (mut engines, mut cases) = (engines::all(), cases::all());
+    cases.retain(|case| case.name.contains(&rows));
     println!("{}", single_calls(&mut engines, &cases, effort));
     println!("{}", memory(&mut programs, &workloads));
     println!("{}", memory_of_calls(&mut engines, &cases));

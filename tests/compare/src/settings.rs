@@ -1,4 +1,4 @@
-//! Numbers set by environment variables.
+//! What is set by environment variables.
 
 use std::env;
 use std::io::Write;
@@ -9,6 +9,11 @@ pub fn number(name: &str, default: u64) -> u64 {
         Ok(text) => text.trim().parse().unwrap_or_else(|_| panic!("{name} must be a number, not {text:?}")),
         Err(_) => default,
     }
+}
+
+/// The text in an environment variable, empty where it is not set.
+pub fn text(name: &str) -> String {
+    env::var(name).unwrap_or_default()
 }
 
 /// Says something even where a passing test's prints are kept back.
