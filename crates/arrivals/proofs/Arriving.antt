@@ -6,19 +6,21 @@ use mathlib.Core.List.{List}
 use mathlib.Core.Option.{Option, none, some}
 use Prim.Native.Nat.{ℕ, pred, _*_, _≤_, _<_}
 use native.Mathlib.Omega.{arith}
-use lib.Dec.{leb}
+use lib.Dec.{leb, ltb}
 use lib.ListN.{length, getD}
 use Rattle.refusals.specs.declared.Refusal.{Refusal}
 use Rattle.refusals.specs.declared.Verdict.{Verdict}
 use Rattle.refusals.specs.declared.Verdict.the-variants.{Taken, Refused}
-use Rattle.refusals.specs.declared.Refusal.the-variants.{Range, Role, Disabled}
+use Rattle.refusals.specs.declared.Refusal.the-variants.{Disabled}
 use Rattle.theory.specs.Sets as theory
 use Rattle.theory.specs.Sets.{only, pick}
+use Rattle.theory.specs.Counting.{not-true}
 use Rattle.theory.specs.Lists.{nth}
 use Rattle.sets.specs.declared.Set.{Set}
 use Rattle.sets.specs.Sets.{capacity, inSet, withinOf}
 use Rattle.table.specs.declared.SiteTable.{SiteTable}
 use Rattle.table.specs.Table.{faultyOf}
+use Rattle.roles.specs.Roles.{isCorrectSite, isFaultySite, refusalOf}
 use Rattle.register.specs.declared.Command.{Command}
 use Rattle.protocol.specs.Site.{Site, receive, hear, isSome}
 use Rattle.protocol.specs.World.{World, Step, command, acknowledgment, check, falseAcknowledgment, falseCheck, orEmpty, put, judge, sentAcknowledgment}
@@ -31,7 +33,7 @@ use Rattle.world.specs.World.{GoodWorld, knownTo, worldOf}
 use Rattle.world.specs.Parts.{lent, AtSite, Arrived}
 use Rattle.world.proofs.Hold.{refused, one-site}
 use Rattle.arrivals.specs.Messages.{messageVerdict}
-use Rattle.arrivals.proofs.Judging.{andSent, Passed, command-site, command-number, command-role, command-taken, acknowledgment-judged, check-judged, false-acknowledgment-judged, false-check-judged}
+use Rattle.arrivals.proofs.Judging.{andSent, Passed, from-correct, from-faulty, command-refused, command-taken, acknowledgment-judged, check-judged, false-acknowledgment-judged, false-check-judged}
 
 module _ (t : SiteTable) (commands : ℕ) (sent sites : List ℕ) (small : (k : ℕ) → getD sites k 0 < 256) where
   -- A refusal, by the verdict on it.
@@ -42,30 +44,26 @@ module _ (t : SiteTable) (commands : ℕ) (sent sites : List ℕ) (small : (k : 
 
   -- ---- 01
   module _ (i m : ℕ) where
-    pub no-site : t .sites ≤ i → Arrived t commands (command i m) sent sites (Refused Range) sites
-    no-site h = refusal (command i m) Range (λ book log entries q. command-site t book (worldOf t book (lent sites log entries sent)) i m h)
+    pub command-turned-down : {c : Bool} → c ≡ isCorrectSite t i → not (c && ltb m commands) ≡ true → {r : Refusal} → r ≡ refusalOf t i (ltb m commands)
+        → Arrived t commands (command i m) sent sites (Refused r) sites
+    command-turned-down ec h {r} er =
+        refusal (command i m) r
+        (λ book log entries q.
+        command-refused t book (worldOf t book (lent sites log entries sent)) i m (sym (λ k. ec k && ltb m (q k)) ∙ not-true _ h)
+        ∙ (λ k. Refused (refusalOf t i (ltb m (sym q k)))) ∙ (λ k. Refused (sym er k)))
 
-    pub no-command : i < t .sites → commands ≤ m → Arrived t commands (command i m) sent sites (Refused Range) sites
-    no-command a h =
-        refusal (command i m) Range (λ book log entries q. command-number t book (worldOf t book (lent sites log entries sent)) i m a (omega arith))
-
-    pub faulty-site : i < t .sites → m < commands → {f : Bool} → f ≡ faultyOf t i → f ≡ true → Arrived t commands (command i m) sent sites (Refused Role) sites
-    faulty-site a b e h =
-        refusal (command i m) Role
-        (λ book log entries q. command-role t book (worldOf t book (lent sites log entries sent)) i m a (omega arith) (sym e ∙ h))
-
-    pub commanded : i < t .sites → m < commands → {f : Bool} → f ≡ faultyOf t i → f ≡ false → {after : List ℕ} → AtSite i (Commanded m) sites after
+    pub commanded : i < t .sites → m < commands → faultyOf t i ≡ false → {after : List ℕ} → AtSite i (Commanded m) sites after
         → Arrived t commands (command i m) sent sites Taken after
-    commanded a b e h p =
+    commanded a b e p =
         λ book log entries q g.
         one-site t book (lent sites log entries sent) g (command i m) small i a p (receive (dash t book) (only m)) (p .did t book (g .site i a) (omega arith)) (g .position i a)
-        (command-taken t book (worldOf t book (lent sites log entries sent)) i m a (omega arith) (sym e ∙ h)) refl refl refl
+        (command-taken t book (worldOf t book (lent sites log entries sent)) i m a (omega arith) e) refl refl refl
 
   -- ---- 02 and 03
   module _ (i j r : ℕ) where
-    module _ (a : ℕ) {o f : Bool} (eo : o ≡ (leb 1 a && leb a capacity)) (ef : f ≡ faultyOf t j) {v : Verdict} (ev : v ≡ messageVerdict t i j r o (not f)) where
+    module _ (a : ℕ) {o f : Bool} (eo : o ≡ (leb 1 a && leb a capacity)) (ef : f ≡ isCorrectSite t j) {v : Verdict} (ev : v ≡ messageVerdict t i j r o f) where
       this : v ≡ messageVerdict t i j r (leb 1 a && leb a capacity) (not (faultyOf t j))
-      this = ev ∙ (λ k. messageVerdict t i j r (eo k) (not (ef k)))
+      this = ev ∙ (λ k. messageVerdict t i j r (eo k) (ef k)) ∙ from-correct t i j r (leb 1 a && leb a capacity)
 
       judged : (book : List Command) (log : List ℕ) (entries : ℕ)
           → judge (dash t book) (worldOf t book (lent sites log entries sent)) (acknowledgment i j r a) ≡ andSent v (isSome (nth (acksOf sent j r) (pred a)))
@@ -85,7 +83,7 @@ module _ (t : SiteTable) (commands : ℕ) (sent sites : List ℕ) (small : (k : 
             (λ book log entries z.
             judged book log entries ∙ (λ k. andSent (e k) (isSome (sym (read .means) k))) ∙ ap (λ (y : Message). andSent Taken (isSome (said y))) q)
 
-        pub acknowledged : Passed t i j r o (not f) → (x : Set) → m ≡ Sent x → {after : List ℕ} → AtSite i (Heard j r x) sites after
+        pub acknowledged : Passed t i j r o f → (x : Set) → m ≡ Sent x → {after : List ℕ} → AtSite i (Heard j r x) sites after
             → Arrived t commands (acknowledgment i j r a) sent sites Taken after
         acknowledged p x q {after} h =
             λ book log entries z g.
@@ -96,12 +94,12 @@ module _ (t : SiteTable) (commands : ℕ) (sent sites : List ℕ) (small : (k : 
             (judged book log entries ∙ (λ k. andSent (e k) (isSome (sym told k))))
             (λ k. put (dash t book) i (hear (dash t book) j r (orEmpty (sym told k)) (worldOf t book b .site i)) (worldOf t book b)) refl refl
 
-    module _ {f : Bool} (ef : f ≡ faultyOf t j) {v : Verdict} (ev : v ≡ messageVerdict t i j r true (not f)) where
+    module _ {f : Bool} (ef : f ≡ isCorrectSite t j) {v : Verdict} (ev : v ≡ messageVerdict t i j r true f) where
       check-told : (book : List Command) (log : List ℕ) (entries : ℕ)
           → judge (dash t book) (worldOf t book (lent sites log entries sent)) (check i j r) ≡ andSent v (isSome (checksOf sent j r))
       check-told book log entries =
           check-judged t book (worldOf t book (lent sites log entries sent)) i j r
-          ∙ ap (λ (x : Verdict). andSent x (isSome (checksOf sent j r))) (sym (ev ∙ (λ k. messageVerdict t i j r true (not (ef k)))))
+          ∙ ap (λ (x : Verdict). andSent x (isSome (checksOf sent j r))) (sym (ev ∙ (λ k. messageVerdict t i j r true (ef k)) ∙ from-correct t i j r true))
 
       pub check-refused : (x : Refusal) → v ≡ Refused x → Arrived t commands (check i j r) sent sites (Refused x) sites
       check-refused x e =
@@ -115,7 +113,7 @@ module _ (t : SiteTable) (commands : ℕ) (sent sites : List ℕ) (small : (k : 
             (λ book log entries z.
             check-told book log entries ∙ (λ k. andSent (e k) (isSome (sym (read .means) k))) ∙ ap (λ (y : Message). andSent Taken (isSome (said y))) q)
 
-        pub checked : Passed t i j r true (not f) → (x : Set) → m ≡ Sent x → {after : List ℕ} → AtSite i (Received x) sites after
+        pub checked : Passed t i j r true f → (x : Set) → m ≡ Sent x → {after : List ℕ} → AtSite i (Received x) sites after
             → Arrived t commands (check i j r) sent sites Taken after
         checked p x q {after} h =
             λ book log entries z g.
@@ -127,9 +125,9 @@ module _ (t : SiteTable) (commands : ℕ) (sent sites : List ℕ) (small : (k : 
             (λ k. put (dash t book) i (receive (dash t book) (orEmpty (sym told k)) (worldOf t book b .site i)) (worldOf t book b)) refl refl
 
     -- ---- 04 and 05
-    module _ (x : Set) {o f : Bool} (eo : o ≡ withinOf x commands) (ef : f ≡ faultyOf t j) {v : Verdict} (ev : v ≡ messageVerdict t i j r o f) where
+    module _ (x : Set) {o f : Bool} (eo : o ≡ withinOf x commands) (ef : f ≡ isFaultySite t j) {v : Verdict} (ev : v ≡ messageVerdict t i j r o f) where
       false-told : (book : List Command) → commands ≡ length book → v ≡ messageVerdict t i j r (withinOf x (length book)) (faultyOf t j)
-      false-told book q = ev ∙ (λ k. messageVerdict t i j r ((eo ∙ ap (withinOf x) q) k) (ef k))
+      false-told book q = ev ∙ (λ k. messageVerdict t i j r ((eo ∙ ap (withinOf x) q) k) (ef k)) ∙ from-faulty t i j r (withinOf x (length book))
 
       module _ (y : Refusal) (e : v ≡ Refused y) where
         pub false-acknowledgment-refused : Arrived t commands (falseAcknowledgment i j r (inSet x)) sent sites (Refused y) sites

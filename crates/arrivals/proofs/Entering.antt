@@ -1,11 +1,13 @@
 -- Step 06 on lent buffers: an entry of a faulty site in the log.
 -- Assumes nothing.
 use mathlib.Core.Path.{_≡_, refl, sym, ap, subst, _∙_}
-use mathlib.Core.Bool.{Bool, true, false, not}
+use mathlib.Core.Bool.{Bool, true, false, _&&_, not}
 use mathlib.Core.List.{List}
 use Prim.Native.Nat.{ℕ, _+_, _*_, _≤_}
 use lib.Dec.{ltb}
 use lib.ListN.{length}
+use borrow.Author.Tests.{lt-ltb}
+use Rattle.refusals.specs.Refusals.{codeOf}
 use Rattle.refusals.specs.declared.Refusal.{Refusal}
 use Rattle.refusals.specs.declared.Verdict.{Verdict}
 use Rattle.refusals.specs.declared.Verdict.the-variants.{Taken, Refused}
@@ -16,6 +18,7 @@ use Rattle.sets.specs.declared.Set.{Set}
 use Rattle.sets.specs.Sets.{inSet}
 use Rattle.table.specs.declared.SiteTable.{SiteTable}
 use Rattle.table.specs.Table.{faultyOf}
+use Rattle.roles.specs.Roles.{isFaultySite}
 use Rattle.register.specs.declared.Command.{Command}
 use Rattle.protocol.specs.Recovery as recovery
 use Rattle.protocol.specs.World.{falseEntry, append, judge}
@@ -23,6 +26,7 @@ use Rattle.system.specs.Dash.{dash}
 use Rattle.entries.specs.declared.Entry.{Entry}
 use Rattle.entries.specs.Entries.{entrySize, logTo, writeEntry, viewEntry, inRangeOf}
 use Rattle.entries.proofs.Bytes.{Fits}
+use Rattle.entries.proofs.Judging.{in-range-told}
 use Rattle.world.specs.World.{worldOf, HoldsWorld}
 use Rattle.world.specs.Parts.{lent, Entered}
 use Rattle.world.proofs.Hold.{kept, refused, taken}
@@ -37,8 +41,8 @@ module _ (t : SiteTable) (commands : ℕ) (log : List ℕ) (entries j r : ℕ) (
   abbrev this : Entry
   this = record { site = j; round = r; nc = nc; c = c }
 
-  abbrev answered : Verdict → ℕ → List ℕ → Type 0
-  answered v k after = Entered t commands (falseEntry j r (inSet nc) (inSet c)) log entries (record { verdict = v; entries = k }) after
+  abbrev answered : ℕ → ℕ → List ℕ → Type 0
+  answered n k after = Entered t commands (falseEntry j r (inSet nc) (inSet c)) log entries (record { code = n; entries = k }) after
 
   told : (book : List Command) (sites sent : List ℕ) → commands ≡ length book
       → judge (dash t book) (worldOf t book (lent sites log entries sent)) (falseEntry j r (inSet nc) (inSet c))
@@ -48,17 +52,24 @@ module _ (t : SiteTable) (commands : ℕ) (log : List ℕ) (entries j r : ℕ) (
       ∙ ap (λ (m : ℕ). entryVerdict (inRangeOf (t .sites) m this) (faultyOf t j) (recovery.entries j r (logTo log entries))) (sym q)
 
   entry-refused : (y : Refusal) → entryVerdict (inRangeOf (t .sites) commands this) (faultyOf t j) (recovery.entries j r (logTo log entries)) ≡ Refused y
-      → answered (Refused y) entries log
-  entry-refused y e =
+      → {n : ℕ} → n ≡ codeOf (Refused y) → answered n entries log
+  entry-refused y e en =
       λ book sites sent q g small.
-      refused t book (lent sites log entries sent) g (falseEntry j r (inSet nc) (inSet c)) y (told book sites sent q ∙ e) small
+      record {
+        verdict = Refused y;
+        number = en;
+        outcome = refused t book (lent sites log entries sent) g (falseEntry j r (inSet nc) (inSet c)) y (told book sites sent q ∙ e) small;
+      }
 
   module _ {x : Bool} (ex : x ≡ inRangeOf (t .sites) commands this) where
-    pub entry-out : not x ≡ true → answered (Refused Range) entries log
+    pub entry-out : not x ≡ true → {n : ℕ} → n ≡ codeOf (Refused Range) → answered n entries log
     entry-out h = entry-refused Range (λ i. entryVerdict ((sym ex ∙ not-true x h) i) (faultyOf t j) (recovery.entries j r (logTo log entries)))
 
-    module _ (hx : not x ≡ false) {f : Bool} (ef : f ≡ faultyOf t j) where
-      pub entry-correct : not f ≡ true → answered (Refused Role) entries log
+    module _ (hx : not x ≡ false) {f : Bool} (eg : f ≡ isFaultySite t j) where
+      ef : f ≡ faultyOf t j
+      ef = eg ∙ ap (λ (b : Bool). b && faultyOf t j) (lt-ltb j (t .sites) (in-range-told (t .sites) commands this (sym ex ∙ not-false x hx) .site))
+
+      pub entry-correct : not f ≡ true → {n : ℕ} → n ≡ codeOf (Refused Role) → answered n entries log
       entry-correct h =
           entry-refused Role (λ i. entryVerdict ((sym ex ∙ not-false x hx) i) ((sym ef ∙ not-true f h) i) (recovery.entries j r (logTo log entries)))
 
@@ -70,16 +81,21 @@ module _ (t : SiteTable) (commands : ℕ) (log : List ℕ) (entries j r : ℕ) (
             ≡ pick (not third) Taken (Refused ThirdEntry)
         by-number = λ i. pick ((sym ex ∙ not-false x hx) i) (pick ((sym ef ∙ not-false f hf) i) (pick (sym few i) Taken (Refused ThirdEntry)) (Refused Role)) (Refused Range)
 
-        pub entry-third : third ≡ true → answered (Refused ThirdEntry) entries log
+        pub entry-third : third ≡ true → {n : ℕ} → n ≡ codeOf (Refused ThirdEntry) → answered n entries log
         entry-third h = entry-refused ThirdEntry (by-number ∙ ap (λ (b : Bool). pick (not b) Taken (Refused ThirdEntry)) h)
 
         pub entered : third ≡ false → Fits this → (entries + 1) * entrySize ≤ length log → {after : List ℕ} → after ≡ writeEntry log entries this
-            → answered Taken (entries + 1) after
+            → answered 0 (entries + 1) after
         entered h fits room {after} ea =
             λ book sites sent q g small.
             let b = lent sites log entries sent in
+            record {
+              verdict = Taken;
+              number = refl;
+              outcome =
             taken t book b g (falseEntry j r (inSet nc) (inSet c))
             (told book sites sent q ∙ by-number ∙ ap (λ (y : Bool). pick (not y) Taken (Refused ThirdEntry)) h)
             (subst (λ (l : List ℕ). HoldsWorld t book (lent sites l (entries + 1) sent) (append (dash t book) (viewEntry this) (worldOf t book b))) (sym ea)
             (entry-holds t book b (kept t book b g small) this fits (ap (λ (m : ℕ). inRangeOf (t .sites) m this) (sym q) ∙ sym ex ∙ not-false x hx) room))
-            (ea ∙ ap (writeEntry log entries) (sym (entry-back this (fits .nc) (fits .c)))) refl
+            (ea ∙ ap (writeEntry log entries) (sym (entry-back this (fits .nc) (fits .c)))) refl;
+            }

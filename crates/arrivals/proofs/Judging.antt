@@ -6,16 +6,18 @@ use mathlib.Core.List.{List}
 use Prim.Native.Nat.{ℕ, _≤_, _<_}
 use lib.Dec.{leb, ltb}
 use lib.ListN.{length}
-use borrow.Author.Tests.{lt-ltb, le-ltb, ltb-true, leb-true}
+use borrow.Author.Tests.{lt-ltb, ltb-true, leb-true}
 use Rattle.refusals.specs.declared.Verdict.{Verdict}
 use Rattle.refusals.specs.declared.Verdict.the-variants.{Taken, Refused}
 use Rattle.refusals.specs.declared.Refusal.the-variants.{Range, Role, Disabled, ThirdEntry}
 use Rattle.theory.specs.Sets.{pick}
-use Rattle.theory.specs.Counting.{left, right, never, not-true}
+use Rattle.theory.specs.Counting.{left, right, never, not-true, not-false}
 use Rattle.sets.specs.declared.Set.{Set}
 use Rattle.sets.specs.Sets.{capacity, inSet, withinOf}
 use Rattle.table.specs.declared.SiteTable.{SiteTable}
 use Rattle.table.specs.Table.{faultyOf}
+use Rattle.roles.specs.Roles.{isCorrectSite, isFaultySite, refusalOf}
+use Rattle.roles.proofs.Laws.{refused-with}
 use Rattle.register.specs.declared.Command.{Command}
 use Rattle.protocol.specs.System.{granted, _else_⨾_, verdict}
 use Rattle.protocol.specs.Recovery.{entries}
@@ -66,30 +68,108 @@ module _ (t : SiteTable) (i j r : ℕ) (other role : Bool) where
       go true false ex ey k = absurd (never true refl (let z : true ≡ false = cc in z))
       go false y ex ey k = absurd (never true refl (let z : true ≡ false = cc in z))
 
-  -- The verdict as the code comes to it.
-  pub out-of-range : (inRanges t i j r && other) ≡ false → Refused Range ≡ messageVerdict t i j r other role
-  out-of-range e = sym (ap (λ (x : Bool). pick x (pick (not (faultyOf t i) && role) Taken (Refused Role)) (Refused Range)) e)
+  -- The verdict as the code comes to it: what passes is found first, then what refuses is told apart.
+  abbrev taken-of : Bool → Bool → Bool → Bool → Bool → Bool → Bool
+  taken-of a f q first last o = (a && not f) && q && first && last && o
 
-  module _ (e : (inRanges t i j r && other) ≡ true) where
-    in-range : pick (not (faultyOf t i) && role) Taken (Refused Role) ≡ messageVerdict t i j r other role
-    in-range = sym (ap (λ (x : Bool). pick x (pick (not (faultyOf t i) && role) Taken (Refused Role)) (Refused Range)) e)
+  abbrev range-of : Bool → Bool → Bool → Bool → Bool → Bool
+  range-of a s first last o = (a && s) && first && last && o
 
-    pub faulty-receiver : faultyOf t i ≡ true → Refused Role ≡ messageVerdict t i j r other role
-    faulty-receiver f = sym (ap (λ (x : Bool). pick (not x && role) Taken (Refused Role)) f) ∙ in-range
+  module _ (sender : role ≡ true → j < t .sites) where
+    found-taken : taken-of (ltb i (t .sites)) (faultyOf t i) role (leb 1 r) (leb r siteRounds) other ≡ true → Taken ≡ messageVerdict t i j r other role
+    found-taken e =
+        let s = lt-ltb j (t .sites) (sender (role-of (ltb i (t .sites)) (faultyOf t i) role (leb 1 r) (leb r siteRounds) other e)) in
+        go (ltb i (t .sites)) (ltb j (t .sites)) (faultyOf t i) role (leb 1 r) (leb r siteRounds) other s e
+      where
+        role-of : (a f q b c o : Bool) → taken-of a f q b c o ≡ true → q ≡ true
+        role-of a f true b c o h = refl
+        role-of true true false b c o h = h
+        role-of true false false b c o h = h
+        role-of false f false b c o h = h
 
-    pub by-role : faultyOf t i ≡ false → pick role Taken (Refused Role) ≡ messageVerdict t i j r other role
-    by-role f = sym (ap (λ (x : Bool). pick (not x && role) Taken (Refused Role)) f) ∙ in-range
+        go : (a s f q b c o : Bool) → s ≡ true → taken-of a f q b c o ≡ true
+            → Taken ≡ pick (a && s && b && c && o) (pick (not f && q) Taken (Refused Role)) (Refused Range)
+        go true true false true true true true hs h = refl
+        go true true false true true true false hs h = absurd (never true refl (sym h))
+        go true true false true true false o hs h = absurd (never true refl (sym h))
+        go true true false true false c o hs h = absurd (never true refl (sym h))
+        go true true false false b c o hs h = absurd (never true refl (sym h))
+        go true true true q b c o hs h = absurd (never true refl (sym h))
+        go true false f q b c o hs h = absurd (never true refl (sym hs))
+        go false s f q b c o hs h = absurd (never true refl (sym h))
+
+    found-out : range-of (ltb i (t .sites)) (ltb j (t .sites)) (leb 1 r) (leb r siteRounds) other ≡ false → Refused Range ≡ messageVerdict t i j r other role
+    found-out e = go (ltb i (t .sites)) (ltb j (t .sites)) (faultyOf t i) role (leb 1 r) (leb r siteRounds) other e
+      where
+        go : (a s f q b c o : Bool) → range-of a s b c o ≡ false → Refused Range ≡ pick (a && s && b && c && o) (pick (not f && q) Taken (Refused Role)) (Refused Range)
+        go true true f q true true true h = absurd (never true refl h)
+        go true true f q true true false h = refl
+        go true true f q true false o h = refl
+        go true true f q false c o h = refl
+        go true false f q b c o h = refl
+        go false s f q b c o h = refl
+
+    found-role : taken-of (ltb i (t .sites)) (faultyOf t i) role (leb 1 r) (leb r siteRounds) other ≡ false
+        → range-of (ltb i (t .sites)) (ltb j (t .sites)) (leb 1 r) (leb r siteRounds) other ≡ true → Refused Role ≡ messageVerdict t i j r other role
+    found-role d e = go (ltb i (t .sites)) (ltb j (t .sites)) (faultyOf t i) role (leb 1 r) (leb r siteRounds) other d e
+      where
+        go : (a s f q b c o : Bool) → taken-of a f q b c o ≡ false → range-of a s b c o ≡ true
+            → Refused Role ≡ pick (a && s && b && c && o) (pick (not f && q) Taken (Refused Role)) (Refused Range)
+        go true true true q true true true d h = refl
+        go true true false false true true true d h = refl
+        go true true false true true true true d h = absurd (never true refl d)
+        go true true f q true true false d h = absurd (never true refl (sym h))
+        go true true f q true false o d h = absurd (never true refl (sym h))
+        go true true f q false c o d h = absurd (never true refl (sym h))
+        go true false f q b c o d h = absurd (never true refl (sym h))
+        go false s f q b c o d h = absurd (never true refl (sym h))
+
+  -- The same, of what the code has looked up.
+  module _ (sender : role ≡ true → j < t .sites) {q : Bool} (eq : q ≡ isCorrectSite t i) where
+    test-told : (q && role && leb 1 r && leb r siteRounds && other) ≡ taken-of (ltb i (t .sites)) (faultyOf t i) role (leb 1 r) (leb r siteRounds) other
+    test-told = λ k. eq k && role && leb 1 r && leb r siteRounds && other
+
+    pub taken-told : (q && role && leb 1 r && leb r siteRounds && other) ≡ true → Taken ≡ messageVerdict t i j r other role
+    taken-told e = found-taken sender (sym test-told ∙ e)
+
+    module _ {a s : Bool} (ea : a ≡ ltb i (t .sites)) (es : s ≡ ltb j (t .sites)) where
+      range-told : ((a && s) && leb 1 r && leb r siteRounds && other) ≡ range-of (ltb i (t .sites)) (ltb j (t .sites)) (leb 1 r) (leb r siteRounds) other
+      range-told = λ k. (ea k && es k) && leb 1 r && leb r siteRounds && other
+
+      pub out-told : not ((a && s) && leb 1 r && leb r siteRounds && other) ≡ true → Refused Range ≡ messageVerdict t i j r other role
+      out-told e = found-out sender (sym range-told ∙ not-true _ e)
+
+      pub role-told : (q && role && leb 1 r && leb r siteRounds && other) ≡ false → not ((a && s) && leb 1 r && leb r siteRounds && other) ≡ false
+          → Refused Role ≡ messageVerdict t i j r other role
+      role-told d e = found-role sender (sym test-told ∙ d) (sym range-told ∙ not-false _ e)
+
+-- A sender in range is a correct or a faulty site as its bit says.
+module _ (t : SiteTable) (i j r : ℕ) (other : Bool) where
+  pub from-correct : messageVerdict t i j r other (isCorrectSite t j) ≡ messageVerdict t i j r other (not (faultyOf t j))
+  from-correct = go (ltb i (t .sites)) (ltb j (t .sites)) (leb 1 r) (leb r siteRounds) (faultyOf t i) (faultyOf t j) other
+    where
+      go : (a s b c f g o : Bool)
+          → pick (a && s && b && c && o) (pick (not f && (s && not g)) Taken (Refused Role)) (Refused Range)
+          ≡ pick (a && s && b && c && o) (pick (not f && not g) Taken (Refused Role)) (Refused Range)
+      go true true b c f g o = refl
+      go true false b c f g o = refl
+      go false s b c f g o = refl
+
+  pub from-faulty : messageVerdict t i j r other (isFaultySite t j) ≡ messageVerdict t i j r other (faultyOf t j)
+  from-faulty = go (ltb i (t .sites)) (ltb j (t .sites)) (leb 1 r) (leb r siteRounds) (faultyOf t i) (faultyOf t j) other
+    where
+      go : (a s b c f g o : Bool)
+          → pick (a && s && b && c && o) (pick (not f && (s && g)) Taken (Refused Role)) (Refused Range)
+          ≡ pick (a && s && b && c && o) (pick (not f && g) Taken (Refused Role)) (Refused Range)
+      go true true b c f g o = refl
+      go true false b c f g o = refl
+      go false s b c f g o = refl
 
 module _ (t : SiteTable) (book : List Command) (w : World (dash t book)) where
   -- 01
-  pub command-site : (i m : ℕ) → t .sites ≤ i → judge (dash t book) w (command i m) ≡ Refused Range
-  command-site i m h = simp (le-ltb i (t .sites) h)
-
-  pub command-number : (i m : ℕ) → i < t .sites → length book ≤ m → judge (dash t book) w (command i m) ≡ Refused Range
-  command-number i m a h = simp (lt-ltb i (t .sites) a, le-ltb m (length book) h)
-
-  pub command-role : (i m : ℕ) → i < t .sites → m < length book → faultyOf t i ≡ true → judge (dash t book) w (command i m) ≡ Refused Role
-  command-role i m a b h = simp (lt-ltb i (t .sites) a, lt-ltb m (length book) b, h)
+  pub command-refused : (i m : ℕ) → (isCorrectSite t i && ltb m (length book)) ≡ false
+      → judge (dash t book) w (command i m) ≡ Refused (refusalOf t i (ltb m (length book)))
+  command-refused i m e = refused-with t i (ltb m (length book)) granted e
 
   pub command-taken : (i m : ℕ) → i < t .sites → m < length book → faultyOf t i ≡ false → judge (dash t book) w (command i m) ≡ Taken
   command-taken i m a b h = simp (lt-ltb i (t .sites) a, lt-ltb m (length book) b, h)

@@ -6,6 +6,8 @@ ghost use Prim.Native.Nat.{_+_, _*_, _≤_, _<_, ℕ};
 ghost use lib.ListN.{length};
 ghost use Rattle.sets.specs.Sets.{capacity, inSet};
 ghost use Rattle.table.specs.Table.{maxSites, isGood};
+ghost use Rattle.table.specs.declared.SiteTable.{SiteTable};
+ghost use Rattle.roles.specs.Roles.{roleBytes, Roles};
 ghost use Rattle.protocol.specs.World as protocol;
 ghost use Rattle.layout.specs.Layout.{siteSize, siteRounds};
 ghost use Rattle.site.specs.Steps.{Received, Heard};
@@ -22,6 +24,9 @@ use sent::Message;
 use sets::Set;
 use table::SiteTable;
 use world::Stepped;
+
+// The last round of a message.
+const LAST_ROUND: u8 = 33;
 
 // A set joins what site i received.
 fn receive(sites: &mut [u8], i: usize, set: Set)
@@ -43,46 +48,49 @@ fn hear(sites: &mut [u8], i: usize, j: usize, r: usize, set: Set)
     site::hear(&mut sites[from..to], j, r, set);
 }
 
-// The verdict on a message from j to i, by whether its other operands are in range and whether its sender has the role that it is to have.
-fn judge_message(table: SiteTable, i: usize, j: usize, r: usize, other: bool, role: bool) -> Verdict
-    ensures { λ v. ⌜ v ≡ messageVerdict table i j r other role ⌝ }
+// The verdict on a message to a site, by whether its other operands are in range and whether its sender is a site of the role that it is to have.
+// What refuses it is told apart only once it is known that something does.
+fn judge_message(
+    roles: &[u8],
+    site: u8,
+    from: u8,
+    round: u8,
+    other: bool,
+    role: bool,
+) -> Verdict
+    requires { ⌜ length (now roles) ≡ roleBytes ⌝ }
+    ensures { λ v. ⌜ ((t : SiteTable) → Roles t (now (roles .entry)) → (role ≡ true → from < t .sites) → v ≡ messageVerdict t site from round other role) ⌝ }
 {
-    let in_range = (i < table.sites) & (j < table.sites) & (1 <= r) & (r <= Site::ROUNDS) & other;
+    let taken = roles::is_correct(roles, site) & role & (1 <= round) & (round <= LAST_ROUND) & other;
+    if taken {
+        return Verdict::Taken;
+    }
+    let sites = roles::is_site(roles, site) & roles::is_site(roles, from);
+    let in_range = sites & (1 <= round) & (round <= LAST_ROUND) & other;
     if !in_range {
         return Verdict::Refused(Refusal::Range);
     }
-    if table.is_faulty(i) {
-        return Verdict::Refused(Refusal::Role);
-    }
-    if !role {
-        return Verdict::Refused(Refusal::Role);
-    }
-    Verdict::Taken
+    Verdict::Refused(Refusal::Role)
 }
 
 // 01: a command reaches a site.
 pub fn command(
     sites: &mut [u8],
     table: SiteTable,
+    roles: &[u8],
     commands: usize,
     site: u8,
     command: u8,
 ) -> Verdict
-    requires { ⌜ (length (now sites) ≡ table .sites * siteSize) × (commands ≤ capacity) ⌝ }
+    requires { ⌜ (length (now sites) ≡ table .sites * siteSize) × Roles table (now roles) × (commands ≤ capacity) ⌝ }
     ensures { λ v. ⌜ ((sent : List ℕ) → Arrived table commands (protocol.command site command) sent (now (sites .entry)) v (now (sites .exit))) ⌝ }
 {
-    let i = site as usize;
     let m = command as usize;
-    if i >= table.sites {
-        return Verdict::Refused(Refusal::Range);
+    let known = m < commands;
+    if !(roles::is_correct(roles, site) & known) {
+        return Verdict::Refused(roles::refusal(roles, site, known));
     }
-    if m >= commands {
-        return Verdict::Refused(Refusal::Range);
-    }
-    if table.is_faulty(i) {
-        return Verdict::Refused(Refusal::Role);
-    }
-    let from = i * Site::SIZE;
+    let from = site as usize * Site::SIZE;
     let to = from + Site::SIZE;
     site::receive_command(&mut sites[from..to], m);
     Verdict::Taken
@@ -93,12 +101,13 @@ pub fn acknowledgment(
     sites: &mut [u8],
     sent: &[u8],
     table: SiteTable,
+    roles: &[u8],
     site: u8,
     from: u8,
     round: u8,
     number: u8,
 ) -> Verdict
-    requires { ⌜ (length (now sites) ≡ table .sites * siteSize) × (isGood table ≡ true) × GoodSent (now sent) ⌝ }
+    requires { ⌜ (length (now sites) ≡ table .sites * siteSize) × (isGood table ≡ true) × Roles table (now roles) × GoodSent (now sent) ⌝ }
     ensures { λ v. ⌜ ((commands : ℕ) → Arrived table commands (protocol.acknowledgment site from round number) (now (sent .entry)) (now (sites .entry)) v (now (sites .exit))) ⌝ }
 {
     let i = site as usize;
@@ -106,8 +115,8 @@ pub fn acknowledgment(
     let r = round as usize;
     let a = number as usize;
     let counted = (1 <= a) & (a <= Set::CAPACITY);
-    let faulty = table.is_faulty(j);
-    let verdict = judge_message(table, i, j, r, counted, !faulty);
+    let correct = roles::is_correct(roles, from);
+    let verdict = judge_message(roles, site, from, round, counted, correct);
     if let Verdict::Refused(refusal) = verdict {
         return Verdict::Refused(refusal);
     }
@@ -124,18 +133,19 @@ pub fn check(
     sites: &mut [u8],
     sent: &[u8],
     table: SiteTable,
+    roles: &[u8],
     site: u8,
     from: u8,
     round: u8,
 ) -> Verdict
-    requires { ⌜ (length (now sites) ≡ table .sites * siteSize) × (isGood table ≡ true) × GoodSent (now sent) ⌝ }
+    requires { ⌜ (length (now sites) ≡ table .sites * siteSize) × (isGood table ≡ true) × Roles table (now roles) × GoodSent (now sent) ⌝ }
     ensures { λ v. ⌜ ((commands : ℕ) → Arrived table commands (protocol.check site from round) (now (sent .entry)) (now (sites .entry)) v (now (sites .exit))) ⌝ }
 {
     let i = site as usize;
     let j = from as usize;
     let r = round as usize;
-    let faulty = table.is_faulty(j);
-    let verdict = judge_message(table, i, j, r, true, !faulty);
+    let correct = roles::is_correct(roles, from);
+    let verdict = judge_message(roles, site, from, round, true, correct);
     if let Verdict::Refused(refusal) = verdict {
         return Verdict::Refused(refusal);
     }
@@ -151,21 +161,22 @@ pub fn check(
 pub fn false_acknowledgment(
     sites: &mut [u8],
     table: SiteTable,
+    roles: &[u8],
     commands: usize,
     site: u8,
     from: u8,
     round: u8,
     set: Set,
 ) -> Verdict
-    requires { ⌜ (length (now sites) ≡ table .sites * siteSize) × (isGood table ≡ true) ⌝ }
+    requires { ⌜ (length (now sites) ≡ table .sites * siteSize) × (isGood table ≡ true) × Roles table (now roles) ⌝ }
     ensures { λ v. ⌜ ((sent : List ℕ) → Arrived table commands (protocol.falseAcknowledgment site from round (inSet set)) sent (now (sites .entry)) v (now (sites .exit))) ⌝ }
 {
     let i = site as usize;
     let j = from as usize;
     let r = round as usize;
     let within = set.within(commands);
-    let faulty = table.is_faulty(j);
-    let verdict = judge_message(table, i, j, r, within, faulty);
+    let faulty = roles::is_faulty(roles, from);
+    let verdict = judge_message(roles, site, from, round, within, faulty);
     if let Verdict::Refused(refusal) = verdict {
         return Verdict::Refused(refusal);
     }
@@ -177,21 +188,22 @@ pub fn false_acknowledgment(
 pub fn false_check(
     sites: &mut [u8],
     table: SiteTable,
+    roles: &[u8],
     commands: usize,
     site: u8,
     from: u8,
     round: u8,
     set: Set,
 ) -> Verdict
-    requires { ⌜ length (now sites) ≡ table .sites * siteSize ⌝ }
+    requires { ⌜ (length (now sites) ≡ table .sites * siteSize) × Roles table (now roles) ⌝ }
     ensures { λ v. ⌜ ((sent : List ℕ) → Arrived table commands (protocol.falseCheck site from round (inSet set)) sent (now (sites .entry)) v (now (sites .exit))) ⌝ }
 {
     let i = site as usize;
     let j = from as usize;
     let r = round as usize;
     let within = set.within(commands);
-    let faulty = table.is_faulty(j);
-    let verdict = judge_message(table, i, j, r, within, faulty);
+    let faulty = roles::is_faulty(roles, from);
+    let verdict = judge_message(roles, site, from, round, within, faulty);
     if let Verdict::Refused(refusal) = verdict {
         return Verdict::Refused(refusal);
     }
@@ -205,13 +217,14 @@ pub fn false_entry(
     entries: usize,
     kept: &[u64],
     table: SiteTable,
+    roles: &[u8],
     commands: usize,
     from: u8,
     round: u8,
     nc: Set,
     c: Set,
 ) -> Stepped
-    requires { ⌜ ((entries + 1) * entrySize ≤ length (now log)) × (isGood table ≡ true) × ((rows : List ℕ) × Kept table rows (now log) entries (now kept)) ⌝ }
+    requires { ⌜ ((entries + 1) * entrySize ≤ length (now log)) × (isGood table ≡ true) × Roles table (now roles) × ((rows : List ℕ) × Kept table rows (now log) entries (now kept)) ⌝ }
     ensures { λ s. ⌜ Entered table commands (protocol.falseEntry from round (inSet nc) (inSet c)) (now (log .entry)) entries s (now (log .exit)) ⌝ }
 {
     let j = from as usize;
@@ -224,25 +237,25 @@ pub fn false_entry(
     };
     if !entries::in_range(entry, table.sites, commands) {
         return Stepped {
-            verdict: Verdict::Refused(Refusal::Range),
+            code: refusals::number(Refusal::Range),
             entries: entries,
         };
     }
-    if !table.is_faulty(j) {
+    if !roles::is_faulty(roles, from) {
         return Stepped {
-            verdict: Verdict::Refused(Refusal::Role),
+            code: refusals::number(Refusal::Role),
             entries: entries,
         };
     }
     if rounds::third(kept, j, r) {
         return Stepped {
-            verdict: Verdict::Refused(Refusal::ThirdEntry),
+            code: refusals::number(Refusal::ThirdEntry),
             entries: entries,
         };
     }
     entries::write_entry(log, entries, entry);
     Stepped {
-        verdict: Verdict::Taken,
+        code: 0,
         entries: entries + 1,
     }
 }

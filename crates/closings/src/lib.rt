@@ -7,6 +7,7 @@ ghost use lib.ListN.{length};
 ghost use Rattle.sets.specs.Sets.{withinOf};
 ghost use Rattle.table.specs.declared.SiteTable.{SiteTable};
 ghost use Rattle.table.specs.Table.{isGood};
+ghost use Rattle.roles.specs.Roles.{Roles};
 ghost use Rattle.commands.specs.Book.{commandsOf};
 ghost use Rattle.protocol.specs.World as protocol;
 ghost use Rattle.layout.specs.Layout.{siteSize};
@@ -17,7 +18,6 @@ ghost use Rattle.world.specs.Parts.{AtSite};
 ghost use Rattle.closings.specs.Closings.{GoodSites, KeptLog, FastAt, Closed};
 use layout::Site;
 use recovery::Decision;
-use refusals::Refusal;
 use refusals::Verdict;
 use sets::Set;
 use table::SiteTable;
@@ -41,29 +41,26 @@ fn fast_at(
     fast::fast_delivery(&mut sites[from..to], table, book, places, commands, m)
 }
 
-// 08: site i delivers command m fast.
+// 08: a site delivers a command fast.
 pub fn fast_delivery(
     sites: &mut [u8],
     table: SiteTable,
+    roles: &[u8],
     book: &[u8],
     places: &[u16],
     commands: usize,
-    i: usize,
-    m: usize,
+    site: u8,
+    command: u8,
 ) -> Verdict
-    requires { ⌜ GoodSites table commands (now sites) × (isGood table ≡ true) × Noted (now book) (now places) × (length (commandsOf (now book)) ≡ commands) ⌝ }
-    ensures { λ v. ⌜ ((log : List ℕ) (entries : ℕ) → Closed table (commandsOf (now (book .entry))) (protocol.fastDelivery i m) log entries (now (sites .entry)) v (now (sites .exit))) ⌝ }
+    requires { ⌜ GoodSites table commands (now sites) × (isGood table ≡ true) × Roles table (now roles) × Noted (now book) (now places) × (length (commandsOf (now book)) ≡ commands) ⌝ }
+    ensures { λ v. ⌜ ((log : List ℕ) (entries : ℕ) → Closed table (commandsOf (now (book .entry))) (protocol.fastDelivery site command) log entries (now (sites .entry)) v (now (sites .exit))) ⌝ }
 {
-    if i >= table.sites {
-        return Verdict::Refused(Refusal::Range);
+    let m = command as usize;
+    let known = m < commands;
+    if !(roles::is_correct(roles, site) & known) {
+        return Verdict::Refused(roles::refusal(roles, site, known));
     }
-    if m >= commands {
-        return Verdict::Refused(Refusal::Range);
-    }
-    if table.is_faulty(i) {
-        return Verdict::Refused(Refusal::Role);
-    }
-    fast_at(sites, table, book, places, commands, i, m)
+    fast_at(sites, table, book, places, commands, site as usize, m)
 }
 
 // The round of site i ends with the decided sets, or the step is refused.
@@ -86,27 +83,26 @@ fn end_at(
     ending::round_end(&mut sites[from..to], book, places, commands, decided, nc, c)
 }
 
-// 0A: site i ends its round, as what is kept of the log decides it.
+// 0A: a site ends its round, as what is kept of the log decides it.
 pub fn round_end(
     sites: &mut [u8],
     kept: &[u64],
     table: SiteTable,
+    roles: &[u8],
     book: &[u8],
     places: &[u16],
     commands: usize,
-    i: usize,
+    site: u8,
 ) -> Verdict
     requires { ⌜ GoodSites table commands (now sites) × ((log : List ℕ) × (entries : ℕ) × KeptLog table (now book) (now sites) log entries (now kept))
-        × (isGood table ≡ true) × Noted (now book) (now places) × (length (commandsOf (now book)) ≡ commands) ⌝ }
+        × (isGood table ≡ true) × Roles table (now roles) × Noted (now book) (now places) × (length (commandsOf (now book)) ≡ commands) ⌝ }
     ensures { λ v. ⌜ ((log : List ℕ) (entries : ℕ) → KeptLog table (now (book .entry)) (now (sites .entry)) log entries (now (kept .entry))
-        → Closed table (commandsOf (now (book .entry))) (protocol.roundEnd i) log entries (now (sites .entry)) v (now (sites .exit))) ⌝ }
+        → Closed table (commandsOf (now (book .entry))) (protocol.roundEnd site) log entries (now (sites .entry)) v (now (sites .exit))) ⌝ }
 {
-    if i >= table.sites {
-        return Verdict::Refused(Refusal::Range);
+    if !roles::is_correct(roles, site) {
+        return Verdict::Refused(roles::refusal(roles, site, true));
     }
-    if table.is_faulty(i) {
-        return Verdict::Refused(Refusal::Role);
-    }
+    let i = site as usize;
     let position = world::position_of(&sites[..], i);
     let round = world::round_of(&sites[..], i);
     let decision = rounds::decision(kept, round, position);

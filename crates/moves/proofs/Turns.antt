@@ -129,11 +129,15 @@ module _ (t : SiteTable) (bytes rows : List ℕ) (b : Buffers) (i : ℕ) (ready 
   abbrev world : World (dash t book)
   world = worldOf t book b
 
-  pub turn-range : t .sites ≤ i → Outcome t book (turn i) b (Refused Range) b
-  turn-range h = refused t book b (ready .world) (turn i) Range (simp (le-ltb i (t .sites) h)) small
+  -- An outcome, as a number.
+  pub numbered : {v : Verdict} {n : ℕ} {after : Buffers} → n ≡ codeOf v → Outcome t book (turn i) b v after → Answered t book (turn i) b n after
+  numbered {v} e o = record { verdict = v; number = e; outcome = o }
 
-  pub turn-role : i < t .sites → {f : Bool} → f ≡ faultyOf t i → f ≡ true → Outcome t book (turn i) b (Refused Role) b
-  turn-role a ef h = refused t book b (ready .world) (turn i) Role (let e : faultyOf t i ≡ true = sym ef ∙ h in simp (lt-ltb i (t .sites) a, e)) small
+  pub turn-turned-down : {q : Bool} → q ≡ isCorrectSite t i → not q ≡ true → {r : Refusal} → r ≡ refusalOf t i true → {n : ℕ} → n ≡ numberOf r → Answered t book (turn i) b n b
+  turn-turned-down {q} eq h {r} er en =
+      numbered {v = Refused r} en
+      (refused t book b (ready .world) (turn i) r
+      (refused-at t i (forTurn (dash t book) i (world .site i) (world .log)) (sym eq ∙ not-true q h) ∙ ap Refused (sym er)) small)
 
   module _ (inside : i < t .sites) where
     at : world .site i ≡ view t book (siteAt (b .sites) i)
@@ -162,7 +166,7 @@ module _ (t : SiteTable) (bytes rows : List ℕ) (b : Buffers) (i : ℕ) (ready 
         subst (λ (s : protocol.Site (dash t book)). knownTo (length book) (some (undelivered (dash t book) s)) ≡ true) (sym at)
         (undelivered-known t book (siteAt (b .sites) i) part-good part-small)
 
-    module _ {f : Bool} (ef : f ≡ faultyOf t i) (hf : f ≡ false) {r : Turn} {sites kept : List ℕ} (ek : Kept t rows (b .log) (b .entries) kept)
+    module _ (hf : faultyOf t i ≡ false) {r : Turn} {sites kept : List ℕ} (ek : Kept t rows (b .log) (b .entries) kept)
         (h : AtSite i (TurnedBy rows kept i r) (b .sites) sites) where
       turned : Turned t book i (world .log) (world .site i) r (h .new)
       turned =
@@ -171,7 +175,7 @@ module _ (t : SiteTable) (bytes rows : List ℕ) (b : Buffers) (i : ℕ) (ready 
       judged : judge (dash t book) world (turn i) ≡ verdict (forTurn (dash t book) i (world .site i) (world .log))
       judged =
           (λ k. verdict (lt-ltb i (t .sites) inside k else Range ⨾ correct (dash t book) i else Role ⨾ forTurn (dash t book) i (world .site i) (world .log)))
-          ∙ (λ k. verdict (not ((sym ef ∙ hf) k) else Role ⨾ forTurn (dash t book) i (world .site i) (world .log)))
+          ∙ (λ k. verdict (not (hf k) else Role ⨾ forTurn (dash t book) i (world .site i) (world .log)))
 
       pub turn-refused : (x : Refusal) → r ≡ turns.Refused x → Outcome t book (turn i) b (Refused x) (lent sites (b .log) (b .entries) (b .sent))
       turn-refused x e =

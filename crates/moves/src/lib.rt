@@ -6,12 +6,13 @@ ghost use Prim.Native.Nat.{_+_, _*_, _≤_, _<_, ℕ};
 ghost use lib.ListN.{length};
 ghost use Rattle.sets.specs.Sets.{capacity};
 ghost use Rattle.table.specs.Table.{maxSites};
+ghost use Rattle.roles.specs.Roles.{Roles};
 ghost use Rattle.commands.specs.Book.{commandsOf};
 ghost use Rattle.protocol.specs.World as protocol;
 ghost use Rattle.layout.specs.Layout.{siteSize, headOf};
 ghost use Rattle.site.specs.Steps.{ReadEntry};
 ghost use Rattle.rounds.specs.Rounds.{keptRounds, keptWords, Kept};
-ghost use Rattle.world.specs.World.{siteAt, Outcome};
+ghost use Rattle.world.specs.World.{siteAt, Answered};
 ghost use Rattle.world.specs.Parts.{lent, AtSite};
 ghost use Rattle.moves.specs.Moves.{Ready, TurnedBy, LogRead};
 use entries::Entry;
@@ -47,38 +48,34 @@ pub fn turn(
     entries: usize,
     kept: &[u64],
     table: SiteTable,
+    roles: &[u8],
     rows: &[u64],
-    i: usize,
+    site: u8,
 ) -> Stepped
-    requires { ⌜ ((book : List ℕ) × Ready table book (now rows) (lent (now sites) (now log) entries (now sent)) (protocol.turn i))
-        × Kept table (now rows) (now log) entries (now kept) ⌝ }
-    ensures { λ r. ⌜ ((book : List ℕ) → Ready table book (now (rows .entry)) (lent (now (sites .entry)) (now (log .entry)) entries (now (sent .entry))) (protocol.turn i)
-        → Outcome table (commandsOf book) (protocol.turn i) (lent (now (sites .entry)) (now (log .entry)) entries (now (sent .entry)))
-        (r .verdict) (lent (now (sites .exit)) (now (log .exit)) (r .entries) (now (sent .exit)))) ⌝ }
+    requires { ⌜ ((book : List ℕ) × Ready table book (now rows) (lent (now sites) (now log) entries (now sent)) (protocol.turn site))
+        × Roles table (now roles) × Kept table (now rows) (now log) entries (now kept) ⌝ }
+    ensures { λ r. ⌜ ((book : List ℕ) → Ready table book (now (rows .entry)) (lent (now (sites .entry)) (now (log .entry)) entries (now (sent .entry))) (protocol.turn site)
+        → Answered table (commandsOf book) (protocol.turn site) (lent (now (sites .entry)) (now (log .entry)) entries (now (sent .entry)))
+        (r .code) (lent (now (sites .exit)) (now (log .exit)) (r .entries) (now (sent .exit)))) ⌝ }
 {
-    if i >= table.sites {
+    if !roles::is_correct(roles, site) {
         return Stepped {
-            verdict: Verdict::Refused(Refusal::Range),
+            code: refusals::number(roles::refusal(roles, site, true)),
             entries: entries,
         };
     }
-    if table.is_faulty(i) {
-        return Stepped {
-            verdict: Verdict::Refused(Refusal::Role),
-            entries: entries,
-        };
-    }
+    let i = site as usize;
     let round = world::round_of(&sites[..], i);
     let answer = turn_at(sites, kept, rows, i);
     match answer {
         Turn::Refused(refusal) => Stepped {
-            verdict: Verdict::Refused(refusal),
+            code: refusals::number(refusal),
             entries: entries,
         },
         Turn::Acknowledged(set) => {
             sent::add_acknowledgment(sent, i, round, set);
             Stepped {
-                verdict: Verdict::Taken,
+                code: 0,
                 entries: entries,
             }
         }
@@ -94,7 +91,7 @@ pub fn turn(
             };
             entries::write_entry(log, entries, proposed);
             Stepped {
-                verdict: Verdict::Taken,
+                code: 0,
                 entries: entries + 1,
             }
         }
@@ -112,16 +109,20 @@ fn read_at(sites: &mut [u8], i: usize, left: bool) -> Verdict
 }
 
 // 09: site i reads the next entry of the log. Every entry that a run appends is in range, and none is a third of its site and round.
-pub fn log_read(sites: &mut [u8], entries: usize, table: SiteTable, i: usize) -> Verdict
-    requires { ⌜ (length (now sites) ≡ table .sites * siteSize) × (entries ≤ 65535) ⌝ }
-    ensures { λ v. ⌜ LogRead table i entries (now (sites .entry)) v (now (sites .exit)) ⌝ }
+pub fn log_read(
+    sites: &mut [u8],
+    entries: usize,
+    table: SiteTable,
+    roles: &[u8],
+    site: u8,
+) -> Verdict
+    requires { ⌜ (length (now sites) ≡ table .sites * siteSize) × Roles table (now roles) × (entries ≤ 65535) ⌝ }
+    ensures { λ v. ⌜ LogRead table site entries (now (sites .entry)) v (now (sites .exit)) ⌝ }
 {
-    if i >= table.sites {
-        return Verdict::Refused(Refusal::Range);
+    if !roles::is_correct(roles, site) {
+        return Verdict::Refused(roles::refusal(roles, site, true));
     }
-    if table.is_faulty(i) {
-        return Verdict::Refused(Refusal::Role);
-    }
+    let i = site as usize;
     let position = world::position_of(&sites[..], i);
     read_at(sites, i, position < entries)
 }

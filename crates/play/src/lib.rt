@@ -9,10 +9,10 @@ ghost use Rattle.world.specs.Parts.{lent};
 ghost use Rattle.protocol.specs.World as protocol;
 ghost use Rattle.deliver.specs.Delivering.{Noted};
 ghost use Rattle.moves.specs.Moves.{Ready};
+ghost use Rattle.roles.specs.Roles.{Roles};
 ghost use Rattle.rounds.specs.Rounds.{Kept};
 ghost use Rattle.play.specs.Played.{lineRoom, extentOf, CarriedOut, Playable, PlayedAll};
 use refusals::Refusal;
-use refusals::Verdict;
 use steps::Reading;
 use table::SiteTable;
 use world::Stepped;
@@ -24,15 +24,14 @@ pub struct Played {
 }
 
 // The line of a step is written where it is refused.
-fn report(out: &mut [u8], at: usize, number: usize, verdict: Verdict) -> usize
-    requires { ⌜ (at + lineRoom ≤ length (now out)) × (number < 100000) ⌝ }
-    ensures { λ r. ⌜ Wrote (now (out .exit)) r (now (out .entry)) at (runs.report number verdict) × (r ≤ at + lineRoom) ⌝ }
+fn report(out: &mut [u8], at: usize, number: usize, code: u32) -> usize
+    requires { ⌜ (at + lineRoom ≤ length (now out)) × (number < 100000) × ((v : Verdict) × (code ≡ codeOf v)) ⌝ }
+    ensures { λ r. ⌜ ((v : Verdict) → code ≡ codeOf v → Wrote (now (out .exit)) r (now (out .entry)) at (runs.report number v)) × (r ≤ at + lineRoom) ⌝ }
 {
-    let Verdict::Refused(refusal) = verdict else {
+    if code == 0 {
         return at;
-    };
-    let cause = refusals::number(refusal) as usize;
-    lines::put_step_line(out, at, number, cause)
+    }
+    lines::put_step_line(out, at, number, code as usize)
 }
 
 // The bytes of a reading: all that are left where it cannot be read.
@@ -53,6 +52,7 @@ fn carry_out(
     entries: usize,
     kept: &mut [u64],
     table: SiteTable,
+    roles: &[u8],
     book: &[u8],
     places: &[u16],
     rows: &[u64],
@@ -67,7 +67,7 @@ fn carry_out(
 {
     let Reading::Whole(step) = reading else {
         return Stepped {
-            verdict: Verdict::Refused(Refusal::Form),
+            code: refusals::number(Refusal::Form),
             entries: entries,
         };
     };
@@ -78,6 +78,7 @@ fn carry_out(
         entries,
         kept,
         table,
+        roles,
         book,
         places,
         rows,
@@ -93,6 +94,7 @@ fn play_on(
     sent: &mut [u8],
     kept: &mut [u64],
     table: SiteTable,
+    roles: &[u8],
     book: &[u8],
     places: &[u16],
     rows: &[u64],
@@ -121,14 +123,15 @@ fn play_on(
             entries,
             kept,
             table,
+            roles,
             book,
             places,
             rows,
             commands,
             reading,
         );
-        let verdict = stepped.verdict;
-        end = report(out, end, number, verdict);
+        let code = stepped.code;
+        end = report(out, end, number, code);
         entries = stepped.entries;
         at += size;
         number += 1;
@@ -158,12 +161,15 @@ pub fn play_steps(
         (lent (now (sites .exit)) (now (log .exit)) (r .entries) (now (sent .exit))) ⌝ }
 {
     let mut kept = [0u64; rounds::WORDS];
+    let mut roles = [roles::NONE; roles::BYTES];
+    roles::note(&mut roles, table);
     play_on(
         sites,
         log,
         sent,
         &mut kept,
         table,
+        &roles,
         book,
         places,
         rows,

@@ -4,7 +4,9 @@ ghost use mathlib.Core.Bool.{true};
 ghost use Prim.Native.Nat.{_+_, _*_, _≤_, _<_};
 ghost use lib.ListN.{length};
 ghost use Rattle.sets.specs.Sets.{capacity};
+ghost use Rattle.refusals.specs.Refusals.{codeOf};
 ghost use Rattle.table.specs.Table.{isGood};
+ghost use Rattle.roles.specs.Roles.{Roles};
 ghost use Rattle.commands.specs.Book.{commandsOf};
 ghost use Rattle.steps.specs.Meaning.{meaning};
 ghost use Rattle.layout.specs.Layout.{siteSize};
@@ -23,33 +25,48 @@ use table::SiteTable;
 use world::Stepped;
 
 // Steps 01 to 05: a command or a message reaches a site. Any other step is none of these.
-fn arrive(sites: &mut [u8], sent: &[u8], table: SiteTable, commands: usize, step: Step) -> Verdict
-    requires { ⌜ (length (now sites) ≡ table .sites * siteSize) × (isGood table ≡ true) × GoodSent (now sent) × (commands ≤ capacity) ⌝ }
+fn arrive(
+    sites: &mut [u8],
+    sent: &[u8],
+    table: SiteTable,
+    roles: &[u8],
+    commands: usize,
+    step: Step,
+) -> Verdict
+    requires { ⌜ (length (now sites) ≡ table .sites * siteSize) × (isGood table ≡ true) × Roles table (now roles) × GoodSent (now sent) × (commands ≤ capacity) ⌝ }
     ensures { λ v. ⌜ (arrives step ≡ true → Arrived table commands (meaning step) (now (sent .entry)) (now (sites .entry)) v (now (sites .exit))) ⌝ }
 {
     match step {
-        Step::Command { site, command } => arrivals::command(sites, table, commands, site, command),
+        Step::Command { site, command } => arrivals::command(sites, table, roles, commands, site, command),
         Step::Acknowledgment {
             site,
             from,
             round,
             number,
-        } => arrivals::acknowledgment(sites, sent, table, site, from, round, number),
-        Step::Check { site, from, round } => arrivals::check(sites, sent, table, site, from, round),
+        } => arrivals::acknowledgment(sites, sent, table, roles, site, from, round, number),
+        Step::Check { site, from, round } => arrivals::check(sites, sent, table, roles, site, from, round),
         Step::FalseAcknowledgment {
             site,
             from,
             round,
             set,
-        } => arrivals::false_acknowledgment(sites, table, commands, site, from, round, set),
+        } => arrivals::false_acknowledgment(sites, table, roles, commands, site, from, round, set),
         Step::FalseCheck {
             site,
             from,
             round,
             set,
-        } => arrivals::false_check(sites, table, commands, site, from, round, set),
+        } => arrivals::false_check(sites, table, roles, commands, site, from, round, set),
         _ => Verdict::Refused(Refusal::Form),
     }
+}
+
+// What a step answers that appends nothing to the log.
+fn answered(verdict: Verdict, entries: usize) -> Stepped
+    ensures { λ r. ⌜ (r .code ≡ codeOf verdict) × (r .entries ≡ entries) ⌝ }
+{
+    let code = refusals::code(verdict);
+    Stepped { code, entries }
 }
 
 // A step is judged, and carried out where it is taken, by what is kept of the log.
@@ -60,6 +77,7 @@ fn act(
     entries: usize,
     kept: &[u64],
     table: SiteTable,
+    roles: &[u8],
     book: &[u8],
     places: &[u16],
     rows: &[u64],
@@ -67,7 +85,7 @@ fn act(
     step: Step,
 ) -> Stepped
     requires { ⌜ Ready table (now book) (now rows) (lent (now sites) (now log) entries (now sent)) (meaning step) × Noted (now book) (now places)
-        × (length (commandsOf (now book)) ≡ commands) × Kept table (now rows) (now log) entries (now kept) ⌝ }
+        × Roles table (now roles) × (length (commandsOf (now book)) ≡ commands) × Kept table (now rows) (now log) entries (now kept) ⌝ }
     ensures { λ r. ⌜ Outcome table (commandsOf (now (book .entry))) (meaning step) (lent (now (sites .entry)) (now (log .entry)) entries (now (sent .entry)))
         (r .verdict) (lent (now (sites .exit)) (now (log .exit)) (r .entries) (now (sent .exit))) ⌝ }
 {
@@ -76,7 +94,7 @@ fn act(
             log,
             entries,
             kept,
-            table,
+            table, roles,
             commands,
             from,
             round,
@@ -90,27 +108,25 @@ fn act(
             entries,
             kept,
             table,
+            roles,
             rows,
-            site as usize,
+            site,
         ),
         Step::FastDelivery { site, command } => {
-            let i = site as usize;
-            let m = command as usize;
-            let verdict = closings::fast_delivery(sites, table, book, places, commands, i, m);
-            Stepped { verdict, entries }
+            let verdict = closings::fast_delivery(sites, table, roles, book, places, commands, site, command);
+            answered(verdict, entries)
         }
         Step::LogRead { site } => {
-            let verdict = moves::log_read(sites, entries, table, site as usize);
-            Stepped { verdict, entries }
+            let verdict = moves::log_read(sites, entries, table, roles, site);
+            answered(verdict, entries)
         }
         Step::RoundEnd { site } => {
-            let i = site as usize;
-            let verdict = closings::round_end(sites, kept, table, book, places, commands, i);
-            Stepped { verdict, entries }
+            let verdict = closings::round_end(sites, kept, table, roles, book, places, commands, site);
+            answered(verdict, entries)
         }
         _ => {
-            let verdict = arrive(sites, &sent[..], table, commands, step);
-            Stepped { verdict, entries }
+            let verdict = arrive(sites, &sent[..], table, roles, commands, step);
+            answered(verdict, entries)
         }
     }
 }
@@ -135,6 +151,7 @@ pub fn step(
     entries: usize,
     kept: &mut [u64],
     table: SiteTable,
+    roles: &[u8],
     book: &[u8],
     places: &[u16],
     rows: &[u64],
@@ -142,7 +159,7 @@ pub fn step(
     step: Step,
 ) -> Stepped
     requires { ⌜ Ready table (now book) (now rows) (lent (now sites) (now log) entries (now sent)) (meaning step) × Noted (now book) (now places)
-        × (length (commandsOf (now book)) ≡ commands) × Kept table (now rows) (now log) entries (now kept) ⌝ }
+        × Roles table (now roles) × (length (commandsOf (now book)) ≡ commands) × Kept table (now rows) (now log) entries (now kept) ⌝ }
     ensures { λ r. ⌜ Outcome table (commandsOf (now (book .entry))) (meaning step) (lent (now (sites .entry)) (now (log .entry)) entries (now (sent .entry)))
         (r .verdict) (lent (now (sites .exit)) (now (log .exit)) (r .entries) (now (sent .exit)))
         × Kept table (now (rows .entry)) (now (log .exit)) (r .entries) (now (kept .exit)) ⌝ }
@@ -154,6 +171,7 @@ pub fn step(
         entries,
         &kept[..],
         table,
+        roles,
         book,
         places,
         rows,

@@ -11,7 +11,7 @@ use Rattle.register.specs.declared.Command.{Command}
 use Rattle.protocol.specs.World.{Step}
 use Rattle.layout.specs.Layout.{siteSize}
 use Rattle.world.specs.declared.Stepped.{Stepped}
-use Rattle.world.specs.World.{Buffers, siteAt, GoodWorld, Outcome}
+use Rattle.world.specs.World.{Buffers, siteAt, GoodWorld, Outcome, Answered}
 
 abbrev pub lent : List ℕ → List ℕ → ℕ → List ℕ → Buffers
 lent sites log entries sent = record { sites = sites; log = log; entries = entries; sent = sent }
@@ -34,4 +34,4 @@ abbrev pub Entered : SiteTable → ℕ → Step → List ℕ → ℕ → Stepped
 Entered t commands u log entries r after =
     (book : List Command) (sites sent : List ℕ) → commands ≡ length book → GoodWorld t (length book) (lent sites log entries sent)
     → ((k : ℕ) → getD sites k 0 < 256)
-    → Outcome t book u (lent sites log entries sent) (r .verdict) (lent sites after (r .entries) sent)
+    → Answered t book u (lent sites log entries sent) (r .code) (lent sites after (r .entries) sent)

@@ -7,6 +7,7 @@ use mathlib.Core.Option.{Option, none, some}
 use Prim.Native.Nat.{ℕ, _*_, _≤_, _<_}
 use lib.Dec.{ltb}
 use lib.ListN.{length, take, drop}
+use Rattle.refusals.specs.Refusals.{codeOf}
 use Rattle.refusals.specs.declared.Verdict.{Verdict}
 use Rattle.theory.specs.Sets as theory
 use Rattle.theory.specs.Sets.{pick, all}
@@ -119,3 +120,9 @@ module _ (t : SiteTable) (book : List Command) where
     pub holds : HoldsWorld after (step (dash t book) (worldOf b) u)
     pub log : after .log ≡ pick (isTaken (judge (dash t book) (worldOf b) u)) (logWritten (worldOf b) u b) (b .log)
     pub sent : after .sent ≡ pick (isTaken (judge (dash t book) (worldOf b) u)) (sentWritten (worldOf b) u b) (b .sent)
+
+  -- The same, where the answer is a number: 0, or that of the refusal.
+  pub record Answered (u : Step) (b : Buffers) (code : ℕ) (after : Buffers) : Type 0 where
+    pub verdict : Verdict
+    pub number : code ≡ codeOf verdict
+    pub outcome : Outcome u b verdict after

@@ -7,12 +7,11 @@ ghost use Rattle.sent.specs.Sent.{sentSize};
 ghost use Rattle.world.specs.World.{siteAt};
 ghost use Rattle.world.specs.Started.{Started};
 use layout::Site;
-use refusals::Verdict;
 use table::SiteTable;
 
-// What a step answers: the verdict, and how many entries of the log are meant after it.
+// What a step answers: 0 or the number of its refusal, and how many entries of the log are meant after it.
 pub struct Stepped {
-    pub verdict: Verdict,
+    pub code: u32,
     pub entries: usize,
 }
 

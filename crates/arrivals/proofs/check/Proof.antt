@@ -5,13 +5,14 @@ use denote.Ref.{now}
 use native.Mathlib.Omega.{arith}
 use mathlib.Core.Bool.{true, not}
 use Rattle.table.proofs.Laws.{good-limits}
+use Rattle.roles.proofs.Laws.{sent-by-correct}
 use Rattle.arrivals.proofs.Arriving.{check-refused, check-never, checked}
 use Rattle.arrivals.proofs.Judging.{passed}
 use Rattle.arrivals.proofs.check.Statement.{statement}
 use Rattle.arrivals.proofs.check.Tie as tie
 
-is-faulty-requires : tie.Need-is-faulty-requires
-is-faulty-requires c κs = search needs
+is-correct-requires : tie.Need-is-correct-requires
+is-correct-requires c κs = search needs
 
 judge-message-requires : tie.Need-judge-message-requires
 judge-message-requires c κs = search needs
@@ -21,19 +22,19 @@ enum-known-verdict c = search needs
 
 returns : tie.Need-returns
 returns c =
-    let o = c .before .before .before .before .before .before .before in
-    λ commands. check-refused (o .args .table) commands (now (o .args .sent)) (now (o .args .sites)) (λ k. c .before .before .before .before .before .before .slice-known .given k .fits) (o .args .site) (o .args .from) (o .args .round) (c .before .before .before .before .is-faulty .ensures) (c .before .before .before .judge-message .ensures) _ (c .before .verdict .given .1)
+    let o = c .before .before .before .before .before .before .before .before in
+    λ commands. check-refused (o .args .table) commands (now (o .args .sent)) (now (o .args .sites)) (λ k. c .before .before .before .before .before .before .before .slice-known .given k .fits) (o .args .site) (o .args .from) (o .args .round) (c .before .before .before .before .is-correct .ensures (o .args .table) (o .pre .2)) (c .before .before .before .judge-message .ensures (o .args .table) (o .pre .2) (sent-by-correct (o .args .table) (o .args .from) (c .before .before .before .before .is-correct .ensures (o .args .table) (o .pre .2)))) _ (c .before .verdict .given .1)
 
 enum-told : tie.Need-enum-told
 enum-told c = search needs
 
 check-requires : tie.Need-check-requires
 check-requires c κs =
-    let o = c .before .before .before .before .before .before in
-    let p = passed (o .args .table) (o .args .site) (o .args .from) (o .args .round) true (not (c .before .before .before .is-faulty .result)) (c .before .before .judge-message .ensures) (c .enum-told .given .1) in
+    let o = c .before .before .before .before .before .before .before in
+    let p = passed (o .args .table) (o .args .site) (o .args .from) (o .args .round) true (c .before .before .before .is-correct .result) (c .before .before .judge-message .ensures (o .args .table) (o .pre .2) (sent-by-correct (o .args .table) (o .args .from) (c .before .before .before .is-correct .ensures (o .args .table) (o .pre .2)))) (c .enum-told .given .1) in
     let l = good-limits (o .args .table) (o .pre .1) in
     let s = p .sender in
-    (o .pre .2, omega arith, p .first, p .last)
+    (o .pre .3, omega arith, p .first, p .last)
 
 enum-known-message : tie.Need-enum-known-message
 enum-known-message c = search needs
@@ -43,13 +44,13 @@ enum-told-2 c = search needs
 
 returns-2 : tie.Need-returns-2
 returns-2 c =
-    let o = c .before .before .before .before .before .before .before .before .before in
-    λ commands. check-never (o .args .table) commands (now (o .args .sent)) (now (o .args .sites)) (λ k. c .before .before .before .before .before .before .before .before .slice-known .given k .fits) (o .args .site) (o .args .from) (o .args .round) (c .before .before .before .before .before .before .is-faulty .ensures) (c .before .before .before .before .before .judge-message .ensures) (c .before .before .before .enum-told .given .1) (c .before .before .check .ensures) (c .enum-told2 .given .1)
+    let o = c .before .before .before .before .before .before .before .before .before .before in
+    λ commands. check-never (o .args .table) commands (now (o .args .sent)) (now (o .args .sites)) (λ k. c .before .before .before .before .before .before .before .before .before .slice-known .given k .fits) (o .args .site) (o .args .from) (o .args .round) (c .before .before .before .before .before .before .is-correct .ensures (o .args .table) (o .pre .2)) (c .before .before .before .before .before .judge-message .ensures (o .args .table) (o .pre .2) (sent-by-correct (o .args .table) (o .args .from) (c .before .before .before .before .before .before .is-correct .ensures (o .args .table) (o .pre .2)))) (c .before .before .before .enum-told .given .1) (c .before .before .check .ensures) (c .enum-told2 .given .1)
 
 receive-requires : tie.Need-receive-requires
 receive-requires c κs =
-    let o = c .before .before .before .before .before .before .before .before .before .before .before in
-    let p = passed (o .args .table) (o .args .site) (o .args .from) (o .args .round) true (not (c .before .before .before .before .before .before .before .before .is-faulty .result)) (c .before .before .before .before .before .before .before .judge-message .ensures) (c .before .before .before .before .before .enum-told .given .1) in
+    let o = c .before .before .before .before .before .before .before .before .before .before .before .before in
+    let p = passed (o .args .table) (o .args .site) (o .args .from) (o .args .round) true (c .before .before .before .before .before .before .before .before .is-correct .result) (c .before .before .before .before .before .before .before .judge-message .ensures (o .args .table) (o .pre .2) (sent-by-correct (o .args .table) (o .args .from) (c .before .before .before .before .before .before .before .before .is-correct .ensures (o .args .table) (o .pre .2)))) (c .before .before .before .before .before .enum-told .given .1) in
     let q = p .receiver in
     omega (arith, o .pre .0)
 
@@ -58,15 +59,15 @@ same-length c = search needs
 
 returns-3 : tie.Need-returns-3
 returns-3 c =
-    let o = c .before .before .before .before .before .before .before .before .before .before .before .before .before .before in
-    λ commands. checked (o .args .table) commands (now (o .args .sent)) (now (o .args .sites)) (λ k. c .before .before .before .before .before .before .before .before .before .before .before .before .before .slice-known .given k .fits) (o .args .site) (o .args .from) (o .args .round) (c .before .before .before .before .before .before .before .before .before .before .before .is-faulty .ensures) (c .before .before .before .before .before .before .before .before .before .before .judge-message .ensures) (c .before .before .before .before .before .before .before .before .enum-told .given .1) (c .before .before .before .before .before .before .before .check .ensures)
-    (passed (o .args .table) (o .args .site) (o .args .from) (o .args .round) true (not (c .before .before .before .before .before .before .before .before .before .before .before .is-faulty .result)) (c .before .before .before .before .before .before .before .before .before .before .judge-message .ensures) (c .before .before .before .before .before .before .before .before .enum-told .given .1)) _ (c .before .before .before .before .before .message .given .1) (c .before .before .receive .ensures)
+    let o = c .before .before .before .before .before .before .before .before .before .before .before .before .before .before .before in
+    λ commands. checked (o .args .table) commands (now (o .args .sent)) (now (o .args .sites)) (λ k. c .before .before .before .before .before .before .before .before .before .before .before .before .before .before .slice-known .given k .fits) (o .args .site) (o .args .from) (o .args .round) (c .before .before .before .before .before .before .before .before .before .before .before .is-correct .ensures (o .args .table) (o .pre .2)) (c .before .before .before .before .before .before .before .before .before .before .judge-message .ensures (o .args .table) (o .pre .2) (sent-by-correct (o .args .table) (o .args .from) (c .before .before .before .before .before .before .before .before .before .before .before .is-correct .ensures (o .args .table) (o .pre .2)))) (c .before .before .before .before .before .before .before .before .enum-told .given .1) (c .before .before .before .before .before .before .before .check .ensures)
+    (passed (o .args .table) (o .args .site) (o .args .from) (o .args .round) true (c .before .before .before .before .before .before .before .before .before .before .before .is-correct .result) (c .before .before .before .before .before .before .before .before .before .before .judge-message .ensures (o .args .table) (o .pre .2) (sent-by-correct (o .args .table) (o .args .from) (c .before .before .before .before .before .before .before .before .before .before .before .is-correct .ensures (o .args .table) (o .pre .2)))) (c .before .before .before .before .before .before .before .before .enum-told .given .1)) _ (c .before .before .before .before .before .message .given .1) (c .before .before .receive .ensures)
 
 pub check-spec : {M : Type 1} → statement M
 check-spec =
     tie.close
     (tie.spec
-    is-faulty-requires
+    is-correct-requires
     judge-message-requires
     enum-known-verdict
     returns

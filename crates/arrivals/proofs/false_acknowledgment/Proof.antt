@@ -4,6 +4,7 @@ use borrow.Author.Needs.{needs}
 use denote.Ref.{now}
 use native.Mathlib.Omega.{arith}
 use Rattle.table.proofs.Laws.{good-limits}
+use Rattle.roles.proofs.Laws.{sent-by-faulty}
 use Rattle.arrivals.proofs.Arriving.{false-acknowledgment-refused, false-acknowledged}
 use Rattle.arrivals.proofs.Judging.{passed}
 use Rattle.arrivals.proofs.false_acknowledgment.Statement.{statement}
@@ -23,16 +24,16 @@ enum-known-verdict c = search needs
 
 returns : tie.Need-returns
 returns c =
-    let o = c .before .before .before .before .before .before .before in
-    λ sent. false-acknowledgment-refused (o .args .table) (o .args .commands) sent (now (o .args .sites)) (λ k. c .before .before .before .before .before .before .slice-known .given k .fits) (o .args .site) (o .args .from) (o .args .round) (o .args .set) (c .before .before .before .before .before .within .ensures) (c .before .before .before .before .is-faulty .ensures) (c .before .before .before .judge-message .ensures) _ (c .before .verdict .given .1)
+    let o = c .before .before .before .before .before .before .before .before in
+    λ sent. false-acknowledgment-refused (o .args .table) (o .args .commands) sent (now (o .args .sites)) (λ k. c .before .before .before .before .before .before .before .slice-known .given k .fits) (o .args .site) (o .args .from) (o .args .round) (o .args .set) (c .before .before .before .before .before .within .ensures) (c .before .before .before .before .is-faulty .ensures (o .args .table) (o .pre .2)) (c .before .before .before .judge-message .ensures (o .args .table) (o .pre .2) (sent-by-faulty (o .args .table) (o .args .from) (c .before .before .before .before .is-faulty .ensures (o .args .table) (o .pre .2)))) _ (c .before .verdict .given .1)
 
 enum-told : tie.Need-enum-told
 enum-told c = search needs
 
 hear-requires : tie.Need-hear-requires
 hear-requires c κs =
-    let o = c .before .before .before .before .before .before .before in
-    let p = passed (o .args .table) (o .args .site) (o .args .from) (o .args .round) (c .before .before .before .before .before .within .result) (c .before .before .before .before .is-faulty .result) (c .before .before .before .judge-message .ensures) (c .before .enum-told .given .1) in
+    let o = c .before .before .before .before .before .before .before .before in
+    let p = passed (o .args .table) (o .args .site) (o .args .from) (o .args .round) (c .before .before .before .before .before .within .result) (c .before .before .before .before .is-faulty .result) (c .before .before .before .judge-message .ensures (o .args .table) (o .pre .2) (sent-by-faulty (o .args .table) (o .args .from) (c .before .before .before .before .is-faulty .ensures (o .args .table) (o .pre .2)))) (c .before .enum-told .given .1) in
     let l = good-limits (o .args .table) (o .pre .1) in
     let s = p .sender in
     let q = p .receiver in
@@ -43,9 +44,9 @@ same-length c = search needs
 
 returns-2 : tie.Need-returns-2
 returns-2 c =
-    let o = c .before .before .before .before .before .before .before .before .before .before in
-    λ sent. false-acknowledged (o .args .table) (o .args .commands) sent (now (o .args .sites)) (λ k. c .before .before .before .before .before .before .before .before .before .slice-known .given k .fits) (o .args .site) (o .args .from) (o .args .round) (o .args .set) (c .before .before .before .before .before .before .before .before .within .ensures) (c .before .before .before .before .before .before .before .is-faulty .ensures) (c .before .before .before .before .before .before .judge-message .ensures) (c .before .before .before .before .enum-told .given .1)
-    (passed (o .args .table) (o .args .site) (o .args .from) (o .args .round) (c .before .before .before .before .before .before .before .before .within .result) (c .before .before .before .before .before .before .before .is-faulty .result) (c .before .before .before .before .before .before .judge-message .ensures) (c .before .before .before .before .enum-told .given .1)) (c .before .before .hear .ensures)
+    let o = c .before .before .before .before .before .before .before .before .before .before .before in
+    λ sent. false-acknowledged (o .args .table) (o .args .commands) sent (now (o .args .sites)) (λ k. c .before .before .before .before .before .before .before .before .before .before .slice-known .given k .fits) (o .args .site) (o .args .from) (o .args .round) (o .args .set) (c .before .before .before .before .before .before .before .before .within .ensures) (c .before .before .before .before .before .before .before .is-faulty .ensures (o .args .table) (o .pre .2)) (c .before .before .before .before .before .before .judge-message .ensures (o .args .table) (o .pre .2) (sent-by-faulty (o .args .table) (o .args .from) (c .before .before .before .before .before .before .before .is-faulty .ensures (o .args .table) (o .pre .2)))) (c .before .before .before .before .enum-told .given .1)
+    (passed (o .args .table) (o .args .site) (o .args .from) (o .args .round) (c .before .before .before .before .before .before .before .before .within .result) (c .before .before .before .before .before .before .before .is-faulty .result) (c .before .before .before .before .before .before .judge-message .ensures (o .args .table) (o .pre .2) (sent-by-faulty (o .args .table) (o .args .from) (c .before .before .before .before .before .before .before .is-faulty .ensures (o .args .table) (o .pre .2)))) (c .before .before .before .before .enum-told .given .1)) (c .before .before .hear .ensures)
 
 pub false-acknowledgment-spec : {M : Type 1} → statement M
 false-acknowledgment-spec =

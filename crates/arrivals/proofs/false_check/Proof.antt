@@ -3,6 +3,7 @@
 use borrow.Author.Needs.{needs}
 use denote.Ref.{now}
 use native.Mathlib.Omega.{arith}
+use Rattle.roles.proofs.Laws.{sent-by-faulty}
 use Rattle.arrivals.proofs.Arriving.{false-check-refused, false-checked}
 use Rattle.arrivals.proofs.Judging.{passed}
 use Rattle.arrivals.proofs.false_check.Statement.{statement}
@@ -22,16 +23,16 @@ enum-known-verdict c = search needs
 
 returns : tie.Need-returns
 returns c =
-    let o = c .before .before .before .before .before .before .before in
-    λ sent. false-check-refused (o .args .table) (o .args .commands) sent (now (o .args .sites)) (λ k. c .before .before .before .before .before .before .slice-known .given k .fits) (o .args .site) (o .args .from) (o .args .round) (o .args .set) (c .before .before .before .before .before .within .ensures) (c .before .before .before .before .is-faulty .ensures) (c .before .before .before .judge-message .ensures) _ (c .before .verdict .given .1)
+    let o = c .before .before .before .before .before .before .before .before in
+    λ sent. false-check-refused (o .args .table) (o .args .commands) sent (now (o .args .sites)) (λ k. c .before .before .before .before .before .before .before .slice-known .given k .fits) (o .args .site) (o .args .from) (o .args .round) (o .args .set) (c .before .before .before .before .before .within .ensures) (c .before .before .before .before .is-faulty .ensures (o .args .table) (o .pre .1)) (c .before .before .before .judge-message .ensures (o .args .table) (o .pre .1) (sent-by-faulty (o .args .table) (o .args .from) (c .before .before .before .before .is-faulty .ensures (o .args .table) (o .pre .1)))) _ (c .before .verdict .given .1)
 
 enum-told : tie.Need-enum-told
 enum-told c = search needs
 
 receive-requires : tie.Need-receive-requires
 receive-requires c κs =
-    let o = c .before .before .before .before .before .before .before in
-    let p = passed (o .args .table) (o .args .site) (o .args .from) (o .args .round) (c .before .before .before .before .before .within .result) (c .before .before .before .before .is-faulty .result) (c .before .before .before .judge-message .ensures) (c .before .enum-told .given .1) in
+    let o = c .before .before .before .before .before .before .before .before in
+    let p = passed (o .args .table) (o .args .site) (o .args .from) (o .args .round) (c .before .before .before .before .before .within .result) (c .before .before .before .before .is-faulty .result) (c .before .before .before .judge-message .ensures (o .args .table) (o .pre .1) (sent-by-faulty (o .args .table) (o .args .from) (c .before .before .before .before .is-faulty .ensures (o .args .table) (o .pre .1)))) (c .before .enum-told .given .1) in
     let q = p .receiver in
     omega (arith, o .pre)
 
@@ -40,9 +41,9 @@ same-length c = search needs
 
 returns-2 : tie.Need-returns-2
 returns-2 c =
-    let o = c .before .before .before .before .before .before .before .before .before .before in
-    λ sent. false-checked (o .args .table) (o .args .commands) sent (now (o .args .sites)) (λ k. c .before .before .before .before .before .before .before .before .before .slice-known .given k .fits) (o .args .site) (o .args .from) (o .args .round) (o .args .set) (c .before .before .before .before .before .before .before .before .within .ensures) (c .before .before .before .before .before .before .before .is-faulty .ensures) (c .before .before .before .before .before .before .judge-message .ensures) (c .before .before .before .before .enum-told .given .1)
-    (passed (o .args .table) (o .args .site) (o .args .from) (o .args .round) (c .before .before .before .before .before .before .before .before .within .result) (c .before .before .before .before .before .before .before .is-faulty .result) (c .before .before .before .before .before .before .judge-message .ensures) (c .before .before .before .before .enum-told .given .1)) (c .before .before .receive .ensures)
+    let o = c .before .before .before .before .before .before .before .before .before .before .before in
+    λ sent. false-checked (o .args .table) (o .args .commands) sent (now (o .args .sites)) (λ k. c .before .before .before .before .before .before .before .before .before .before .slice-known .given k .fits) (o .args .site) (o .args .from) (o .args .round) (o .args .set) (c .before .before .before .before .before .before .before .before .within .ensures) (c .before .before .before .before .before .before .before .is-faulty .ensures (o .args .table) (o .pre .1)) (c .before .before .before .before .before .before .judge-message .ensures (o .args .table) (o .pre .1) (sent-by-faulty (o .args .table) (o .args .from) (c .before .before .before .before .before .before .before .is-faulty .ensures (o .args .table) (o .pre .1)))) (c .before .before .before .before .enum-told .given .1)
+    (passed (o .args .table) (o .args .site) (o .args .from) (o .args .round) (c .before .before .before .before .before .before .before .before .within .result) (c .before .before .before .before .before .before .before .is-faulty .result) (c .before .before .before .before .before .before .judge-message .ensures (o .args .table) (o .pre .1) (sent-by-faulty (o .args .table) (o .args .from) (c .before .before .before .before .before .before .before .is-faulty .ensures (o .args .table) (o .pre .1)))) (c .before .before .before .before .enum-told .given .1)) (c .before .before .receive .ensures)
 
 pub false-check-spec : {M : Type 1} → statement M
 false-check-spec =

@@ -16,30 +16,39 @@ in-range-requires c κs = search needs
 
 returns : tie.Need-returns
 returns c =
-    let o = c .before .before .before .before in
-    entry-out (o .args .table) (o .args .commands) (now (o .args .log)) (o .args .entries) (o .args .from) (o .args .round) (o .args .nc) (o .args .c) (c .before .in-range .ensures) (c .if1 .taken)
+    let o = c .before .before .before .before .before .before in
+    entry-out (o .args .table) (o .args .commands) (now (o .args .log)) (o .args .entries) (o .args .from) (o .args .round) (o .args .nc) (o .args .c) (c .before .before .in-range .ensures) (c .before .if1 .taken) (c .number .ensures)
+
+number-requires : tie.Need-number-requires
+number-requires c κs = search needs
+
+number-requires-2 : tie.Need-number-requires-2
+number-requires-2 c κs = search needs
+
+number-requires-3 : tie.Need-number-requires-3
+number-requires-3 c κs = search needs
 
 is-faulty-requires : tie.Need-is-faulty-requires
 is-faulty-requires c κs = search needs
 
 returns-2 : tie.Need-returns-2
 returns-2 c =
-    let o = c .before .before .before .before .before .before in
-    entry-correct (o .args .table) (o .args .commands) (now (o .args .log)) (o .args .entries) (o .args .from) (o .args .round) (o .args .nc) (o .args .c) (c .before .before .before .in-range .ensures) (c .before .before .if1 .left) (c .before .is-faulty .ensures) (c .if2 .taken)
+    let o = c .before .before .before .before .before .before .before .before in
+    entry-correct (o .args .table) (o .args .commands) (now (o .args .log)) (o .args .entries) (o .args .from) (o .args .round) (o .args .nc) (o .args .c) (c .before .before .before .before .in-range .ensures) (c .before .before .before .if1 .left) (c .before .before .is-faulty .ensures (o .args .table) (o .pre .2)) (c .before .if2 .taken) (c .number2 .ensures)
 
 third-requires : tie.Need-third-requires
 third-requires c κs =
-    let o = c .before .before .before .before .before .before in
+    let o = c .before .before .before .before .before .before .before in
     let p = in-range-told (o .args .table .sites) (o .args .commands) (record { site = o .args .from; round = o .args .round; nc = o .args .nc; c = o .args .c }) (sym (c .before .before .before .in-range .ensures) ∙ not-false _ (c .before .before .if1 .left)) in
     let l = p .site in
     let m = p .round in
     let n = good-limits (o .args .table) (o .pre .1) .sites in
-    (o .pre .2 .1 .size, omega arith, omega arith)
+    (o .pre .3 .1 .size, omega arith, omega arith)
 
 returns-3 : tie.Need-returns-3
 returns-3 c =
-    let o = c .before .before .before .before .before .before .before .before in
-    entry-third (o .args .table) (o .args .commands) (now (o .args .log)) (o .args .entries) (o .args .from) (o .args .round) (o .args .nc) (o .args .c) (c .before .before .before .before .before .in-range .ensures) (c .before .before .before .before .if1 .left) (c .before .before .before .is-faulty .ensures) (c .before .before .if2 .left) (c .before .third .ensures (o .args .table) (o .pre .2 .0) (now (o .args .log)) (o .args .entries) (o .pre .2 .1)) (c .if3 .taken)
+    let o = c .before .before .before .before .before .before .before .before .before .before in
+    entry-third (o .args .table) (o .args .commands) (now (o .args .log)) (o .args .entries) (o .args .from) (o .args .round) (o .args .nc) (o .args .c) (c .before .before .before .before .before .before .in-range .ensures) (c .before .before .before .before .before .if1 .left) (c .before .before .before .before .is-faulty .ensures (o .args .table) (o .pre .2)) (c .before .before .before .if2 .left) (c .before .before .third .ensures (o .args .table) (o .pre .3 .0) (now (o .args .log)) (o .args .entries) (o .pre .3 .1)) (c .before .if3 .taken) (c .number3 .ensures)
 
 write-entry-requires : tie.Need-write-entry-requires
 write-entry-requires c κs = search needs
@@ -52,21 +61,24 @@ same-length c = search needs
 
 returns-4 : tie.Need-returns-4
 returns-4 c =
-    let o = c .before .before .before .before .before .before .before .before .before .before .before .before in
+    let o = c .before .before .before .before .before .before .before .before .before .before .before .before .before in
     let p = in-range-told (o .args .table .sites) (o .args .commands) (record { site = o .args .from; round = o .args .round; nc = o .args .nc; c = o .args .c }) (sym (c .before .before .before .before .before .before .before .before .before .in-range .ensures) ∙ not-false _ (c .before .before .before .before .before .before .before .before .if1 .left)) in
     let l = p .round in
-    entered (o .args .table) (o .args .commands) (now (o .args .log)) (o .args .entries) (o .args .from) (o .args .round) (o .args .nc) (o .args .c) (c .before .before .before .before .before .before .before .before .before .in-range .ensures) (c .before .before .before .before .before .before .before .before .if1 .left) (c .before .before .before .before .before .before .before .is-faulty .ensures) (c .before .before .before .before .before .before .if2 .left) (c .before .before .before .before .before .third .ensures (o .args .table) (o .pre .2 .0) (now (o .args .log)) (o .args .entries) (o .pre .2 .1)) (c .before .before .before .before .if3 .left)
-    (record { site = omega arith; round = omega arith; nc = o .good .1 .1 .1 .1 .1 .1 .1 .0 .1 .1 .0 .1; c = o .good .1 .1 .1 .1 .1 .1 .1 .1 .0 .1 .1 .0 .1 }) (o .pre .0) (c .before .before .write-entry .ensures)
+    entered (o .args .table) (o .args .commands) (now (o .args .log)) (o .args .entries) (o .args .from) (o .args .round) (o .args .nc) (o .args .c) (c .before .before .before .before .before .before .before .before .before .in-range .ensures) (c .before .before .before .before .before .before .before .before .if1 .left) (c .before .before .before .before .before .before .before .is-faulty .ensures (o .args .table) (o .pre .2)) (c .before .before .before .before .before .before .if2 .left) (c .before .before .before .before .before .third .ensures (o .args .table) (o .pre .3 .0) (now (o .args .log)) (o .args .entries) (o .pre .3 .1)) (c .before .before .before .before .if3 .left)
+    (record { site = omega arith; round = omega arith; nc = o .good .1 .1 .1 .1 .1 .1 .1 .1 .0 .1 .1 .0 .1; c = o .good .1 .1 .1 .1 .1 .1 .1 .1 .1 .0 .1 .1 .0 .1 }) (o .pre .0) (c .before .before .write-entry .ensures)
 
 pub false-entry-spec : {M : Type 1} → statement M
 false-entry-spec =
     tie.close
     (tie.spec
     in-range-requires
+    number-requires
     returns
     is-faulty-requires
+    number-requires-2
     returns-2
     third-requires
+    number-requires-3
     returns-3
     write-entry-requires
     add-t26

@@ -1,40 +1,35 @@
 -- `arrivals::judge_message`: one law for each answer.
 -- Assumes nothing.
 use borrow.Author.Needs.{needs}
-use mathlib.Core.Path.{sym, ap, _∙_}
-use mathlib.Core.Bool.{Bool}
-use Rattle.refusals.specs.declared.Verdict.the-variants.{Taken, Refused}
-use Rattle.refusals.specs.declared.Refusal.the-variants.{Role}
-use Rattle.theory.specs.Sets.{pick}
-use Rattle.theory.specs.Counting.{not-true, not-false}
-use Rattle.arrivals.proofs.Judging.{out-of-range, faulty-receiver, by-role}
+use Rattle.arrivals.proofs.Judging.{taken-told, out-told, role-told}
 use Rattle.arrivals.proofs.judge_message.Statement.{statement}
 use Rattle.arrivals.proofs.judge_message.Tie as tie
 
+is-correct-requires : tie.Need-is-correct-requires
+is-correct-requires c κs = search needs
+
 returns : tie.Need-returns
 returns c =
-    let o = c .before .before .before in
-    out-of-range (o .args .table) (o .args .i) (o .args .j) (o .args .r) (o .args .other) (o .args .role) (not-true _ (c .if1 .taken))
+    let a = c .before .before .before .args in
+    λ t h sender. taken-told t (a .site) (a .from) (a .round) (a .other) (a .role) sender (c .before .is-correct .ensures t h) (c .if1 .taken)
 
-is-faulty-requires : tie.Need-is-faulty-requires
-is-faulty-requires c κs = search needs
+is-site-requires : tie.Need-is-site-requires
+is-site-requires c κs = search needs
+
+is-site-requires-2 : tie.Need-is-site-requires-2
+is-site-requires-2 c κs = search needs
 
 returns-2 : tie.Need-returns-2
 returns-2 c =
-    let o = c .before .before .before .before .before in
-    faulty-receiver (o .args .table) (o .args .i) (o .args .j) (o .args .r) (o .args .other) (o .args .role) (not-false _ (c .before .before .if1 .left)) (sym (c .before .is-faulty .ensures) ∙ c .if2 .taken)
+    let a = c .before .before .before .before .before .before .args in
+    λ t h sender.
+    out-told t (a .site) (a .from) (a .round) (a .other) (a .role) sender (c .before .before .before .before .is-correct .ensures t h) (c .before .before .is-site .ensures t h) (c .before .is-site2 .ensures t h) (c .if2 .taken)
 
 returns-3 : tie.Need-returns-3
 returns-3 c =
-    let o = c .before .before .before .before .before .before in
-    sym (ap (λ (x : Bool). pick x Taken (Refused Role)) (not-true (o .args .role) (c .if3 .taken)))
-    ∙ by-role (o .args .table) (o .args .i) (o .args .j) (o .args .r) (o .args .other) (o .args .role) (not-false _ (c .before .before .before .if1 .left)) (sym (c .before .before .is-faulty .ensures) ∙ c .before .if2 .left)
-
-returns-4 : tie.Need-returns-4
-returns-4 c =
-    let o = c .before .before .before .before .before .before in
-    sym (ap (λ (x : Bool). pick x Taken (Refused Role)) (not-false (o .args .role) (c .if3 .left)))
-    ∙ by-role (o .args .table) (o .args .i) (o .args .j) (o .args .r) (o .args .other) (o .args .role) (not-false _ (c .before .before .before .if1 .left)) (sym (c .before .before .is-faulty .ensures) ∙ c .before .if2 .left)
+    let a = c .before .before .before .before .before .before .args in
+    λ t h sender.
+    role-told t (a .site) (a .from) (a .round) (a .other) (a .role) sender (c .before .before .before .before .is-correct .ensures t h) (c .before .before .is-site .ensures t h) (c .before .is-site2 .ensures t h) (c .before .before .before .if1 .left) (c .if2 .left)
 
 pub judge-message-spec : {M : Type 1} → statement M
-judge-message-spec = tie.close (tie.spec returns is-faulty-requires returns-2 returns-3 returns-4)
+judge-message-spec = tie.close (tie.spec is-correct-requires returns is-site-requires is-site-requires-2 returns-2 returns-3)
