@@ -9,20 +9,23 @@ use Prim.Native.Nat.{ℕ, _+_, _*_, _≤_, _<_}
 use native.Mathlib.Omega.{arith}
 use lib.Dec.{eqb, leb, ltb}
 use lib.ListN.{length, getD, length-append}
-use borrow.Author.Tests.{lt-ltb, le-ltb, le-leb, eq-eqb}
+use borrow.Author.Tests.{lt-ltb, le-leb, eq-eqb}
+use Rattle.refusals.specs.Refusals.{numberOf, codeOf}
 use Rattle.refusals.specs.declared.Refusal.{Refusal}
 use Rattle.refusals.specs.declared.Verdict.{Verdict}
 use Rattle.refusals.specs.declared.Verdict.the-variants.{Taken, Refused}
 use Rattle.refusals.specs.declared.Refusal.the-variants.{Range, Role, Disabled, ThirdEntry, LastRound}
 use Rattle.theory.specs.Sets as theory
 use Rattle.theory.specs.Sets.{pick, any}
-use Rattle.theory.specs.Counting.{both, left, never, not-not}
+use Rattle.theory.specs.Counting.{both, left, never, not-true, not-not}
 use Rattle.sets.specs.declared.Set.{Set}
 use Rattle.sets.specs.Sets.{capacity, inSet, setOf, withoutOf, withinOf}
 use Rattle.sets.proofs.Laws.{in-without, word-lt}
 use Rattle.table.specs.declared.SiteTable.{SiteTable}
 use Rattle.table.specs.Table.{maxSites, faultyOf}
 use Rattle.table.proofs.Laws.{good-limits}
+use Rattle.roles.specs.Roles.{isCorrectSite, refusalOf}
+use Rattle.roles.proofs.Laws.{refused-at}
 use Rattle.commands.specs.Book.{commandsOf}
 use Rattle.conflicts.specs.Conflicts.{conflictRows}
 use Rattle.calm.specs.Rows.{freeBetween}
@@ -48,7 +51,7 @@ use Rattle.entries.specs.Entries.{entrySize, logTo, writeEntry, viewEntry, inRa
 use Rattle.entries.proofs.Bytes.{Fits}
 use Rattle.sent.specs.Sent as sent
 use Rattle.sent.specs.Sent.{maxAcknowledgments, cellOf, acksOf, checksOf, acknowledgedIn, checkedIn, oneMore, checked}
-use Rattle.world.specs.World.{Buffers, siteAt, knownTo, entryFor, worldOf, HoldsWorld, Outcome}
+use Rattle.world.specs.World.{Buffers, siteAt, knownTo, entryFor, worldOf, HoldsWorld, Outcome, Answered}
 use Rattle.world.specs.Parts.{lent, AtSite}
 use Rattle.world.proofs.Sites.{small-site}
 use Rattle.world.proofs.Hold.{seen, position-seen, put-holds, refused, taken, refused-site}

@@ -142,3 +142,7 @@ sent-by-correct t j e h = ltb-true j (t .sites) (left (ltb j (t .sites)) (not (f
 
 pub sent-by-faulty : (t : SiteTable) (j : ℕ) {q : Bool} → q ≡ isFaultySite t j → q ≡ true → j < t .sites
 sent-by-faulty t j e h = ltb-true j (t .sites) (left (ltb j (t .sites)) (faultyOf t j) (sym e ∙ h))
+
+-- A step that is not turned down for its site.
+pub correct-site : (t : SiteTable) (i : ℕ) {q : Bool} → q ≡ isCorrectSite t i → not q ≡ false → Correct t i
+correct-site t i {q} e h = correct t i (sym e ∙ not-false q h)
