@@ -8,6 +8,7 @@ use native.Mathlib.Omega.{arith}
 use lib.ListN.{length, getD}
 use denote.Enum.Declared as Declared
 use types.Run.{OneOf, miss}
+use Rattle.refusals.specs.Refusals.{codeOf}
 use Rattle.refusals.specs.declared.Verdict.{Verdict}
 use Rattle.theory.specs.Counting.{never}
 use Rattle.sets.specs.Sets.{capacity}
@@ -22,7 +23,8 @@ use Rattle.steps.specs.declared.Step.the-variants as kinds
 use Rattle.steps.specs.Meaning.{meaning}
 use Rattle.steps.proofs.Step as declared
 use Rattle.world.specs.declared.Stepped.{Stepped}
-use Rattle.world.specs.World.{Buffers, GoodWorld, Outcome}
+use Rattle.protocol.specs.World as protocol
+use Rattle.world.specs.World.{Buffers, GoodWorld, Outcome, Answered}
 use Rattle.world.specs.Parts.{lent, Arrived}
 use Rattle.moves.specs.Moves.{Ready}
 use Rattle.closings.specs.Closings.{GoodSites, KeptLog}
@@ -61,8 +63,14 @@ pub arrived : (t : SiteTable) (commands : ℕ) (sent sites after : List ℕ) {u 
     → arrives u ≡ true → Arrived t commands (meaning u) sent sites r after
 arrived t commands sent sites after {r = r} e h k = subst (λ (x : Step). Arrived t commands (meaning x) sent sites r after) (sym e) h
 
-pub arm : (t : SiteTable) (book : List Command) (b after : Buffers) {u v : Step} {r : Verdict} → u ≡ v → Outcome t book (meaning v) b r after → Outcome t book (meaning u) b r after
-arm t book b after {r = r} e h = subst (λ (x : Step). Outcome t book (meaning x) b r after) (sym e) h
+pub arm : (t : SiteTable) (book : List Command) (b after : Buffers) {u v : Step} {n : ℕ} → u ≡ v → Answered t book (meaning v) b n after → Answered t book (meaning u) b n after
+arm t book b after {n = n} e h = subst (λ (x : Step). Answered t book (meaning x) b n after) (sym e) h
+
+-- A verdict as a number, of a step that appends nothing to the log.
+pub numbered : (t : SiteTable) (book : List Command) (b : Buffers) (sites log sent : List ℕ) (entries : ℕ) {u : protocol.Step} {v : Verdict} {n k : ℕ} → (n ≡ codeOf v) × (k ≡ entries)
+    → Outcome t book u b v (lent sites log entries sent) → Answered t book u b n (lent sites log k sent)
+numbered t book b sites log sent entries {u} {v} {n} e h =
+    subst (λ (k : ℕ). Answered t book u b n (lent sites log k sent)) (sym (e .1)) (record { verdict = v; number = e .0; outcome = h })
 
 pub ready-as : (t : SiteTable) (book rows : List ℕ) (b : Buffers) {u v : Step} → u ≡ v → Ready t book rows b (meaning u) → Ready t book rows b (meaning v)
 ready-as t book rows b e h = subst (λ (x : Step). Ready t book rows b (meaning x)) e h

@@ -14,7 +14,7 @@ ghost use Rattle.deliver.specs.Delivering.{Noted};
 ghost use Rattle.entries.specs.Entries.{entrySize, entryOf};
 ghost use Rattle.rounds.specs.Rounds.{keptRounds, Kept};
 ghost use Rattle.sent.specs.Sent.{GoodSent};
-ghost use Rattle.world.specs.World.{Outcome};
+ghost use Rattle.world.specs.World.{Answered};
 ghost use Rattle.world.specs.Parts.{lent, Arrived};
 ghost use Rattle.moves.specs.Moves.{Ready};
 ghost use Rattle.stepping.specs.Kinds.{arrives};
@@ -86,8 +86,8 @@ fn act(
 ) -> Stepped
     requires { ⌜ Ready table (now book) (now rows) (lent (now sites) (now log) entries (now sent)) (meaning step) × Noted (now book) (now places)
         × Roles table (now roles) × (length (commandsOf (now book)) ≡ commands) × Kept table (now rows) (now log) entries (now kept) ⌝ }
-    ensures { λ r. ⌜ Outcome table (commandsOf (now (book .entry))) (meaning step) (lent (now (sites .entry)) (now (log .entry)) entries (now (sent .entry)))
-        (r .verdict) (lent (now (sites .exit)) (now (log .exit)) (r .entries) (now (sent .exit))) ⌝ }
+    ensures { λ r. ⌜ Answered table (commandsOf (now (book .entry))) (meaning step) (lent (now (sites .entry)) (now (log .entry)) entries (now (sent .entry)))
+        (r .code) (lent (now (sites .exit)) (now (log .exit)) (r .entries) (now (sent .exit))) ⌝ }
 {
     match step {
         Step::FalseEntry { from, round, nc, c } => arrivals::false_entry(
@@ -160,8 +160,8 @@ pub fn step(
 ) -> Stepped
     requires { ⌜ Ready table (now book) (now rows) (lent (now sites) (now log) entries (now sent)) (meaning step) × Noted (now book) (now places)
         × Roles table (now roles) × (length (commandsOf (now book)) ≡ commands) × Kept table (now rows) (now log) entries (now kept) ⌝ }
-    ensures { λ r. ⌜ Outcome table (commandsOf (now (book .entry))) (meaning step) (lent (now (sites .entry)) (now (log .entry)) entries (now (sent .entry)))
-        (r .verdict) (lent (now (sites .exit)) (now (log .exit)) (r .entries) (now (sent .exit)))
+    ensures { λ r. ⌜ Answered table (commandsOf (now (book .entry))) (meaning step) (lent (now (sites .entry)) (now (log .entry)) entries (now (sent .entry)))
+        (r .code) (lent (now (sites .exit)) (now (log .exit)) (r .entries) (now (sent .exit)))
         × Kept table (now (rows .entry)) (now (log .exit)) (r .entries) (now (kept .exit)) ⌝ }
 {
     let stepped = act(

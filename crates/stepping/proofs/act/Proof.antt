@@ -6,7 +6,7 @@ use native.Mathlib.Omega.{arith}
 use Rattle.commands.specs.Book.{commandsOf}
 use mathlib.Core.Path.{sym}
 use Rattle.world.specs.Parts.{lent}
-use Rattle.stepping.proofs.Arms.{is-arrival, arm, ready-as, good-sites, kept-log, few}
+use Rattle.stepping.proofs.Arms.{is-arrival, arm, numbered, ready-as, good-sites, kept-log, few}
 use Rattle.stepping.proofs.act.Statement.{statement}
 use Rattle.stepping.proofs.act.Tie as tie
 
@@ -15,68 +15,66 @@ enum-known-step c = search needs
 
 false-entry-requires : tie.Need-false-entry-requires
 false-entry-requires c κs =
-    let o = c .before .before .before .before .before .before .before .before .before .before .before in
-    (o .pre .0 .room, o .pre .0 .table, (now (o .args .rows), o .pre .3))
+    let o = c .before .before .before .before .before .before .before .before .before .before .before .before in
+    (o .pre .0 .room, o .pre .0 .table, o .pre .2, (now (o .args .rows), o .pre .4))
 
 enum-known-step-2 : tie.Need-enum-known-step-2
 enum-known-step-2 c = search needs
 
-cast-turn : tie.Need-cast-turn
-cast-turn c = search needs
-
 turn-requires : tie.Need-turn-requires
 turn-requires c κs =
-    let o = c .before .before .before .before .before .before .before .before .before .before .before .before .before in
-    ((now (o .args .book), ready-as (o .args .table) (now (o .args .book)) (now (o .args .rows)) (lent (now (o .args .sites)) (now (o .args .log)) (o .args .entries) (now (o .args .sent))) (c .before .before .before .before .step2 .given .1) (o .pre .0)), o .pre .3)
+    let o = c .before .before .before .before .before .before .before .before .before .before .before .before .before .before in
+    ((now (o .args .book), ready-as (o .args .table) (now (o .args .book)) (now (o .args .rows)) (lent (now (o .args .sites)) (now (o .args .log)) (o .args .entries) (now (o .args .sent))) (c .before .before .before .before .step2 .given .1) (o .pre .0)), o .pre .2, o .pre .4)
 
 enum-known-step-3 : tie.Need-enum-known-step-3
 enum-known-step-3 c = search needs
 
-cast-i : tie.Need-cast-i
-cast-i c = search needs
-
-cast-m : tie.Need-cast-m
-cast-m c = search needs
-
 fast-delivery-requires : tie.Need-fast-delivery-requires
 fast-delivery-requires c κs =
-    let o = c .before .before .before .before .before .before .before .before .before .before .before in
-    (good-sites (o .args .table) (now (o .args .book)) (o .args .commands) (lent (now (o .args .sites)) (now (o .args .log)) (o .args .entries) (now (o .args .sent))) (o .pre .2) (o .pre .0 .world), o .pre .0 .table, o .pre .1, o .pre .2)
+    let o = c .before .before .before .before .before .before .before .before .before .before .before .before in
+    (good-sites (o .args .table) (now (o .args .book)) (o .args .commands) (lent (now (o .args .sites)) (now (o .args .log)) (o .args .entries) (now (o .args .sent))) (o .pre .3) (o .pre .0 .world), o .pre .0 .table, o .pre .2, o .pre .1, o .pre .3)
 
 enum-known-step-4 : tie.Need-enum-known-step-4
 enum-known-step-4 c = search needs
 
-cast-i-2 : tie.Need-cast-i-2
-cast-i-2 c = search needs
-
-cast-log-read : tie.Need-cast-log-read
-cast-log-read c = search needs
-
 log-read-requires : tie.Need-log-read-requires
 log-read-requires c κs =
-    let w = c .before .before .before .before .before .before .before .before .before .before .before .pre .0 .world in
-    (w .size, omega (arith, w .room, w .short))
+    let o = c .before .before .before .before .before .before .before .before .before .before .before .before in
+    let w = o .pre .0 .world in
+    (w .size, o .pre .2, omega (arith, w .room, w .short))
 
 enum-known-step-5 : tie.Need-enum-known-step-5
 enum-known-step-5 c = search needs
 
 round-end-requires : tie.Need-round-end-requires
 round-end-requires c κs =
-    let o = c .before .before .before .before .before .before .before .before .before .before .before in
-    (good-sites (o .args .table) (now (o .args .book)) (o .args .commands) (lent (now (o .args .sites)) (now (o .args .log)) (o .args .entries) (now (o .args .sent))) (o .pre .2) (o .pre .0 .world), (now (o .args .log), o .args .entries, kept-log (o .args .table) (now (o .args .book)) (o .args .commands) (lent (now (o .args .sites)) (now (o .args .log)) (o .args .entries) (now (o .args .sent))) (o .pre .2) (o .pre .0 .world) (o .pre .0 .conflicts) (λ k. c .before .before .before .before .before .before .before .before .before .slice-known2 .given k .fits) (o .pre .3)), o .pre .0 .table, o .pre .1, o .pre .2)
+    let o = c .before .before .before .before .before .before .before .before .before .before .before .before in
+    (good-sites (o .args .table) (now (o .args .book)) (o .args .commands) (lent (now (o .args .sites)) (now (o .args .log)) (o .args .entries) (now (o .args .sent))) (o .pre .3) (o .pre .0 .world), (now (o .args .log), o .args .entries, kept-log (o .args .table) (now (o .args .book)) (o .args .commands) (lent (now (o .args .sites)) (now (o .args .log)) (o .args .entries) (now (o .args .sent))) (o .pre .3) (o .pre .0 .world) (o .pre .0 .conflicts) (λ k. c .before .before .before .before .before .before .before .before .before .before .slice-known2 .given k .fits) (o .pre .4)), o .pre .0 .table, o .pre .2, o .pre .1, o .pre .3)
 
 arrive-requires : tie.Need-arrive-requires
 arrive-requires c κs =
-    let o = c .before .before .before .before .before .before .before .before .before .before in
-    (o .pre .0 .world .size, o .pre .0 .table, o .pre .0 .world .sent, few (o .args .table) (now (o .args .book)) (o .args .commands) (lent (now (o .args .sites)) (now (o .args .log)) (o .args .entries) (now (o .args .sent))) (o .pre .2) (o .pre .0 .world))
+    let o = c .before .before .before .before .before .before .before .before .before .before .before in
+    (o .pre .0 .world .size, o .pre .0 .table, o .pre .2, o .pre .0 .world .sent, few (o .args .table) (now (o .args .book)) (o .args .commands) (lent (now (o .args .sites)) (now (o .args .log)) (o .args .entries) (now (o .args .sent))) (o .pre .3) (o .pre .0 .world))
+
+answered-requires : tie.Need-answered-requires
+answered-requires c κs = search needs
+
+answered-requires-2 : tie.Need-answered-requires-2
+answered-requires-2 c κs = search needs
+
+answered-requires-3 : tie.Need-answered-requires-3
+answered-requires-3 c κs = search needs
+
+answered-requires-4 : tie.Need-answered-requires-4
+answered-requires-4 c κs = search needs
 
 same-length : tie.Need-same-length
 same-length c = search needs
 
 returns : tie.Need-returns
 returns c =
-    let o = c .before .before .before .before .before .before .before .before .before .before .before .before .before .before in
-    arm (o .args .table) (commandsOf (now (o .args .book))) (lent (now (o .args .sites)) (now (o .args .log)) (o .args .entries) (now (o .args .sent))) _ (c .before .before .before .before .before .step .given .1) (c .before .before .false-entry .ensures (commandsOf (now (o .args .book))) (now (o .args .sites)) (now (o .args .sent)) (sym (o .pre .2)) (o .pre .0 .world) (λ k. c .before .before .before .before .before .before .before .before .before .before .before .before .before .slice-known .given k .fits))
+    let o = c .before .before .before .before .before .before .before .before .before .before .before .before .before .before .before in
+    arm (o .args .table) (commandsOf (now (o .args .book))) (lent (now (o .args .sites)) (now (o .args .log)) (o .args .entries) (now (o .args .sent))) _ (c .before .before .before .before .before .step .given .1) (c .before .before .false-entry .ensures (commandsOf (now (o .args .book))) (now (o .args .sites)) (now (o .args .sent)) (sym (o .pre .3)) (o .pre .0 .world) (λ k. c .before .before .before .before .before .before .before .before .before .before .before .before .before .before .slice-known .given k .fits))
 
 same-length-2 : tie.Need-same-length-2
 same-length-2 c = search needs
@@ -89,7 +87,7 @@ same-length-4 c = search needs
 
 returns-2 : tie.Need-returns-2
 returns-2 c =
-    let o = c .before .before .before .before .before .before .before .before .before .before .before .before .before .before .before .before .before .before .before .before in
+    let o = c .before .before .before .before .before .before .before .before .before .before .before .before .before .before .before .before .before .before .before .before .before in
     arm (o .args .table) (commandsOf (now (o .args .book))) (lent (now (o .args .sites)) (now (o .args .log)) (o .args .entries) (now (o .args .sent))) _ (c .before .before .before .before .before .before .before .before .before .before .before .step2 .given .1) (c .before .before .before .before .before .before .turn .ensures (now (o .args .book)) (ready-as (o .args .table) (now (o .args .book)) (now (o .args .rows)) (lent (now (o .args .sites)) (now (o .args .log)) (o .args .entries) (now (o .args .sent))) (c .before .before .before .before .before .before .before .before .before .before .before .step2 .given .1) (o .pre .0)))
 
 same-length-5 : tie.Need-same-length-5
@@ -97,16 +95,16 @@ same-length-5 c = search needs
 
 returns-3 : tie.Need-returns-3
 returns-3 c =
-    let o = c .before .before .before .before .before .before .before .before .before .before .before .before .before .before in
-    arm (o .args .table) (commandsOf (now (o .args .book))) (lent (now (o .args .sites)) (now (o .args .log)) (o .args .entries) (now (o .args .sent))) _ (c .before .before .before .before .before .step3 .given .1) (c .before .before .fast-delivery .ensures (now (o .args .log)) (o .args .entries) (now (o .args .sent)) (o .pre .0 .world))
+    let o = c .before .before .before .before .before .before .before .before .before .before .before .before .before .before .before .before in
+    arm (o .args .table) (commandsOf (now (o .args .book))) (lent (now (o .args .sites)) (now (o .args .log)) (o .args .entries) (now (o .args .sent))) _ (c .before .before .before .before .before .before .step3 .given .1) (numbered (o .args .table) (commandsOf (now (o .args .book))) (lent (now (o .args .sites)) (now (o .args .log)) (o .args .entries) (now (o .args .sent))) _ _ _ (o .args .entries) (c .answered .ensures) (c .before .before .before .fast-delivery .ensures (now (o .args .log)) (o .args .entries) (now (o .args .sent)) (o .pre .0 .world)))
 
 same-length-6 : tie.Need-same-length-6
 same-length-6 c = search needs
 
 returns-4 : tie.Need-returns-4
 returns-4 c =
-    let o = c .before .before .before .before .before .before .before .before .before .before .before .before .before .before in
-    arm (o .args .table) (commandsOf (now (o .args .book))) (lent (now (o .args .sites)) (now (o .args .log)) (o .args .entries) (now (o .args .sent))) _ (c .before .before .before .before .before .step4 .given .1) (c .before .before .log-read .ensures (commandsOf (now (o .args .book))) (now (o .args .log)) (now (o .args .sent)) (o .pre .0 .world) (o .pre .0 .twice))
+    let o = c .before .before .before .before .before .before .before .before .before .before .before .before .before .before .before .before in
+    arm (o .args .table) (commandsOf (now (o .args .book))) (lent (now (o .args .sites)) (now (o .args .log)) (o .args .entries) (now (o .args .sent))) _ (c .before .before .before .before .before .before .step4 .given .1) (numbered (o .args .table) (commandsOf (now (o .args .book))) (lent (now (o .args .sites)) (now (o .args .log)) (o .args .entries) (now (o .args .sent))) _ _ _ (o .args .entries) (c .answered2 .ensures) (c .before .before .before .log-read .ensures (commandsOf (now (o .args .book))) (now (o .args .log)) (now (o .args .sent)) (o .pre .0 .world) (o .pre .0 .twice)))
 
 same-length-7 : tie.Need-same-length-7
 same-length-7 c = search needs
@@ -116,16 +114,16 @@ same-length-8 c = search needs
 
 returns-5 : tie.Need-returns-5
 returns-5 c =
-    let o = c .before .before .before .before .before .before .before .before .before .before .before .before .before .before in
-    arm (o .args .table) (commandsOf (now (o .args .book))) (lent (now (o .args .sites)) (now (o .args .log)) (o .args .entries) (now (o .args .sent))) _ (c .before .before .before .before .before .step5 .given .1) (c .before .before .round-end .ensures (now (o .args .log)) (o .args .entries) (kept-log (o .args .table) (now (o .args .book)) (o .args .commands) (lent (now (o .args .sites)) (now (o .args .log)) (o .args .entries) (now (o .args .sent))) (o .pre .2) (o .pre .0 .world) (o .pre .0 .conflicts) (λ k. c .before .before .before .before .before .before .before .before .before .before .before .before .slice-known2 .given k .fits) (o .pre .3)) (now (o .args .sent)) (o .pre .0 .world))
+    let o = c .before .before .before .before .before .before .before .before .before .before .before .before .before .before .before .before in
+    arm (o .args .table) (commandsOf (now (o .args .book))) (lent (now (o .args .sites)) (now (o .args .log)) (o .args .entries) (now (o .args .sent))) _ (c .before .before .before .before .before .before .step5 .given .1) (numbered (o .args .table) (commandsOf (now (o .args .book))) (lent (now (o .args .sites)) (now (o .args .log)) (o .args .entries) (now (o .args .sent))) _ _ _ (o .args .entries) (c .answered3 .ensures) (c .before .before .before .round-end .ensures (now (o .args .log)) (o .args .entries) (kept-log (o .args .table) (now (o .args .book)) (o .args .commands) (lent (now (o .args .sites)) (now (o .args .log)) (o .args .entries) (now (o .args .sent))) (o .pre .3) (o .pre .0 .world) (o .pre .0 .conflicts) (λ k. c .before .before .before .before .before .before .before .before .before .before .before .before .before .before .slice-known2 .given k .fits) (o .pre .4)) (now (o .args .sent)) (o .pre .0 .world)))
 
 same-length-9 : tie.Need-same-length-9
 same-length-9 c = search needs
 
 returns-6 : tie.Need-returns-6
 returns-6 c =
-    let o = c .before .before .before .before .before .before .before .before .before .before .before .before .before in
-    c .before .before .arrive .ensures (is-arrival (o .args .step) (c .before .before .before .before .before .match .keys6)) (commandsOf (now (o .args .book))) (now (o .args .log)) (o .args .entries) (sym (o .pre .2)) (o .pre .0 .world)
+    let o = c .before .before .before .before .before .before .before .before .before .before .before .before .before .before .before in
+    numbered (o .args .table) (commandsOf (now (o .args .book))) (lent (now (o .args .sites)) (now (o .args .log)) (o .args .entries) (now (o .args .sent))) _ _ _ (o .args .entries) (c .answered4 .ensures) (c .before .before .before .arrive .ensures (is-arrival (o .args .step) (c .before .before .before .before .before .before .match .keys6)) (commandsOf (now (o .args .book))) (now (o .args .log)) (o .args .entries) (sym (o .pre .3)) (o .pre .0 .world))
 
 pub act-spec : {M : Type 1} → statement M
 act-spec =
@@ -134,19 +132,18 @@ act-spec =
     enum-known-step
     false-entry-requires
     enum-known-step-2
-    cast-turn
     turn-requires
     enum-known-step-3
-    cast-i
-    cast-m
     fast-delivery-requires
+    answered-requires
     enum-known-step-4
-    cast-log-read
     log-read-requires
+    answered-requires-2
     enum-known-step-5
-    cast-i-2
     round-end-requires
+    answered-requires-3
     arrive-requires
+    answered-requires-4
     same-length
     returns
     same-length-2

@@ -16,12 +16,12 @@ act-requires c κs = search needs
 
 follow-requires : tie.Need-follow-requires
 follow-requires c κs =
-    let o = c .before .before .before .before .before .before .before .before .before .before .before .before .before .before .before .before .before .before .before .before in
+    let o = c .before .before .before .before .before .before .before .before .before .before .before .before .before .before .before .before .before .before .before .before .before in
     let book = commandsOf (now (o .args .book)) in
     let b = lent (now (o .args .sites)) (now (o .args .log)) (o .args .entries) (now (o .args .sent)) in
-    let h = c .before .before .before .before .before .before .before .before .act .ensures in (
+    let h = c .before .before .before .before .before .before .before .before .act .ensures .outcome in (
       o .pre .0 .table,
-      kept-still (o .args .table) book b (o .pre .0 .room) h (now (o .args .rows)) (now (o .args .kept)) (o .pre .3),
+      kept-still (o .args .table) book b (o .pre .0 .room) h (now (o .args .rows)) (now (o .args .kept)) (o .pre .4),
       ap length (o .pre .0 .conflicts) ∙ rows-size (now (o .args .book)),
       one-more (o .args .table) book b (o .pre .0 .room) h,
       appended-good (o .args .table) book b (o .pre .0 .room) h,
