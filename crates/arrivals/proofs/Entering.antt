@@ -93,9 +93,9 @@ module _ (t : SiteTable) (commands : ℕ) (log : List ℕ) (entries j r : ℕ) (
               verdict = Taken;
               number = refl;
               outcome =
-            taken t book b g (falseEntry j r (inSet nc) (inSet c))
-            (told book sites sent q ∙ by-number ∙ ap (λ (y : Bool). pick (not y) Taken (Refused ThirdEntry)) h)
-            (subst (λ (l : List ℕ). HoldsWorld t book (lent sites l (entries + 1) sent) (append (dash t book) (viewEntry this) (worldOf t book b))) (sym ea)
-            (entry-holds t book b (kept t book b g small) this fits (ap (λ (m : ℕ). inRangeOf (t .sites) m this) (sym q) ∙ sym ex ∙ not-false x hx) room))
-            (ea ∙ ap (writeEntry log entries) (sym (entry-back this (fits .nc) (fits .c)))) refl;
+                  taken t book b g (falseEntry j r (inSet nc) (inSet c))
+                  (told book sites sent q ∙ by-number ∙ ap (λ (y : Bool). pick (not y) Taken (Refused ThirdEntry)) h)
+                  (subst (λ (l : List ℕ). HoldsWorld t book (lent sites l (entries + 1) sent) (append (dash t book) (viewEntry this) (worldOf t book b))) (sym ea)
+                  (entry-holds t book b (kept t book b g small) this fits (ap (λ (m : ℕ). inRangeOf (t .sites) m this) (sym q) ∙ sym ex ∙ not-false x hx) room))
+                  (ea ∙ ap (writeEntry log entries) (sym (entry-back this (fits .nc) (fits .c)))) refl;
             }

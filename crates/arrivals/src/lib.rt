@@ -50,18 +50,15 @@ fn hear(sites: &mut [u8], i: usize, j: usize, r: usize, set: Set)
 
 // The verdict on a message to a site, by whether its other operands are in range and whether its sender is a site of the role that it is to have.
 // What refuses it is told apart only once it is known that something does.
-fn judge_message(
-    roles: &[u8],
-    site: u8,
-    from: u8,
-    round: u8,
-    other: bool,
-    role: bool,
-) -> Verdict
+fn judge_message(roles: &[u8], site: u8, from: u8, round: u8, other: bool, role: bool) -> Verdict
     requires { ⌜ length (now roles) ≡ roleBytes ⌝ }
     ensures { λ v. ⌜ ((t : SiteTable) → Roles t (now (roles .entry)) → (role ≡ true → from < t .sites) → v ≡ messageVerdict t site from round other role) ⌝ }
 {
-    let taken = roles::is_correct(roles, site) & role & (1 <= round) & (round <= LAST_ROUND) & other;
+    let taken = roles::is_correct(roles, site)
+        & role
+        & (1 <= round)
+        & (round <= LAST_ROUND)
+        & other;
     if taken {
         return Verdict::Taken;
     }

@@ -6,7 +6,7 @@ use Prim.Native.Nat.{ℕ, suc, _+_, _-_, _≤_, _<_}
 use native.Mathlib.Numerals.{add-one}
 use native.Mathlib.Omega.{arith}
 use lib.ListN.{length, drop}
-use Rattle.refusals.specs.Refusals.{numberOf}
+use Rattle.refusals.specs.Refusals.{numberOf, codeOf}
 use Rattle.refusals.specs.declared.Refusal.{Refusal}
 use Rattle.refusals.specs.declared.Refusal.the-variants.{Book, Table, Form, Range, Role, Disabled, ThirdEntry, LastRound, Size}
 use Rattle.refusals.specs.declared.Verdict.{Verdict}
@@ -27,7 +27,7 @@ use Rattle.steps.proofs.Walk.{more-at, bad-at, end-at, inside}
 use Rattle.lines.specs.Lines.{stepLine}
 use Rattle.lines.proofs.Laws.{step-short}
 use Rattle.runs.specs.Run.{report, stepLines, worldAfter}
-use Rattle.world.specs.World.{Buffers, worldOf, HoldsWorld, Outcome}
+use Rattle.world.specs.World.{Buffers, worldOf, HoldsWorld, Outcome, Answered}
 use Rattle.play.specs.Played.{linesRoom, extentOf, CarriedOut, PlayedAll}
 
 -- ---- the line of a step
@@ -43,15 +43,31 @@ number-small ThirdEntry = omega arith
 number-small LastRound = omega arith
 number-small Size = omega arith
 
--- No line for a step that is taken.
-pub silent : (s : List ℕ) (at number : ℕ) {v : Verdict} → v ≡ Taken → Wrote s at s at (report number v)
-silent s at number e =
-    subst (λ (v : Verdict). Wrote s at s at (report number v)) (sym e) (record { end = omega arith; bytes = sym (splice-none s at) })
+-- The number of a verdict has one digit.
+pub code-small : (v : Verdict) → codeOf v < 10
+code-small Taken = omega arith
+code-small (Refused r) = number-small r
 
-pub loud : (number : ℕ) {s after : List ℕ} {at past n : ℕ} {v : Verdict} {r : Refusal} → v ≡ Refused r → n ≡ numberOf r → Wrote after past s at (stepLine number n)
+number-some : (r : Refusal) → 1 ≤ numberOf r
+number-some Book = omega arith
+number-some Table = omega arith
+number-some Form = omega arith
+number-some Range = omega arith
+number-some Role = omega arith
+number-some Disabled = omega arith
+number-some ThirdEntry = omega arith
+number-some LastRound = omega arith
+number-some Size = omega arith
+
+-- No line for a step that is taken.
+pub silent : (s : List ℕ) (at number : ℕ) {code : ℕ} → code ≡ 0 → (v : Verdict) → code ≡ codeOf v → Wrote s at s at (report number v)
+silent s at number e Taken q = record { end = omega arith; bytes = sym (splice-none s at) }
+silent s at number e (Refused r) q = let l = number-some r in absurd (omega arith)
+
+pub loud : (number : ℕ) {s after : List ℕ} {at past code : ℕ} → (code ≡ 0 → ⊥) → Wrote after past s at (stepLine number code) → (v : Verdict) → code ≡ codeOf v
     → Wrote after past s at (report number v)
-loud number {s} {after} {at} {past} {n} {v} {r} e q w =
-    subst (λ (x : Verdict). Wrote after past s at (report number x)) (sym e) (subst (λ (k : ℕ). Wrote after past s at (stepLine number k)) q w)
+loud number n w Taken q = absurd (n q)
+loud number {s} {after} {at} {past} n w (Refused r) q = subst (λ (k : ℕ). Wrote after past s at (stepLine number k)) q w
 
 -- ---- the bytes of a reading
 
@@ -66,11 +82,12 @@ within steps at (Whole u) h e q = let i = inside steps at (omega arith) e q in r
 within steps at Unreadable h e q = record { some-byte = omega arith; inside = omega arith; two = λ l. absurd (omega arith) }
 
 module _ (t : SiteTable) (book : List Command) {r : Reading} where
-  pub carried-none : (b : Buffers) → r ≡ Unreadable → CarriedOut t book r b (Refused Form) b
-  carried-none b e = subst (λ (x : Reading). CarriedOut t book x b (Refused Form) b) (sym e) (record { did = (refl, refl) })
+  pub carried-none : (b : Buffers) → r ≡ Unreadable → {n : ℕ} → n ≡ numberOf Form → CarriedOut t book r b n b
+  carried-none b e {n} q = subst (λ (x : Reading). CarriedOut t book x b n b) (sym e) (record { verdict = Refused Form; number = q; did = (refl, refl) })
 
-  pub carried-step : {u : Step} {b after : Buffers} {v : Verdict} → r ≡ Whole u → Outcome t book (meaning u) b v after → CarriedOut t book r b v after
-  carried-step {u} {b} {after} {v} e o = subst (λ (x : Reading). CarriedOut t book x b v after) (sym e) (record { did = o })
+  pub carried-step : {u : Step} {b after : Buffers} {n : ℕ} → r ≡ Whole u → Answered t book (meaning u) b n after → CarriedOut t book r b n after
+  carried-step {u} {b} {after} {n} e o =
+      subst (λ (x : Reading). CarriedOut t book x b n after) (sym e) (record { verdict = o .verdict; number = o .number; did = o .outcome })
 
 -- ---- what is left
 
@@ -162,10 +179,11 @@ module _ (t : SiteTable) (book : List Command) where
         none = end-at steps (at + z) (omega arith)
 
     -- One reading more.
-    pub playing-next : (r : Reading) {z : ℕ} {v : Verdict} {b′ : Buffers} {out′ : List ℕ} {end′ : ℕ} → end ≤ length out → at < length steps → readStep (drop at steps) ≡ r
-        → z ≡ extentOf r (length steps - at) → CarriedOut t book r b v b′ → Wrote out′ end′ out end (report number v) → Playing steps before from b′ out′ end′ (at + z) (number + 1)
-    playing-next (Whole u) h g e q o w = playing-more h e q (o .did) w
-    playing-next Unreadable h g e q o w = playing-last h g e q (o .did) w
+    pub playing-next : (r : Reading) {z n : ℕ} {b′ : Buffers} {out′ : List ℕ} {end′ : ℕ} → end ≤ length out → at < length steps → readStep (drop at steps) ≡ r
+        → z ≡ extentOf r (length steps - at) → CarriedOut t book r b n b′ → ((v : Verdict) → n ≡ codeOf v → Wrote out′ end′ out end (report number v))
+        → Playing steps before from b′ out′ end′ (at + z) (number + 1)
+    playing-next (Whole u) h g e q o w = playing-more h e q (o .did) (w (o .verdict) (o .number))
+    playing-next Unreadable h g e q o w = playing-last h g e q (o .did) (w (o .verdict) (o .number))
 
     -- No bytes are left.
     pub playing-end : length steps ≤ at → end ≤ from + linesRoom → PlayedAll t book steps before out from end b

@@ -5,6 +5,7 @@ use mathlib.Core.Bool.{true}
 use mathlib.Core.List.{List}
 use Prim.Native.Nat.{ℕ, _+_, _*_, _/_, _≤_, _<_}
 use lib.ListN.{length}
+use Rattle.refusals.specs.Refusals.{codeOf}
 use Rattle.refusals.specs.declared.Refusal.the-variants.{Form}
 use Rattle.refusals.specs.declared.Verdict.{Verdict}
 use Rattle.refusals.specs.declared.Verdict.the-variants.{Refused}
@@ -43,8 +44,11 @@ abbrev pub carried : SiteTable → List Command → Reading → Buffers → Verd
 carried t book (Whole u) b v after = Outcome t book (meaning u) b v after
 carried t book Unreadable b v after = (v ≡ Refused Form) × (after ≡ b)
 
-pub record CarriedOut (t : SiteTable) (book : List Command) (r : Reading) (b : Buffers) (v : Verdict) (after : Buffers) : Type 0 where
-  pub did : carried t book r b v after
+-- The same, where the answer is a number: 0, or that of the refusal.
+pub record CarriedOut (t : SiteTable) (book : List Command) (r : Reading) (b : Buffers) (code : ℕ) (after : Buffers) : Type 0 where
+  pub verdict : Verdict
+  pub number : code ≡ codeOf verdict
+  pub did : carried t book r b verdict after
 
 -- The log entries that there is room for: one more than two a site and round.
 abbrev pub logRoom : ℕ

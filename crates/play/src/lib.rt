@@ -3,6 +3,8 @@ ghost use mathlib.Core.Path.{_≡_};
 ghost use Prim.Native.Nat.{_+_, _≤_, _<_};
 ghost use lib.ListN.{length};
 ghost use Rattle.commands.specs.Book.{commandsOf};
+ghost use Rattle.refusals.specs.declared.Verdict.{Verdict};
+ghost use Rattle.refusals.specs.Refusals.{codeOf};
 ghost use Rattle.print.specs.Print.{Wrote};
 ghost use Rattle.runs.specs.Run as runs;
 ghost use Rattle.world.specs.Parts.{lent};
@@ -60,9 +62,9 @@ fn carry_out(
     reading: Reading,
 ) -> Stepped
     requires { ⌜ ((u : protocol.Step) → Ready table (now book) (now rows) (lent (now sites) (now log) entries (now sent)) u) × Noted (now book) (now places)
-        × (length (commandsOf (now book)) ≡ commands) × Kept table (now rows) (now log) entries (now kept) ⌝ }
+        × Roles table (now roles) × (length (commandsOf (now book)) ≡ commands) × Kept table (now rows) (now log) entries (now kept) ⌝ }
     ensures { λ r. ⌜ CarriedOut table (commandsOf (now (book .entry))) reading (lent (now (sites .entry)) (now (log .entry)) entries (now (sent .entry)))
-        (r .verdict) (lent (now (sites .exit)) (now (log .exit)) (r .entries) (now (sent .exit)))
+        (r .code) (lent (now (sites .exit)) (now (log .exit)) (r .entries) (now (sent .exit)))
         × Kept table (now (rows .entry)) (now (log .exit)) (r .entries) (now (kept .exit)) ⌝ }
 {
     let Reading::Whole(step) = reading else {
@@ -104,7 +106,7 @@ fn play_on(
     from: usize,
 ) -> Played
     requires { ⌜ Playable table (now book) (now places) (now rows) commands (now steps) (now out) from (lent (now sites) (now log) 0 (now sent))
-        × Kept table (now rows) (now log) 0 (now kept) ⌝ }
+        × Roles table (now roles) × Kept table (now rows) (now log) 0 (now kept) ⌝ }
     ensures { λ r. ⌜ PlayedAll table (commandsOf (now (book .entry))) (now (steps .entry)) (now (out .entry)) (now (out .exit)) from (r .end)
         (lent (now (sites .exit)) (now (log .exit)) (r .entries) (now (sent .exit))) ⌝ }
 {

@@ -8,7 +8,7 @@ use native.Mathlib.Omega.{arith}
 use native.Mathlib.Decide.{ℕ-discrete}
 use mathlib.Core.Logic.{⊎-elim}
 use lib.Dec.{eqb, ltb}
-use lib.ListN.{length, getD, set}
+use lib.ListN.{length, getD, set, replicate, length-replicate, getD-replicate}
 use lib.Seq.{getD-set-same, getD-set-other}
 use borrow.Author.Tests.{ltb-true, lt-ltb, le-ltb}
 use Rattle.refusals.specs.declared.Refusal.{Refusal}
@@ -77,14 +77,14 @@ pub one-noted : (t : SiteTable) (k : ℕ) (roles : List ℕ) → k < roleBytes �
 one-noted t k roles l h i g =
     elim (ℕ-discrete i k) [
       | yes e ↦
-        ap (λ (j : ℕ). getD (set roles k (roleOf t k)) j 0) e ∙ getD-set-same roles k (roleOf t k) 0 (omega (arith, h .0))
-        ∙ ap (roleOf t) (sym e) ∙ sym (ap (λ (b : Bool). pick b (roleOf t i) 2) (lt-ltb i (k + 1) (omega arith)))
+          ap (λ (j : ℕ). getD (set roles k (roleOf t k)) j 0) e ∙ getD-set-same roles k (roleOf t k) 0 (omega (arith, h .0))
+          ∙ ap (roleOf t) (sym e) ∙ sym (ap (λ (b : Bool). pick b (roleOf t i) 2) (lt-ltb i (k + 1) (omega arith)))
       | no n ↦
-        getD-set-other roles k i (roleOf t k) 0 n ∙ h .1 i g
-        ∙ ⊎-elim
-        (λ a. ap (λ (b : Bool). pick b (roleOf t i) 2) (lt-ltb i k a ∙ sym (lt-ltb i (k + 1) (omega arith))))
-        (λ a. ap (λ (b : Bool). pick b (roleOf t i) 2) (le-ltb i k a ∙ sym (le-ltb i (k + 1) (omega arith))))
-        (lt-or-le i k)
+          getD-set-other roles k i (roleOf t k) 0 n ∙ h .1 i g
+          ∙ ⊎-elim
+          (λ a. ap (λ (b : Bool). pick b (roleOf t i) 2) (lt-ltb i k a ∙ sym (lt-ltb i (k + 1) (omega arith))))
+          (λ a. ap (λ (b : Bool). pick b (roleOf t i) 2) (le-ltb i k a ∙ sym (le-ltb i (k + 1) (omega arith))))
+          (lt-or-le i k)
     ]
 
 -- All sites of the table are noted, and no byte from there on is one.
@@ -146,3 +146,7 @@ sent-by-faulty t j e h = ltb-true j (t .sites) (left (ltb j (t .sites)) (faultyO
 -- A step that is not turned down for its site.
 pub correct-site : (t : SiteTable) (i : ℕ) {q : Bool} → q ≡ isCorrectSite t i → not q ≡ false → Correct t i
 correct-site t i {q} e h = correct t i (sym e ∙ not-false q h)
+
+-- All roles none: nothing is noted yet.
+pub blank : Blank (replicate {A = ℕ} roleBytes 2)
+blank = (length-replicate {0} {A = ℕ} roleBytes 2, λ i l. getD-replicate {0} {A = ℕ} roleBytes i 2 0 l)

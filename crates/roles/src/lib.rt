@@ -24,7 +24,11 @@ fn role(table: SiteTable, site: usize) -> u8
     requires { ⌜ site < table .sites ⌝ }
     ensures { λ r. ⌜ r ≡ roleOf table site ⌝ }
 {
-    if table.is_faulty(site) { FAULTY } else { CORRECT }
+    if table.is_faulty(site) {
+        FAULTY
+    } else {
+        CORRECT
+    }
 }
 
 // The roles of the table's sites are noted, where every byte is none yet.
@@ -69,5 +73,9 @@ pub fn refusal(roles: &[u8], site: u8, other: bool) -> Refusal
     requires { ⌜ length (now roles) ≡ roleBytes ⌝ }
     ensures { λ r. ⌜ ((t : SiteTable) → Roles t (now (roles .entry)) → r ≡ refusalOf t site other) ⌝ }
 {
-    if is_site(roles, site) & other { Refusal::Role } else { Refusal::Range }
+    if is_site(roles, site) & other {
+        Refusal::Role
+    } else {
+        Refusal::Range
+    }
 }

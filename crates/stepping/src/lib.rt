@@ -37,14 +37,29 @@ fn arrive(
     ensures { λ v. ⌜ (arrives step ≡ true → Arrived table commands (meaning step) (now (sent .entry)) (now (sites .entry)) v (now (sites .exit))) ⌝ }
 {
     match step {
-        Step::Command { site, command } => arrivals::command(sites, table, roles, commands, site, command),
+        Step::Command { site, command } => arrivals::command(
+            sites,
+            table,
+            roles,
+            commands,
+            site,
+            command,
+        ),
         Step::Acknowledgment {
             site,
             from,
             round,
             number,
         } => arrivals::acknowledgment(sites, sent, table, roles, site, from, round, number),
-        Step::Check { site, from, round } => arrivals::check(sites, sent, table, roles, site, from, round),
+        Step::Check { site, from, round } => arrivals::check(
+            sites,
+            sent,
+            table,
+            roles,
+            site,
+            from,
+            round,
+        ),
         Step::FalseAcknowledgment {
             site,
             from,
@@ -94,7 +109,8 @@ fn act(
             log,
             entries,
             kept,
-            table, roles,
+            table,
+            roles,
             commands,
             from,
             round,
@@ -113,7 +129,16 @@ fn act(
             site,
         ),
         Step::FastDelivery { site, command } => {
-            let verdict = closings::fast_delivery(sites, table, roles, book, places, commands, site, command);
+            let verdict = closings::fast_delivery(
+                sites,
+                table,
+                roles,
+                book,
+                places,
+                commands,
+                site,
+                command,
+            );
             answered(verdict, entries)
         }
         Step::LogRead { site } => {
@@ -121,7 +146,16 @@ fn act(
             answered(verdict, entries)
         }
         Step::RoundEnd { site } => {
-            let verdict = closings::round_end(sites, kept, table, roles, book, places, commands, site);
+            let verdict = closings::round_end(
+                sites,
+                kept,
+                table,
+                roles,
+                book,
+                places,
+                commands,
+                site,
+            );
             answered(verdict, entries)
         }
         _ => {

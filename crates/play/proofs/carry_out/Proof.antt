@@ -13,10 +13,13 @@ enum-told : tie.Need-enum-told
 enum-told c = search needs
 
 returns : tie.Need-returns
-returns c = let a = c .before .before .before .before .before .before .before .before .before .args in (carried-none (a .table) (commandsOf (now (a .book))) _ (c .enum-told .given .1), c .before .before .before .before .before .before .before .before .before .pre .3)
+returns c = let a = c .before .before .before .before .before .before .before .before .before .before .before .args in (carried-none (a .table) (commandsOf (now (a .book))) _ (c .before .enum-told .given .1) (c .number .ensures), c .before .before .before .before .before .before .before .before .before .before .before .pre .4)
+
+number-requires : tie.Need-number-requires
+number-requires c κs = search needs
 
 step-requires : tie.Need-step-requires
-step-requires c κs = let a = c .before .before .before .before .before .before .before .before .before .before .before .before .before .before in (a .pre .0 (meaning (c .before .before .before .before .before .reading .given .0 .0)), a .pre .1, a .pre .2, a .pre .3)
+step-requires c κs = let a = c .before .before .before .before .before .before .before .before .before .before .before .before .before .before .before in (a .pre .0 (meaning (c .before .before .before .before .before .reading .given .0 .0)), a .pre .1, a .pre .2, a .pre .3, a .pre .4)
 
 same-length : tie.Need-same-length
 same-length c = search needs
@@ -31,7 +34,7 @@ same-length-4 : tie.Need-same-length-4
 same-length-4 c = search needs
 
 returns-2 : tie.Need-returns-2
-returns-2 c = let a = c .before .before .before .before .before .before .before .before .before .before .before .before .before .before .before .before .before .before .before .before .before .before .before .args in (carried-step (a .table) (commandsOf (now (a .book))) (c .before .before .before .before .before .before .before .before .before .before .before .before .before .before .reading .given .1) (c .before .before .before .before .before .before .before .before .step .ensures .0), c .before .before .before .before .before .before .before .before .step .ensures .1)
+returns-2 c = let a = c .before .before .before .before .before .before .before .before .before .before .before .before .before .before .before .before .before .before .before .before .before .before .before .before .args in (carried-step (a .table) (commandsOf (now (a .book))) (c .before .before .before .before .before .before .before .before .before .before .before .before .before .before .reading .given .1) (c .before .before .before .before .before .before .before .before .step .ensures .0), c .before .before .before .before .before .before .before .before .step .ensures .1)
 
 pub carry-out-spec : {M : Type 1} → statement M
 carry-out-spec =
@@ -39,6 +42,7 @@ carry-out-spec =
     (tie.spec
     enum-known-reading
     enum-told
+    number-requires
     returns
     step-requires
     same-length

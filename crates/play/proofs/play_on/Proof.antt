@@ -16,7 +16,7 @@ use Rattle.play.proofs.play_on.Statement.{statement}
 use Rattle.play.proofs.play_on.Tie as tie
 
 abbrev Inv-loop : tie.InvT-loop
-Inv-loop sites₀ log₀ sent₀ kept₀ table book places rows commands steps out₀ from n entries₀ end₀ at₀ number₀ sites log sent kept out entries end at number =
+Inv-loop sites₀ log₀ sent₀ kept₀ table roles book places rows commands steps out₀ from n entries₀ end₀ at₀ number₀ sites log sent kept out entries end at number =
     (at ≤ length steps)
     × (at < length steps → 2 * number ≤ at + 2)
     × (2 * number ≤ at + 3)
@@ -29,12 +29,12 @@ Inv-loop sites₀ log₀ sent₀ kept₀ table book places rows commands steps o
     × Kept table rows log entries kept
 
 abbrev μ-loop : tie.MeasureT-loop
-μ-loop sites₀ log₀ sent₀ kept₀ table book places rows commands steps out₀ from n entries₀ end₀ at₀ number₀ sites log sent kept out entries end at number =
+μ-loop sites₀ log₀ sent₀ kept₀ table roles book places rows commands steps out₀ from n entries₀ end₀ at₀ number₀ sites log sent kept out entries end at number =
     length steps - at
 
 loop-holds : tie.Need-loop-holds Inv-loop μ-loop
 loop-holds c =
-    let a = c .before .before .before .before .before .before .before .before .before in (
+    let a = c .before .before .before .before .before .before .before .before .before .before in (
       omega arith,
       (λ l. omega arith),
       omega arith,
@@ -44,7 +44,7 @@ loop-holds c =
       refl,
       refl,
       playing-none (a .args .table) (commandsOf (now (a .args .book))) (now (a .args .steps)) (now (a .args .out)) (a .args .from) (a .pre .0 .world),
-      a .pre .1,
+      a .pre .2,
     )
 
 sub-read-step : tie.Need-sub-read-step Inv-loop μ-loop
@@ -67,7 +67,7 @@ extent-requires c κs = search needs
 
 carry-out-requires : tie.Need-carry-out-requires Inv-loop μ-loop
 carry-out-requires c κs =
-    let a = c .before .before .before .before .before .before .before .before .before .before .before .before .before .before .before .before .before .before in
+    let a = c .before .before .before .before .before .before .before .before .before .before .before .before .before .before .before .before .before .before .before in
     let l = c .before .before .before .before .before .before .before .before .loop in
     let p = l .inv .8 in
     let t = a .args .table in
@@ -84,20 +84,22 @@ carry-out-requires c κs =
         acks = acks-few t s g (p .past) (p .world) u;
       }),
       a .pre .0 .noted,
+      a .pre .1,
       a .pre .0 .counted,
       l .inv .9,
     )
 
 report-requires : tie.Need-report-requires Inv-loop μ-loop
 report-requires c κs =
-    let a = c .before .before .before .before .before .before .before .before .before .before .before .before .before .before .before .before .before .before .before .before .before .before .before .before .before .before .before .before in
+    let a = c .before .before .before .before .before .before .before .before .before .before .before .before .before .before .before .before .before .before .before .before .before .before .before .before .before .before .before .before .before in
     let l = c .before .before .before .before .before .before .before .before .before .before .before .before .before .before .before .before .before .before .loop in
+    let k = c .before .before .before .before .before .before .before .before .before .carry-out .ensures .0 in
     let m = l .inv .1 (omega (arith, c .before .before .before .before .before .before .before .before .before .before .before .before .before .before .before .before .before .loop-test .taken)) in
-    (omega (arith, a .pre .0 .room, a .pre .0 .short, l .inv .0, l .inv .3, l .inv .7), omega (arith, a .pre .0 .short, l .inv .0))
+    (omega (arith, a .pre .0 .room, a .pre .0 .short, l .inv .0, l .inv .3, l .inv .7), omega (arith, a .pre .0 .short, l .inv .0), (k .verdict, k .number))
 
 add-at : tie.Need-add-at Inv-loop μ-loop
 add-at c =
-    let a = c .before .before .before .before .before .before .before .before .before .before .before .before .before .before .before .before .before .before .before .before .before .before .before .before .before .before .before .before .before .before .before in
+    let a = c .before .before .before .before .before .before .before .before .before .before .before .before .before .before .before .before .before .before .before .before .before .before .before .before .before .before .before .before .before .before .before .before in
     let l = c .before .before .before .before .before .before .before .before .before .before .before .before .before .before .before .before .before .before .before .before .before .loop in
     let s = now (a .args .steps) in
     let r = c .before .before .before .before .before .before .before .before .before .before .before .before .before .before .before .before .before .before .read-step .result in
@@ -108,13 +110,13 @@ add-at c =
 
 add-number : tie.Need-add-number Inv-loop μ-loop
 add-number c =
-    let a = c .before .before .before .before .before .before .before .before .before .before .before .before .before .before .before .before .before .before .before .before .before .before .before .before .before .before .before .before .before .before .before in
+    let a = c .before .before .before .before .before .before .before .before .before .before .before .before .before .before .before .before .before .before .before .before .before .before .before .before .before .before .before .before .before .before .before .before in
     let l = c .before .before .before .before .before .before .before .before .before .before .before .before .before .before .before .before .before .before .before .before .before .loop in
     record { fits = omega (arith, a .pre .0 .short, l .inv .2) }
 
 loop-less : tie.Need-loop-less Inv-loop μ-loop
 loop-less c =
-    let a = c .before .before .before .before .before .before .before .before .before .before .before .before .before .before .before .before .before .before .before .before .before .before .before .before .before .before .before .before .before .before .before in
+    let a = c .before .before .before .before .before .before .before .before .before .before .before .before .before .before .before .before .before .before .before .before .before .before .before .before .before .before .before .before .before .before .before .before in
     let l = c .before .before .before .before .before .before .before .before .before .before .before .before .before .before .before .before .before .before .before .before .before .loop in
     let s = now (a .args .steps) in
     let r = c .before .before .before .before .before .before .before .before .before .before .before .before .before .before .before .before .before .before .read-step .result in
@@ -125,7 +127,7 @@ loop-less c =
 
 loop-again : tie.Need-loop-again Inv-loop μ-loop
 loop-again c =
-    let a = c .before .before .before .before .before .before .before .before .before .before .before .before .before .before .before .before .before .before .before .before .before .before .before .before .before .before .before .before .before .before .before in
+    let a = c .before .before .before .before .before .before .before .before .before .before .before .before .before .before .before .before .before .before .before .before .before .before .before .before .before .before .before .before .before .before .before .before in
     let l = c .before .before .before .before .before .before .before .before .before .before .before .before .before .before .before .before .before .before .before .before .before .loop in
     let s = now (a .args .steps) in
     let r = c .before .before .before .before .before .before .before .before .before .before .before .before .before .before .before .before .before .before .read-step .result in
@@ -158,14 +160,14 @@ same-length-3 : tie.Need-same-length-3 Inv-loop μ-loop
 same-length-3 c = search needs
 
 same-length-4 : tie.Need-same-length-4 Inv-loop μ-loop
-same-length-4 c = c .before .loop .inv .9 .size ∙ sym (c .before .before .before .before .before .before .before .before .before .before .before .pre .1 .size)
+same-length-4 c = c .before .loop .inv .9 .size ∙ sym (c .before .before .before .before .before .before .before .before .before .before .before .before .pre .2 .size)
 
 same-length-5 : tie.Need-same-length-5 Inv-loop μ-loop
 same-length-5 c = search needs
 
 returns : tie.Need-returns Inv-loop μ-loop
 returns c =
-    let a = c .before .before .before .before .before .before .before .before .before .before .before in
+    let a = c .before .before .before .before .before .before .before .before .before .before .before .before in
     let l = c .before .loop in
     playing-end (a .args .table) (commandsOf (now (a .args .book))) (now (a .args .steps)) (now (a .args .out)) (a .args .from) (l .inv .8)
     (omega arith) (omega (arith, a .pre .0 .short, l .inv .2, l .inv .3))

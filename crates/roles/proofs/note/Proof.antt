@@ -37,13 +37,14 @@ loop-less c = omega arith
 loop-again : tie.Need-loop-again Inv-loop μ-loop
 loop-again c =
     let l = c .before .before .loop in
-    let t = c .before .before .before .before .args .table in
-    (
+    let t = c .before .before .before .before .args .table in (
       omega arith,
       l .inv .1,
       l .inv .2,
-      (simp length-set (l .inv .3 .0),
-      λ i g. ap (λ (x : ℕ). getD (set (l .roles) (l .site) x) i 0) (search needs) ∙ one-noted t (l .site) (l .roles) (omega (arith, l .inv .2)) (l .inv .3) i g),
+      (
+        simp length-set (l .inv .3 .0),
+        λ i g. ap (λ (x : ℕ). getD (set (l .roles) (l .site) x) i 0) (search needs) ∙ one-noted t (l .site) (l .roles) (omega (arith, l .inv .2)) (l .inv .3) i g,
+      ),
     )
 
 same-length : tie.Need-same-length Inv-loop μ-loop
