@@ -5,9 +5,7 @@ ghost use mathlib.Core.List.{_∷_, []};
 ghost use lib.ListN.{length, take};
 ghost use lib.Seq.{sets};
 ghost use Rattle.wire.specs.Wire.{splice};
-ghost use Rattle.commands.specs.Book.{sizeOf, readCommand, shortSize, walkSize, measureBook, judgeBook, commandsOf, commandOf, placesOf, walkedPlaces, headOf, encodeCommand, encodeBook};
-use refusals::Refusal;
-use refusals::Verdict;
+ghost use Rattle.commands.specs.Book.{sizeOf, readCommand, shortSize, walkSize, measureBook, commandsOf, commandOf, placesOf, walkedPlaces, headOf, encodeCommand, encodeBook};
 use register::Bike;
 use register::Command;
 
@@ -188,17 +186,6 @@ pub fn measure(book: &[u8]) -> Measured
 {
     let mut places = [0u16; 64];
     note(book, &mut places)
-}
-
-// Whether a book is taken; refusal 1 where it is not.
-pub fn judge(book: &[u8]) -> Verdict
-    ensures { λ r. ⌜ r ≡ judgeBook (now (book .entry)) ⌝ }
-{
-    let measured = measure(book);
-    match measured {
-        Measured::Commands(_) => Verdict::Taken,
-        Measured::Unreadable => Verdict::Refused(Refusal::Book),
-    }
 }
 
 // The number of commands; 0 where the book is refused.
