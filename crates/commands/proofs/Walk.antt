@@ -108,6 +108,14 @@ pub not-counted : (s : List ℕ) → measureBook s ≡ Unreadable → (Refused B
 unfolding measureBook judgeBook commandsOf
 not-counted s h = uncounted (readUpTo maxCommands s) h
 
+some-counted : (o : Option (List Command)) → verdictOf o ≡ Taken → countFrom 0 o ≡ Commands (length (orNone o))
+some-counted none h = absurd (let z : _≡_ {A = ℕ} 0 1 = cc in omega arith)
+some-counted (some cs) h = let q : 0 + length cs ≡ length cs = omega arith in ap Commands q
+
+pub taken-counted : (s : List ℕ) → judgeBook s ≡ Taken → measureBook s ≡ Commands (length (commandsOf s))
+unfolding measureBook judgeBook commandsOf
+taken-counted s h = some-counted (readUpTo maxCommands s) h
+
 -- The commands that are left from a position on, k of them passed.
 unfoldable pub rest : List ℕ → ℕ → ℕ → List Command
 rest s k at = orNone (readUpTo (maxCommands - k) (drop at s))

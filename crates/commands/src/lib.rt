@@ -1,18 +1,19 @@
 // Bytes to commands and back: the book of document 01, judged, read, found again by place, and written.
 ghost use mathlib.Core.Path.{_≡_};
-ghost use Prim.Native.Nat.{_+_, _≤_, _<_};
+ghost use Prim.Native.Nat.{_+_, _-_, _≤_, _<_};
 ghost use mathlib.Core.List.{_∷_, []};
 ghost use lib.ListN.{length, take};
 ghost use lib.Seq.{sets};
 ghost use Rattle.wire.specs.Wire.{splice};
-ghost use Rattle.commands.specs.Book.{sizeOf, readCommand, measureBook, judgeBook, commandsOf, commandOf, placesOf, headOf, encodeCommand, encodeBook};
-use refusals::Refusal;
-use refusals::Verdict;
+ghost use Rattle.commands.specs.Book.{sizeOf, readCommand, shortSize, walkSize, measureBook, commandsOf, commandOf, placesOf, walkedPlaces, headOf, encodeCommand, encodeBook};
 use register::Bike;
 use register::Command;
 
 // A book has at most 64 commands.
 pub const MAX_COMMANDS: usize = 64;
+
+// The bytes of the longest command, a FIT.
+const LONGEST: usize = 10;
 
 // What stands at the front of some bytes.
 pub enum Reading {
@@ -87,36 +88,104 @@ pub fn read_command(bytes: &[u8]) -> Reading
     }
 }
 
-// How many commands a book has; Unreadable where it is refused.
-pub fn measure(book: &[u8]) -> Measured
-    ensures { λ r. ⌜ r ≡ measureBook (now (book .entry)) ⌝ }
+// The bytes of a command of a kind, a FIT left out; 0 where there is no such kind.
+fn short_size(kind: u8) -> usize
+    ensures { λ r. ⌜ r ≡ shortSize kind ⌝ }
+{
+    if (kind == 1) | (kind == 4) {
+        return 4;
+    }
+    if kind == 3 {
+        return 2;
+    }
+    0
+}
+
+// The bytes of the command at the front of bytes enough for any, whatever its bike; 0 where there is none.
+// The start is read for every kind: a test of both at once keeps the kinds from becoming a table of jumps.
+fn long_size(bytes: &[u8]) -> usize
+    requires { ⌜ 10 ≤ length (now bytes) ⌝ }
+    ensures { λ r. ⌜ r ≡ walkSize (now (bytes .entry)) ⌝ }
+{
+    let kind = bytes[0];
+    let start = wire::get4(bytes, 6);
+    if (kind == 2) & (start <= Bike::MAX_READING) {
+        return LONGEST;
+    }
+    short_size(kind)
+}
+
+// The same of bytes too few for a FIT.
+fn last_size(bytes: &[u8]) -> usize
+    requires { ⌜ (0 < length (now bytes)) × (length (now bytes) < 10) ⌝ }
+    ensures { λ r. ⌜ r ≡ walkSize (now (bytes .entry)) ⌝ }
+{
+    let size = short_size(bytes[0]);
+    if size > bytes.len() {
+        return 0;
+    }
+    size
+}
+
+// How many positions of n bytes have the longest command's bytes before the end.
+fn long_positions(n: usize) -> usize
+    ensures { λ r. ⌜ r ≡ n - 9 ⌝ }
+{
+    if n < LONGEST {
+        return 0;
+    }
+    n - 9
+}
+
+// How many commands a book has, Unreadable where it is refused; the places that the walk comes to are noted.
+// Only near the end can a command be cut. Bikes are judged at once: all are below 32 where all their bits together are.
+pub fn note(book: &[u8], places: &mut [u16]) -> Measured
+    requires { ⌜ 64 ≤ length (now places) ⌝ }
+    ensures { λ r. ⌜ (r ≡ measureBook (now (book .entry))) × (now (places .exit) ≡ sets (now (places .entry)) 0 (walkedPlaces (now (book .entry)))) ⌝ }
 {
     let n = book.len();
+    let long = long_positions(n);
     let mut at: usize = 0;
     let mut k: usize = 0;
+    let mut bikes: u8 = 0;
+    while at < long {
+        if k == MAX_COMMANDS {
+            return Measured::Unreadable;
+        }
+        places[k] = at as u16;
+        let size = long_size(&book[at..]);
+        if size == 0 {
+            return Measured::Unreadable;
+        }
+        bikes = bikes | book[at + 1];
+        at += size;
+        k += 1;
+    }
     while at < n {
         if k == MAX_COMMANDS {
             return Measured::Unreadable;
         }
-        let reading = read_command(&book[at..]);
-        let Reading::Whole(command) = reading else {
+        places[k] = at as u16;
+        let size = last_size(&book[at..]);
+        if size == 0 {
             return Measured::Unreadable;
-        };
-        at += size(command);
+        }
+        bikes = bikes | book[at + 1];
+        at += size;
         k += 1;
+    }
+    if bikes >= Bike::COUNT as u8 {
+        return Measured::Unreadable;
     }
     Measured::Commands(k)
 }
 
-// Whether a book is taken; refusal 1 where it is not.
-pub fn judge(book: &[u8]) -> Verdict
-    ensures { λ r. ⌜ r ≡ judgeBook (now (book .entry)) ⌝ }
+// How many commands a book has; Unreadable where it is refused.
+pub fn measure(book: &[u8]) -> Measured
+    ensures { λ r. ⌜ r ≡ measureBook (now (book .entry)) ⌝ }
 {
-    let measured = measure(book);
-    match measured {
-        Measured::Commands(_) => Verdict::Taken,
-        Measured::Unreadable => Verdict::Refused(Refusal::Book),
-    }
+    let mut places = [0u16; 64];
+    note(book, &mut places)
 }
 
 // The number of commands; 0 where the book is refused.

@@ -18,11 +18,18 @@ use Rattle.table.specs.declared.Judged.the-variants as judged
 use Rattle.table.specs.Table.{isGood, judgeTable}
 use Rattle.table.proofs.Laws.{judged-good}
 use Rattle.register.specs.declared.Command.{Command}
-use Rattle.commands.specs.Book.{maxCommands, readUpTo, verdictOf, judgeBook}
+use Rattle.commands.specs.Book.{maxCommands, readUpTo, verdictOf, judgeBook, commandsOf, measureBook, placesOf, walkedPlaces}
+use Rattle.commands.specs.declared.Measured.the-variants.{Commands, Unreadable}
+use Rattle.commands.proofs.Walk.{is-counted, not-counted, taken-counted}
+use Rattle.commands.proofs.Noting.{note-noted}
+use Rattle.theory.specs.Sets.{pick}
+use lib.Seq.{sets}
 use Rattle.wire.proofs.Laws.{part-all}
 use Rattle.protocol.specs.System.{granted, _else_⨾_, verdict}
 use Rattle.protocol.specs.CommonSequence.{isTaken}
 use Rattle.runs.specs.Run.{maxRun, headerSize, tableOf, bookSize, bookOf, stepBytes, forRun}
+use Rattle.header.specs.declared.Opened.the-variants as opened
+use Rattle.header.specs.Header.{forHeader, openedAs, judgeRun, placesAfter}
 
 -- ---- the site table
 
@@ -48,28 +55,23 @@ book-part run {end} e =
 pub step-part : (run : List ℕ) {end : ℕ} → end ≡ headerSize + bookSize run → take (length run - end) (drop end run) ≡ stepBytes run
 step-part run {end} e = part-all run end ∙ ap (λ (k : ℕ). drop k run) e
 
--- ---- one law for each answer
-
--- The refusal of a book is the last demand's.
-book-last : (o : Option (List Command)) → verdictOf o ≡ verdict (isTaken (verdictOf o) else Book ⨾ granted)
-book-last none = refl
-book-last (some cs) = refl
+-- ---- size and header: one law for each answer
 
 module _ (run : List ℕ) where
-  pub too-long : maxRun < length run → Refused Size ≡ verdict (forRun run)
+  pub too-long : maxRun < length run → Refused Size ≡ verdict (forHeader run)
   too-long h = rw (lt-leb (length run) maxRun h) refl
 
   module _ (a : length run ≤ maxRun) where
-    pub header-cut : length run < headerSize → Refused Table ≡ verdict (forRun run)
+    pub header-cut : length run < headerSize → Refused Table ≡ verdict (forHeader run)
     header-cut h = rw (le-leb (length run) maxRun a, lt-leb headerSize (length run) h) refl
 
     module _ (b : headerSize ≤ length run) {t : SiteTable} (e : t ≡ tableOf run) where
-      pub bad-table : {r : Refusal} → judgeTable (t .sites) (t .faults) (t .mask) ≡ judged.Refused r → Refused Table ≡ verdict (forRun run)
+      pub bad-table : {r : Refusal} → judgeTable (t .sites) (t .faults) (t .mask) ≡ judged.Refused r → Refused Table ≡ verdict (forHeader run)
       bad-table {r} h =
           rw (le-leb (length run) maxRun a, le-leb headerSize (length run) b, ap isGood (sym e) ∙ table-refused t r h) refl
 
       module _ {u : SiteTable} (c : judgeTable (t .sites) (t .faults) (t .mask) ≡ judged.Good u) {end : ℕ} (f : end ≡ headerSize + bookSize run) where
-        pub book-cut : length run < end → Refused Table ≡ verdict (forRun run)
+        pub book-cut : length run < end → Refused Table ≡ verdict (forHeader run)
         book-cut h =
             rw (
               le-leb (length run) maxRun a,
@@ -79,16 +81,83 @@ module _ (run : List ℕ) where
             )
             refl
 
-        pub book-judged : {v : Verdict} → end ≤ length run → v ≡ judgeBook (take (end - headerSize) (drop headerSize run)) → v ≡ verdict (forRun run)
-        unfolding judgeBook
-        book-judged h g =
+        pub header-taken : end ≤ length run → Taken ≡ verdict (forHeader run)
+        header-taken h =
             rw (
               le-leb (length run) maxRun a,
               le-leb headerSize (length run) b,
               ap isGood (sym e) ∙ table-taken t u c,
               le-leb (headerSize + bookSize run) (length run) (omega arith),
             )
-            (g ∙ ap judgeBook (book-part run f) ∙ book-last (readUpTo maxCommands (bookOf run)))
+            refl
+
+end-inside : (a b c d : Bool) → verdict (a else Size ⨾ b else Table ⨾ c else Table ⨾ d else Table ⨾ granted) ≡ Taken → d ≡ true
+end-inside true true true true h = refl
+end-inside true true true false h = absurd (let z : _≡_ {A = ℕ} 0 1 = cc in omega arith)
+end-inside true true false d h = absurd (let z : _≡_ {A = ℕ} 0 1 = cc in omega arith)
+end-inside true false c d h = absurd (let z : _≡_ {A = ℕ} 0 1 = cc in omega arith)
+end-inside false b c d h = absurd (let z : _≡_ {A = ℕ} 0 1 = cc in omega arith)
+
+pub book-inside : (run : List ℕ) → verdict (forHeader run) ≡ Taken → headerSize + bookSize run ≤ length run
+book-inside run h =
+    leb-true (headerSize + bookSize run) (length run) (end-inside (leb (length run) maxRun) (leb headerSize (length run)) (isGood (tableOf run)) (leb (headerSize + bookSize run) (length run)) h)
+
+-- ---- the whole run: one law for each answer
+
+-- The refusal of a book is the last demand's.
+book-last : (o : Option (List Command)) → verdictOf o ≡ verdict (isTaken (verdictOf o) else Book ⨾ granted)
+book-last none = refl
+book-last (some cs) = refl
+
+first-refused : (a b c d : Bool) (v : Verdict) {r : Refusal} → verdict (a else Size ⨾ b else Table ⨾ c else Table ⨾ d else Table ⨾ granted) ≡ Refused r
+    → Refused r ≡ verdict (a else Size ⨾ b else Table ⨾ c else Table ⨾ d else Table ⨾ isTaken v else Book ⨾ granted)
+first-refused true true true true v h = absurd (let z : _≡_ {A = ℕ} 0 1 = cc in omega arith)
+first-refused true true true false v h = sym h
+first-refused true true false d v h = sym h
+first-refused true false c d v h = sym h
+first-refused false b c d v h = sym h
+
+first-taken : (a b c d : Bool) (v : Verdict) → verdict (a else Size ⨾ b else Table ⨾ c else Table ⨾ d else Table ⨾ granted) ≡ Taken
+    → verdict (isTaken v else Book ⨾ granted) ≡ verdict (a else Size ⨾ b else Table ⨾ c else Table ⨾ d else Table ⨾ isTaken v else Book ⨾ granted)
+first-taken true true true true v h = refl
+first-taken true true true false v h = absurd (let z : _≡_ {A = ℕ} 0 1 = cc in omega arith)
+first-taken true true false d v h = absurd (let z : _≡_ {A = ℕ} 0 1 = cc in omega arith)
+first-taken true false c d v h = absurd (let z : _≡_ {A = ℕ} 0 1 = cc in omega arith)
+first-taken false b c d v h = absurd (let z : _≡_ {A = ℕ} 0 1 = cc in omega arith)
+
+module _ (run p : List ℕ) where
+  pub run-refused : {r : Refusal} → verdict (forHeader run) ≡ Refused r → (opened.Refused r ≡ judgeRun run) × (p ≡ placesAfter run p)
+  unfolding judgeRun placesAfter
+  run-refused {r} h =
+      let e = first-refused (leb (length run) maxRun) (leb headerSize (length run)) (isGood (tableOf run)) (leb (headerSize + bookSize run) (length run)) (judgeBook (bookOf run)) h in (
+        ap (λ (v : Verdict). openedAs v (length (commandsOf (bookOf run)))) e,
+        ap (λ (v : Verdict). pick (isTaken v) (sets p 0 (walkedPlaces (bookOf run))) p) (sym h),
+      )
+
+  -- The verdict on the book, where size and header are taken.
+  module _ (h : verdict (forHeader run) ≡ Taken) {b q : List ℕ} (e : b ≡ bookOf run) (w : q ≡ sets p 0 (walkedPlaces b)) where
+    walked : q ≡ placesAfter run p
+    unfolding placesAfter
+    walked =
+        w ∙ ap (λ (l : List ℕ). sets p 0 (walkedPlaces l)) e
+        ∙ ap (λ (v : Verdict). pick (isTaken v) (sets p 0 (walkedPlaces (bookOf run))) p) (sym h)
+
+    by-book : {v : Verdict} → v ≡ judgeBook b → v ≡ verdict (forRun run)
+    unfolding judgeBook
+    by-book g =
+        g ∙ ap judgeBook e ∙ book-last (readUpTo maxCommands (bookOf run))
+        ∙ first-taken (leb (length run) maxRun) (leb headerSize (length run)) (isGood (tableOf run)) (leb (headerSize + bookSize run) (length run)) (judgeBook (bookOf run)) h
+
+    pub run-counted : {n : ℕ} → measureBook b ≡ Commands n → (opened.Commands n ≡ judgeRun run) × (q ≡ placesAfter run p)
+    unfolding judgeRun
+    run-counted {n} m =
+        let c = is-counted b m in
+        let k : n ≡ length (commandsOf (bookOf run)) = c .1 ∙ ap (λ (l : List ℕ). length (commandsOf l)) e in
+        (ap opened.Commands k ∙ ap (λ (v : Verdict). openedAs v (length (commandsOf (bookOf run)))) (by-book (c .0)), walked)
+
+    pub run-unreadable : measureBook b ≡ Unreadable → (opened.Refused Book ≡ judgeRun run) × (q ≡ placesAfter run p)
+    unfolding judgeRun
+    run-unreadable m = (ap (λ (v : Verdict). openedAs v (length (commandsOf (bookOf run)))) (by-book (not-counted b m .0)), walked)
 
 -- ---- what a run that is taken gives
 
@@ -117,3 +186,37 @@ sound run h =
     go true true false d v h = absurd (let z : _≡_ {A = ℕ} 0 1 = cc in omega arith)
     go true false c d v h = absurd (let z : _≡_ {A = ℕ} 0 1 = cc in omega arith)
     go false b c d v h = absurd (let z : _≡_ {A = ℕ} 0 1 = cc in omega arith)
+
+-- ---- for a caller
+
+opened-taken : (v : Verdict) (m : ℕ) {n : ℕ} → opened.Commands n ≡ openedAs v m → (v ≡ Taken) × (n ≡ m)
+opened-taken Taken m {n} e = (refl, let q : n ≡ m = cc in q)
+opened-taken (Refused r) m e = absurd (let z : _≡_ {A = ℕ} 0 1 = cc in omega arith)
+
+opened-refused : (v : Verdict) (m : ℕ) {r : Refusal} → opened.Refused r ≡ openedAs v m → v ≡ Refused r
+opened-refused Taken m e = absurd (let z : _≡_ {A = ℕ} 0 1 = cc in omega arith)
+opened-refused (Refused x) m {r} e = let q : r ≡ x = cc in ap Refused (sym q)
+
+header-first : (a b c d : Bool) (v : Verdict) → verdict (a else Size ⨾ b else Table ⨾ c else Table ⨾ d else Table ⨾ isTaken v else Book ⨾ granted) ≡ Taken
+    → verdict (a else Size ⨾ b else Table ⨾ c else Table ⨾ d else Table ⨾ granted) ≡ Taken
+header-first true true true true v h = refl
+header-first true true true false v h = h
+header-first true true false d v h = h
+header-first true false c d v h = h
+header-first false b c d v h = h
+
+module _ (run : List ℕ) where
+  pub judged-taken : {n : ℕ} → opened.Commands n ≡ judgeRun run → (verdict (forRun run) ≡ Taken) × (n ≡ length (commandsOf (bookOf run)))
+  unfolding judgeRun
+  judged-taken e = opened-taken (verdict (forRun run)) (length (commandsOf (bookOf run))) e
+
+  pub judged-refused : {r : Refusal} → opened.Refused r ≡ judgeRun run → verdict (forRun run) ≡ Refused r
+  unfolding judgeRun
+  judged-refused e = opened-refused (verdict (forRun run)) (length (commandsOf (bookOf run))) e
+
+  -- The places of a run that is taken.
+  pub places-noted : (p : List ℕ) {q : List ℕ} → verdict (forRun run) ≡ Taken → maxCommands ≤ length p → q ≡ placesAfter run p → take (length (commandsOf (bookOf run))) q ≡ placesOf (bookOf run)
+  unfolding placesAfter
+  places-noted p h room e =
+      let f = header-first (leb (length run) maxRun) (leb headerSize (length run)) (isGood (tableOf run)) (leb (headerSize + bookSize run) (length run)) (judgeBook (bookOf run)) h in
+      note-noted (bookOf run) p room (taken-counted (bookOf run) (sound run h .book)) (e ∙ ap (λ (v : Verdict). pick (isTaken v) (sets p 0 (walkedPlaces (bookOf run))) p) f)

@@ -2,8 +2,11 @@
 ghost use mathlib.Core.Path.{_≡_};
 ghost use Prim.Native.Nat.{_+_, _≤_};
 ghost use lib.ListN.{length};
+ghost use Rattle.commands.specs.Book.{maxCommands};
 ghost use Rattle.protocol.specs.System.{verdict};
-ghost use Rattle.runs.specs.Run.{headerSize, tableOf, bookSize, forRun};
+ghost use Rattle.runs.specs.Run.{headerSize, tableOf, bookSize};
+ghost use Rattle.header.specs.Header.{forHeader, judgeRun, placesAfter};
+use commands::Measured;
 use refusals::Refusal;
 use refusals::Verdict;
 use table::Judged;
@@ -21,6 +24,12 @@ const FAULTS: usize = 1;
 const MASK: usize = 2;
 
 const BOOK_SIZE: usize = 4;
+
+// What judging a run answers: how many commands its book has, or why it is refused.
+pub enum Opened {
+    Commands(usize),
+    Refused(Refusal),
+}
 
 // The site table of a run.
 pub fn table_of(run: &[u8]) -> SiteTable
@@ -46,9 +55,9 @@ pub fn book_end(run: &[u8]) -> usize
     HEADER + size as usize
 }
 
-// Whether the size, the header and the book of a run are taken: refusals 9, 2 and 1, in this order.
-pub fn judge_run(run: &[u8]) -> Verdict
-    ensures { λ r. ⌜ r ≡ verdict (forRun (now (run .entry))) ⌝ }
+// Whether the size and the header of a run are taken: refusals 9 and 2, in this order.
+fn judge_header(run: &[u8]) -> Verdict
+    ensures { λ r. ⌜ r ≡ verdict (forHeader (now (run .entry))) ⌝ }
 {
     let n = run.len();
     if n > MAX_RUN {
@@ -66,5 +75,22 @@ pub fn judge_run(run: &[u8]) -> Verdict
     if end > n {
         return Verdict::Refused(Refusal::Table);
     }
-    commands::judge(&run[HEADER..end])
+    Verdict::Taken
+}
+
+// A run is judged: refusals 9, 2 and 1, in this order. Where size and header are taken, the places of its commands are noted.
+pub fn judge_run(run: &[u8], places: &mut [u16]) -> Opened
+    requires { ⌜ maxCommands ≤ length (now places) ⌝ }
+    ensures { λ r. ⌜ (r ≡ judgeRun (now (run .entry))) × (now (places .exit) ≡ placesAfter (now (run .entry)) (now (places .entry))) ⌝ }
+{
+    let verdict = judge_header(run);
+    if let Verdict::Refused(refusal) = verdict {
+        return Opened::Refused(refusal);
+    }
+    let end = book_end(run);
+    let measured = commands::note(&run[HEADER..end], places);
+    match measured {
+        Measured::Commands(commands) => Opened::Commands(commands),
+        Measured::Unreadable => Opened::Refused(Refusal::Book),
+    }
 }

@@ -154,7 +154,7 @@ fn fresh_header() -> Site
 }
 
 // Every byte becomes 0.
-fn clear(site: &mut [u8])
+pub fn clear(site: &mut [u8])
     ensures { λ _. ⌜ ((k : ℕ) → getD (now (site .exit)) k 0 ≡ 0) ⌝ }
 {
     let mut k = 0;
@@ -164,11 +164,19 @@ fn clear(site: &mut [u8])
     }
 }
 
+// A fresh header is written over bytes that are all 0: they are a fresh site.
+pub fn begin(site: &mut [u8])
+    requires { ⌜ (length (now site) ≡ siteSize) × ((k : ℕ) → getD (now site) k 0 ≡ 0) ⌝ }
+    ensures { λ _. ⌜ ((t : SiteTable) (book : List Command) → Holds t book (now (site .exit)) (protocol.fresh (dash t book))) ⌝ }
+{
+    fresh_header().write(site);
+}
+
 // A fresh site is written over the whole buffer.
 pub fn fresh(site: &mut [u8])
     requires { ⌜ length (now site) ≡ siteSize ⌝ }
     ensures { λ _. ⌜ ((t : SiteTable) (book : List Command) → Holds t book (now (site .exit)) (protocol.fresh (dash t book))) ⌝ }
 {
     clear(site);
-    fresh_header().write(site);
+    begin(site);
 }

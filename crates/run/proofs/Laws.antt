@@ -19,7 +19,7 @@ use Rattle.table.specs.declared.SiteTable.{SiteTable}
 use Rattle.table.specs.Table.{isGood, faultyCountOf}
 use Rattle.table.proofs.Laws.{good-limits, good-few}
 use Rattle.register.specs.declared.Command.{Command}
-use Rattle.commands.specs.Book.{commandsOf}
+use Rattle.commands.specs.Book.{maxCommands, commandsOf, placesOf}
 use Rattle.commands.proofs.Walk.{few-commands}
 use Rattle.protocol.specs.System.{verdict}
 use Rattle.protocol.specs.World.{World, start}
@@ -31,7 +31,9 @@ use Rattle.steps.specs.declared.Reading.{Reading}
 use Rattle.steps.specs.Steps.{stepsOf}
 use Rattle.lines.specs.Lines.{runLine, refusedLine}
 use Rattle.lines.proofs.Laws.{run-short}
-use Rattle.header.proofs.Laws.{Sound}
+use Rattle.header.specs.declared.Opened.the-variants as opened
+use Rattle.header.specs.Header.{judgeRun, placesAfter}
+use Rattle.header.proofs.Laws.{Sound, judged-taken, places-noted}
 use Rattle.runs.specs.Run.{maxRun, headerSize, bookSize, tableOf, bookOf, stepBytes, forRun, siteLines, played, printAs, printOf}
 use Rattle.layout.specs.Layout.{siteSize}
 use Rattle.world.specs.World as world
@@ -125,6 +127,15 @@ module _ (run : List ℕ) where
   unfolding printOf
   print-taken {s} {after} {end} e et eb es w =
       subst (λ (l : List ℕ). Wrote after end s 0 l) ((λ i. played (et i) (commandsOf (eb i)) (stepsOf (es i))) ∙ sym (ap (printAs run) e)) w
+
+-- The part that is the book of a run that is taken: its commands are counted, and their places noted.
+pub noted-part : (run p : List ℕ) {b q : List ℕ} {n : ℕ} → b ≡ bookOf run → opened.Commands n ≡ judgeRun run → q ≡ placesAfter run p → maxCommands ≤ length p
+    → (n ≡ length (commandsOf b)) × (take (length (commandsOf b)) q ≡ placesOf b)
+noted-part run p {b} {q} e o w h =
+    let j = judged-taken run o in (
+      j .1 ∙ ap (λ (l : List ℕ). length (commandsOf l)) (sym e),
+      subst (λ (l : List ℕ). take (length (commandsOf l)) q ≡ placesOf l) (sym e) (places-noted run p (j .0) h w),
+    )
 
 -- ---- what the call answers
 

@@ -1,14 +1,15 @@
 // A run in bytes, played on lent working memory, and what it prints into a lent buffer.
 ghost use mathlib.Core.Path.{_≡_};
-ghost use Rattle.commands.specs.Book.{commandsOf};
+ghost use lib.ListN.{length, take};
+ghost use Rattle.commands.specs.Book.{commandsOf, placesOf};
 ghost use Rattle.print.specs.Print.{Wrote};
 ghost use Rattle.steps.specs.Steps.{stepsOf};
 ghost use Rattle.runs.specs.Run.{played};
 ghost use Rattle.run.specs.Ran.{working, hasRoom, ran, runOf};
 ghost use Rattle.run.specs.Left.{HoldsLast, Worked, Left};
 ghost use Rattle.run.specs.Prepared.{Playable, Roomy, Sized, Noted};
+use header::Opened;
 use layout::Site;
-use refusals::Verdict;
 use table::SiteTable;
 
 // The room for any print: 33 bytes for the first line, 21 for each of 30,000 refused steps, 987 for each of 11 sites.
@@ -92,33 +93,33 @@ fn print_in(
     )
 }
 
-// The places of the book's commands and their conflicts are noted first.
+// Which commands conflict is noted first.
 fn print_noted(
     sites: &mut [u8],
     log: &mut [u8],
     sent: &mut [u8],
     table: SiteTable,
     book: &[u8],
+    places: &[u16],
+    commands: usize,
     steps: &[u8],
     out: &mut [u8],
 ) -> usize
-    requires { ⌜ Playable table (now steps) (now out) × Roomy (working (now sites) (now log) (now sent)) ⌝ }
+    requires { ⌜ Playable table (now steps) (now out) × Roomy (working (now sites) (now log) (now sent))
+        × (commands ≡ length (commandsOf (now book))) × (take (length (commandsOf (now book))) (now places) ≡ placesOf (now book)) ⌝ }
     ensures { λ r. ⌜ Wrote (now (out .exit)) r (now (out .entry)) 0 (played table (commandsOf (now (book .entry))) (stepsOf (now (steps .entry))))
         × Worked table (commandsOf (now (book .entry))) (stepsOf (now (steps .entry)))
         (working (now (sites .entry)) (now (log .entry)) (now (sent .entry))) (working (now (sites .exit)) (now (log .exit)) (now (sent .exit))) ⌝ }
 {
-    let commands = commands::count(book);
-    let mut places = [0u16; 64];
-    commands::index(book, commands, &mut places);
     let mut rows = [0u64; 64];
-    conflicts::conflict_rows(book, &places, commands, &mut rows);
+    conflicts::conflict_rows(book, places, commands, &mut rows);
     print_in(
         sites,
         log,
         sent,
         table,
         book,
-        &places,
+        places,
         &rows,
         commands,
         steps,
@@ -144,20 +145,27 @@ pub fn run(input: &[u8], sites: &mut [u8], log: &mut [u8], sent: &mut [u8], out:
     if !has_room(sites.len(), log.len(), sent.len(), out.len()) {
         return 0;
     }
-    let verdict = header::judge_run(input);
-    if let Verdict::Refused(refusal) = verdict {
-        let cause = refusals::number(refusal) as usize;
-        return lines::put_refused_line(out, 0, cause);
+    let mut places = [0u16; 64];
+    let opened = header::judge_run(input, &mut places);
+    match opened {
+        Opened::Commands(commands) => {
+            let table = header::table_of(input);
+            let end = header::book_end(input);
+            print_noted(
+                sites,
+                log,
+                sent,
+                table,
+                &input[header::HEADER..end],
+                &places,
+                commands,
+                &input[end..],
+                out,
+            )
+        }
+        Opened::Refused(refusal) => {
+            let cause = refusals::number(refusal) as usize;
+            lines::put_refused_line(out, 0, cause)
+        }
     }
-    let table = header::table_of(input);
-    let end = header::book_end(input);
-    print_noted(
-        sites,
-        log,
-        sent,
-        table,
-        &input[header::HEADER..end],
-        &input[end..],
-        out,
-    )
 }

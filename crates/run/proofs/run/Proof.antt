@@ -7,10 +7,10 @@ use denote.Ref.{now}
 use Rattle.theory.specs.Counting.{not-true, not-false}
 use Rattle.table.specs.Table.{isGood}
 use Rattle.lines.proofs.Laws.{refused-short}
-use Rattle.header.proofs.Laws.{sound, book-part, step-part}
+use Rattle.header.proofs.Laws.{sound, book-part, step-part, judged-taken, judged-refused}
 use Rattle.play.proofs.Laws.{number-small}
 use Rattle.run.specs.Ran.{working}
-use Rattle.run.proofs.Laws.{steps-short, print-refused, print-taken, roomy-told, no-room, with-room, refused-left, played-left}
+use Rattle.run.proofs.Laws.{steps-short, print-refused, print-taken, noted-part, roomy-told, no-room, with-room, refused-left, played-left}
 use Rattle.run.proofs.run.Statement.{statement}
 use Rattle.run.proofs.run.Tie as tie
 
@@ -22,11 +22,69 @@ returns c =
     let a = c .before .before .before .before .before .before .before .args in
     no-room (now (a .input)) (working (now (a .sites)) (now (a .log)) (now (a .sent))) (now (a .out)) (sym (c .before .has-room .ensures) ∙ not-true _ (c .if1 .taken))
 
+slice-aggregate-judge-run : tie.Need-slice-aggregate-judge-run
+slice-aggregate-judge-run c = search needs
+
 judge-run-requires : tie.Need-judge-run-requires
 judge-run-requires c κs = search needs
 
-enum-known-verdict : tie.Need-enum-known-verdict
-enum-known-verdict c = search needs
+enum-known-opened : tie.Need-enum-known-opened
+enum-known-opened c = search needs
+
+table-of-requires : tie.Need-table-of-requires
+table-of-requires c κs =
+    let r = now (c .before .before .before .before .before .before .before .before .before .before .before .before .before .args .input) in
+    let s = sound r (judged-taken r (sym (c .before .opened .given .1) ∙ c .before .before .before .before .judge-run .ensures .0) .0) in
+    omega arith
+
+book-end-requires : tie.Need-book-end-requires
+book-end-requires c κs =
+    let r = now (c .before .before .before .before .before .before .before .before .before .before .before .before .before .before .args .input) in
+    let s = sound r (judged-taken r (sym (c .before .before .opened .given .1) ∙ c .before .before .before .before .before .judge-run .ensures .0) .0) in
+    omega arith
+
+sub-print-noted : tie.Need-sub-print-noted
+sub-print-noted c = search needs
+
+part-print-noted-start : tie.Need-part-print-noted-start
+part-print-noted-start c = search needs
+
+part-print-noted-end : tie.Need-part-print-noted-end
+part-print-noted-end c =
+    let r = now (c .before .before .before .before .before .before .before .before .before .before .before .before .before .before .before .before .before .before .args .input) in
+    let s = sound r (judged-taken r (sym (c .before .before .before .before .before .before .opened .given .1) ∙ c .before .before .before .before .before .before .before .before .before .judge-run .ensures .0) .0) in
+    omega arith
+
+slice-aggregate-print-noted : tie.Need-slice-aggregate-print-noted
+slice-aggregate-print-noted c = search needs
+
+sub-print-noted-2 : tie.Need-sub-print-noted-2
+sub-print-noted-2 c =
+    let r = now (c .before .before .before .before .before .before .before .before .before .before .before .before .before .before .before .before .before .before .before .before .args .input) in
+    let s = sound r (judged-taken r (sym (c .before .before .before .before .before .before .before .before .opened .given .1) ∙ c .before .before .before .before .before .before .before .before .before .before .before .judge-run .ensures .0) .0) in
+    omega arith
+
+part-print-noted-start-2 : tie.Need-part-print-noted-start-2
+part-print-noted-start-2 c =
+    let r = now (c .before .before .before .before .before .before .before .before .before .before .before .before .before .before .before .before .before .before .before .before .args .input) in
+    let s = sound r (judged-taken r (sym (c .before .before .before .before .before .before .before .before .opened .given .1) ∙ c .before .before .before .before .before .before .before .before .before .before .before .judge-run .ensures .0) .0) in
+    omega arith
+
+part-print-noted-end-2 : tie.Need-part-print-noted-end-2
+part-print-noted-end-2 c = search needs
+
+print-noted-requires : tie.Need-print-noted-requires
+print-noted-requires c κs =
+    let a = c .before .before .before .before .before .before .before .before .before .before .before .before .before .before .before .before .before .before .before .before .before .before .args in
+    let r = now (a .input) in
+    let s = sound r (judged-taken r (sym (c .before .before .before .before .before .before .before .before .before .before .opened .given .1) ∙ c .before .before .before .before .before .before .before .before .before .before .before .before .before .judge-run .ensures .0) .0) in
+    let room = roomy-told (working (now (a .sites)) (now (a .log)) (now (a .sent))) (now (a .out)) (sym (c .before .before .before .before .before .before .before .before .before .before .before .before .before .before .before .before .has-room .ensures) ∙ not-false _ (c .before .before .before .before .before .before .before .before .before .before .before .before .before .before .before .if1 .left)) in
+    let e = c .before .before .before .before .before .before .before .book-end .ensures in
+    let n = noted-part r _ (book-part r e) (sym (c .before .before .before .before .before .before .before .before .before .before .opened .given .1) ∙ c .before .before .before .before .before .before .before .before .before .before .before .before .before .judge-run .ensures .0) (c .before .before .before .before .before .before .before .before .before .before .before .before .before .judge-run .ensures .1) (omega arith) in
+    (record { good = ap isGood (c .before .before .before .before .before .before .before .before .table-of .ensures) ∙ s .table; short = steps-short r s e; room = room .1 }, room .0, n .0, n .1)
+
+enum-known-opened-2 : tie.Need-enum-known-opened-2
+enum-known-opened-2 c = search needs
 
 number-requires : tie.Need-number-requires
 number-requires c κs = search needs
@@ -36,57 +94,12 @@ cast-cause c = search needs
 
 put-refused-line-requires : tie.Need-put-refused-line-requires
 put-refused-line-requires c κs =
-    let a = c .before .before .before .before .before .before .before .before .before .before .before .before .before .args in
-    let room = roomy-told (working (now (a .sites)) (now (a .log)) (now (a .sent))) (now (a .out)) (sym (c .before .before .before .before .before .before .before .has-room .ensures) ∙ not-false _ (c .before .before .before .before .before .before .if1 .left)) in
-    omega (arith, room .1, refused-short (c .before .number .result) (omega (arith, number-small (c .before .before .before .verdict .given .0 .0), c .before .number .ensures)))
+    let a = c .before .before .before .before .before .before .before .before .before .before .before .before .before .before .before .args in
+    let room = roomy-told (working (now (a .sites)) (now (a .log)) (now (a .sent))) (now (a .out)) (sym (c .before .before .before .before .before .before .before .before .before .has-room .ensures) ∙ not-false _ (c .before .before .before .before .before .before .before .before .if1 .left)) in
+    omega (arith, room .1, refused-short (c .before .number .result) (omega (arith, number-small (c .before .before .before .opened2 .given .0 .0), c .before .number .ensures)))
 
 same-length : tie.Need-same-length
 same-length c = search needs
-
-returns-2 : tie.Need-returns-2
-returns-2 c =
-    let a = c .before .before .before .before .before .before .before .before .before .before .before .before .before .before .before .before .args in
-    let v = c .before .before .before .before .before .before .verdict .given in
-    let refused = sym (c .before .before .before .before .before .before .before .before .judge-run .ensures) ∙ v .1 in (
-      with-room (now (a .input)) (working (now (a .sites)) (now (a .log)) (now (a .sent))) (now (a .out)) (sym (c .before .before .before .before .before .before .before .before .before .before .has-room .ensures) ∙ not-false _ (c .before .before .before .before .before .before .before .before .before .if1 .left))
-          (print-refused (now (a .input)) (v .0 .0) refused (c .before .before .before .before .number .ensures) (c .before .before .put-refused-line .ensures)),
-      refused-left (now (a .input)) (working (now (a .sites)) (now (a .log)) (now (a .sent))) (now (a .out)) (v .0 .0) refused,
-    )
-
-enum-told : tie.Need-enum-told
-enum-told c = search needs
-
-table-of-requires : tie.Need-table-of-requires
-table-of-requires c κs = let r = now (c .before .before .before .before .before .before .before .before .before .before .args .input) in let s = sound r (sym (c .before .before .judge-run .ensures) ∙ c .enum-told .given .1) in omega arith
-
-book-end-requires : tie.Need-book-end-requires
-book-end-requires c κs = let r = now (c .before .before .before .before .before .before .before .before .before .before .before .args .input) in let s = sound r (sym (c .before .before .before .judge-run .ensures) ∙ c .before .enum-told .given .1) in omega arith
-
-sub-print-noted : tie.Need-sub-print-noted
-sub-print-noted c = search needs
-
-part-print-noted-start : tie.Need-part-print-noted-start
-part-print-noted-start c = search needs
-
-part-print-noted-end : tie.Need-part-print-noted-end
-part-print-noted-end c = let r = now (c .before .before .before .before .before .before .before .before .before .before .before .before .before .before .before .args .input) in let s = sound r (sym (c .before .before .before .before .before .before .before .judge-run .ensures) ∙ c .before .before .before .before .before .enum-told .given .1) in omega arith
-
-sub-print-noted-2 : tie.Need-sub-print-noted-2
-sub-print-noted-2 c = let r = now (c .before .before .before .before .before .before .before .before .before .before .before .before .before .before .before .before .args .input) in let s = sound r (sym (c .before .before .before .before .before .before .before .before .judge-run .ensures) ∙ c .before .before .before .before .before .before .enum-told .given .1) in omega arith
-
-part-print-noted-start-2 : tie.Need-part-print-noted-start-2
-part-print-noted-start-2 c = let r = now (c .before .before .before .before .before .before .before .before .before .before .before .before .before .before .before .before .args .input) in let s = sound r (sym (c .before .before .before .before .before .before .before .before .judge-run .ensures) ∙ c .before .before .before .before .before .before .enum-told .given .1) in omega arith
-
-part-print-noted-end-2 : tie.Need-part-print-noted-end-2
-part-print-noted-end-2 c = search needs
-
-print-noted-requires : tie.Need-print-noted-requires
-print-noted-requires c κs =
-    let a = c .before .before .before .before .before .before .before .before .before .before .before .before .before .before .before .before .before .before .args in
-    let r = now (a .input) in
-    let s = sound r (sym (c .before .before .before .before .before .before .before .before .before .before .judge-run .ensures) ∙ c .before .before .before .before .before .before .before .before .enum-told .given .1) in
-    let room = roomy-told (working (now (a .sites)) (now (a .log)) (now (a .sent))) (now (a .out)) (sym (c .before .before .before .before .before .before .before .before .before .before .before .before .has-room .ensures) ∙ not-false _ (c .before .before .before .before .before .before .before .before .before .before .before .if1 .left)) in
-    (record { good = ap isGood (c .before .before .before .before .before .before .before .table-of .ensures) ∙ s .table; short = steps-short r s (c .before .before .before .before .before .before .book-end .ensures); room = room .1 }, room .0)
 
 same-length-2 : tie.Need-same-length-2
 same-length-2 c = search needs
@@ -97,22 +110,34 @@ same-length-3 c = search needs
 same-length-4 : tie.Need-same-length-4
 same-length-4 c = search needs
 
+returns-2 : tie.Need-returns-2
+returns-2 c =
+    let a = c .before .before .before .before .before .before .before .before .before .before .before .before .before .before .before .before .before .before .before .before .before .before .before .before .before .before .before .before .before .before .before .args in
+    let r = now (a .input) in
+    let w = (working (now (a .sites)) (now (a .log)) (now (a .sent))) in
+    let o = now (a .out) in
+    let p = c .before .before .before .before .before .before .before .before .print-noted in
+    let e = c .before .before .before .before .before .before .before .before .before .before .before .before .before .before .before .before .book-end .ensures in
+    let t = c .before .before .before .before .before .before .before .before .before .before .before .before .before .before .before .before .before .table-of .ensures in
+    let taken = judged-taken r (sym (c .before .before .before .before .before .before .before .before .before .before .before .before .before .before .before .before .before .before .before .opened .given .1) ∙ c .before .before .before .before .before .before .before .before .before .before .before .before .before .before .before .before .before .before .before .before .before .before .judge-run .ensures .0) .0 in
+    let room = sym (c .before .before .before .before .before .before .before .before .before .before .before .before .before .before .before .before .before .before .before .before .before .before .before .before .before .has-room .ensures) ∙ not-false _ (c .before .before .before .before .before .before .before .before .before .before .before .before .before .before .before .before .before .before .before .before .before .before .before .before .if1 .left) in (
+      with-room r w o room (print-taken r taken t (book-part r e) (step-part r e) (p .ensures .0)),
+      played-left r w o room taken t (book-part r e) (step-part r e) (p .ensures .1),
+    )
+
 same-length-5 : tie.Need-same-length-5
 same-length-5 c = search needs
 
 returns-3 : tie.Need-returns-3
 returns-3 c =
-    let a = c .before .before .before .before .before .before .before .before .before .before .before .before .before .before .before .before .before .before .before .before .before .before .before .before .before .before .before .args in
+    let a = c .before .before .before .before .before .before .before .before .before .before .before .before .before .before .before .before .before .before .args in
     let r = now (a .input) in
     let w = (working (now (a .sites)) (now (a .log)) (now (a .sent))) in
     let o = now (a .out) in
-    let p = c .before .before .before .before .before .before .before .before .print-noted in
-    let e = c .before .before .before .before .before .before .before .before .before .before .before .before .before .before .before .book-end .ensures in
-    let t = c .before .before .before .before .before .before .before .before .before .before .before .before .before .before .before .before .table-of .ensures in
-    let taken = sym (c .before .before .before .before .before .before .before .before .before .before .before .before .before .before .before .before .before .before .before .judge-run .ensures) ∙ c .before .before .before .before .before .before .before .before .before .before .before .before .before .before .before .before .before .enum-told .given .1 in
-    let room = sym (c .before .before .before .before .before .before .before .before .before .before .before .before .before .before .before .before .before .before .before .before .before .has-room .ensures) ∙ not-false _ (c .before .before .before .before .before .before .before .before .before .before .before .before .before .before .before .before .before .before .before .before .if1 .left) in (
-      with-room r w o room (print-taken r taken t (book-part r e) (step-part r e) (p .ensures .0)),
-      played-left r w o room taken t (book-part r e) (step-part r e) (p .ensures .1),
+    let v = c .before .before .before .before .before .before .opened2 .given in
+    let refused = judged-refused r (sym (v .1) ∙ c .before .before .before .before .before .before .before .before .before .judge-run .ensures .0) in (
+      with-room r w o (sym (c .before .before .before .before .before .before .before .before .before .before .before .before .has-room .ensures) ∙ not-false _ (c .before .before .before .before .before .before .before .before .before .before .before .if1 .left)) (print-refused r (v .0 .0) refused (c .before .before .before .before .number .ensures) (c .before .before .put-refused-line .ensures)),
+      refused-left r w o (v .0 .0) refused,
     )
 
 pub run-spec : {M : Type 1} → statement M
@@ -121,25 +146,27 @@ run-spec =
     (tie.spec
     has-room-requires
     returns
+    slice-aggregate-judge-run
     judge-run-requires
-    enum-known-verdict
-    number-requires
-    cast-cause
-    put-refused-line-requires
-    same-length
-    returns-2
-    enum-told
+    enum-known-opened
     table-of-requires
     book-end-requires
     sub-print-noted
     part-print-noted-start
     part-print-noted-end
+    slice-aggregate-print-noted
     sub-print-noted-2
     part-print-noted-start-2
     part-print-noted-end-2
     print-noted-requires
+    enum-known-opened-2
+    number-requires
+    cast-cause
+    put-refused-line-requires
+    same-length
     same-length-2
     same-length-3
     same-length-4
+    returns-2
     same-length-5
     returns-3)

@@ -1,0 +1,40 @@
+-- What judging a run answers, and what it notes of the book.
+-- Assumes nothing.
+use mathlib.Core.List.{List}
+use Prim.Native.Nat.{ℕ, _+_}
+use lib.Dec.{leb}
+use lib.ListN.{length}
+use lib.Seq.{sets}
+use Rattle.refusals.specs.declared.Refusal.the-variants.{Table, Size}
+use Rattle.refusals.specs.declared.Verdict.{Verdict}
+use Rattle.refusals.specs.declared.Verdict.the-variants.{Taken, Refused}
+use Rattle.theory.specs.Sets.{pick}
+use Rattle.table.specs.Table.{goodTable}
+use Rattle.commands.specs.Book.{commandsOf, walkedPlaces}
+use Rattle.protocol.specs.System.{Demands, granted, _else_⨾_, verdict}
+use Rattle.protocol.specs.CommonSequence.{isTaken}
+use Rattle.runs.specs.Run.{maxRun, headerSize, tableOf, bookSize, bookOf, forRun}
+use Rattle.header.specs.declared.Opened.{Opened}
+use Rattle.header.specs.declared.Opened.the-variants as opened
+
+-- The first of the demands on a run: those on its size and its header, refusals 9 and 2.
+abbrev pub forHeader : List ℕ → Demands
+forHeader run =
+    leb (length run) maxRun else Size
+    ⨾ leb headerSize (length run) else Table
+    ⨾ goodTable (tableOf run .sites) (tableOf run .faults) (tableOf run .mask) else Table
+    ⨾ leb (headerSize + bookSize run) (length run) else Table
+    ⨾ granted
+
+-- The number of commands where a verdict is taken, else its refusal.
+abbrev pub openedAs : Verdict → ℕ → Opened
+openedAs Taken n = opened.Commands n
+openedAs (Refused r) n = opened.Refused r
+
+-- What judging a run answers.
+unfoldable pub judgeRun : List ℕ → Opened
+judgeRun run = openedAs (verdict (forRun run)) (length (commandsOf (bookOf run)))
+
+-- The places after judging a run: the book is walked where size and header are taken.
+unfoldable pub placesAfter : List ℕ → List ℕ → List ℕ
+placesAfter run p = pick (isTaken (verdict (forHeader run))) (sets p 0 (walkedPlaces (bookOf run))) p
