@@ -2,3 +2,4 @@ pub mod Change
 pub mod Laws
 pub mod Same
 pub mod Between
+pub mod Bikes

@@ -11,7 +11,7 @@ use commands::Head;
 use sets::Set;
 
 // The set with one command more, where a test holds.
-fn with_if(row: Set, k: usize, test: bool) -> Set
+pub fn with_if(row: Set, k: usize, test: bool) -> Set
     requires { ⌜ k < capacity ⌝ }
     ensures { λ r. ⌜ r ≡ pick test (withOf row k) row ⌝ }
 {
@@ -53,7 +53,7 @@ fn gather(
 }
 
 // Of a bike's ADDs and READs those that a command of the bike does not conflict with.
-fn unopposed(head: Head, adds: Set, reads: Set) -> Set
+pub fn unopposed(head: Head, adds: Set, reads: Set) -> Set
     ensures { λ r. ⌜ r ≡ unopposed head adds reads ⌝ }
 {
     if head.add {
@@ -122,14 +122,4 @@ pub fn conflict_rows(book: &[u8], places: &[u16], n: usize, rows: &mut [u64])
     let mut reads = [0u64; 32];
     gather(book, places, n, &mut on, &mut adds, &mut reads);
     fill_rows(book, places, n, &on, &adds, &reads, rows);
-}
-
-// The rows of all 64 command numbers of a book with n commands.
-pub fn conflicts_of(book: &[u8], n: usize, rows: &mut [u64])
-    requires { ⌜ (length (now rows) ≡ maxCommands) × (n ≡ length (commandsOf (now book))) ⌝ }
-    ensures { λ _. ⌜ now (rows .exit) ≡ conflictRows (now (book .entry)) ⌝ }
-{
-    let mut places = [0u16; 64];
-    commands::index(book, n, &mut places);
-    conflict_rows(book, &places, n, rows);
 }

@@ -5,7 +5,7 @@ use mathlib.Core.Bool.{Bool, true, false, not}
 use mathlib.Core.List.{List, _++_}
 use Prim.Native.Nat.{ℕ, _*_, _/_, _≤_, _<_}
 use native.Mathlib.Omega.{arith}
-use lib.Dec.{ltb}
+use lib.Dec.{leb, ltb}
 use lib.ListN.{length, take, drop, getD}
 use borrow.Author.Tests.{lt-ltb, le-ltb}
 use Rattle.theory.specs.Counting.{left, never, not-true, all-at}
@@ -17,7 +17,7 @@ use Rattle.sets.specs.Sets.{inSet, withinOf, emptyOf}
 use Rattle.sets.proofs.Laws.{in-empty, within-of}
 use Rattle.table.specs.declared.SiteTable.{SiteTable}
 use Rattle.table.specs.Table.{isGood}
-use Rattle.commands.specs.Book.{commandsOf}
+use Rattle.commands.specs.Book.{maxCommands, commandsOf}
 use Rattle.conflicts.specs.Conflicts.{conflictRows}
 use Rattle.protocol.specs.System.{granted, _else_⨾_, verdict}
 use Rattle.protocol.specs.Recovery as recovery
@@ -34,13 +34,14 @@ use Rattle.recovery.specs.Decisions.{decisionOf}
 use Rattle.recovery.proofs.Within.{sets-within}
 use Rattle.layout.specs.Layout.{siteSize, headOf, isWaiting, view}
 use Rattle.layout.specs.Good.{Good}
+use Rattle.deliver.specs.Delivering.{Noted}
 use Rattle.ending.specs.Ending.{RoundEnded}
 use Rattle.ending.proofs.Verdicts.{waits-same}
 use Rattle.ending.proofs.Telling.{told-none, told-decided}
 use Rattle.judging.specs.Outcomes.{outcome, answered, _then_}
-use Rattle.judging.specs.Judging.{tableOf, systemOf, siteIn, withSite, forSite, forSiteAndLog}
+use Rattle.judging.specs.Judging.{tableOf, systemOf, siteIn, withSite, forSite, forSiteAndLog, placesAfter}
 use Rattle.judging.proofs.Demands.{then-taken, then-refused, answered-refused}
-use Rattle.judging.proofs.Laws.{Judged, JudgedLog, site-judged, log-judged}
+use Rattle.judging.proofs.Laws.{Judged, JudgedLog, site-judged, log-judged, site-noted, log-noted}
 use Rattle.judging.proofs.Steps.{carried}
 use Rattle.delivering.specs.Delivering.{FastDelivered, Ended, fastDeliveryCall, roundEndCall}
 
@@ -73,8 +74,10 @@ module _ (n f : ℕ) (book site : List ℕ) (m : ℕ) {k : ℕ} (q : k ≡ codeO
       unfolding fastDeliveryCall
       fast-range h = answered-refused Range _ site (first false (le-ltb m (length (commandsOf book)) (omega arith)))
 
-      pub fast-ready : m < commands → Good n commands (take siteSize site) × (isGood (tableOf n f) ≡ true) × (length (commandsOf book) ≡ commands) × (m < commands)
-      fast-ready h = (subst (λ (k : ℕ). Good n k (take siteSize site)) (sym e) (judged .good), judged .table, sym e, h)
+      pub fast-ready : m < commands → (places : List ℕ) {after : List ℕ} → maxCommands ≤ length places → after ≡ placesAfter n f book (leb siteSize (length site)) places
+          → Good n commands (take siteSize site) × (isGood (tableOf n f) ≡ true) × Noted book after × (length (commandsOf book) ≡ commands) × (m < commands)
+      fast-ready h places room en =
+          (subst (λ (k : ℕ). Good n k (take siteSize site)) (sym e) (judged .good), judged .table, site-noted n f book true site places room en q z, sym e, h)
 
       pub fast-done : m < commands → ((i : ℕ) → getD site i 0 < 256) → {r : Verdict} {b : List ℕ} {code : ℕ}
           → FastDelivered (tableOf n f) (commandsOf book) m (take siteSize site) r b → code ≡ codeOf r → outcome code (b ++ drop siteSize site) ≡ fastDeliveryCall n f book site m
@@ -159,12 +162,14 @@ module _ (n f : ℕ) (book site log : List ℕ) {k : ℕ} (q : k ≡ codeOf (ver
         (length (protocol.due (systemOf n f book) (protocol.tallyOr (protocol.decision (systemOf n f book) (siteIn n f book site) (logOf log))) (siteIn n f book site))) else Size
         ⨾ granted)))
 
-    pub end-ready : {commands : ℕ} → commands ≡ length (commandsOf book)
-        → Good n commands (take siteSize site) × (isGood (tableOf n f) ≡ true) × (length (commandsOf book) ≡ commands)
+    pub end-ready : {commands : ℕ} → commands ≡ length (commandsOf book) → (places : List ℕ) {after : List ℕ} → maxCommands ≤ length places
+        → after ≡ placesAfter n f book (leb siteSize (length site)) places
+        → Good n commands (take siteSize site) × (isGood (tableOf n f) ≡ true) × Noted book after × (length (commandsOf book) ≡ commands)
         × (headOf (take siteSize site) .position ≤ length log / entrySize) × (goodTo log n commands (headOf (take siteSize site) .position) ≡ true)
-    end-ready e = (
+    end-ready e places room en = (
       subst (λ (k : ℕ). Good n k (take siteSize site)) (sym e) (judged-log .0 .good),
       judged-log .0 .table,
+      log-noted n f book true site places room en log q z,
       sym e,
       judged-log .1 .position,
       subst (λ (k : ℕ). goodTo log n k (headOf (take siteSize site) .position) ≡ true) (sym e) (judged-log .1 .before),

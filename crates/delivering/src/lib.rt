@@ -14,7 +14,7 @@ ghost use Rattle.layout.specs.Layout.{siteSize, headOf};
 ghost use Rattle.layout.specs.Good.{Good};
 ghost use Rattle.deliver.specs.Delivering.{Noted};
 ghost use Rattle.judging.specs.Outcomes.{outcome};
-ghost use Rattle.delivering.specs.Delivering.{FastDelivered, Ended, fastDeliveryCall, roundEndCall};
+ghost use Rattle.delivering.specs.Delivering.{Ended, fastDeliveryCall, roundEndCall};
 use judging::REFUSED_DISABLED;
 use judging::REFUSED_RANGE;
 use layout::Site;
@@ -22,22 +22,6 @@ use recovery::Decision;
 use refusals::Verdict;
 use sets::Set;
 use table::SiteTable;
-
-// Command m is delivered fast, or the step is refused.
-fn deliver_fast(
-    site: &mut [u8],
-    table: SiteTable,
-    book: &[u8],
-    commands: usize,
-    m: usize,
-) -> Verdict
-    requires { ⌜ Good (table .sites) commands (now site) × (isGood table ≡ true) × (length (commandsOf (now book)) ≡ commands) × (m < commands) ⌝ }
-    ensures { λ r. ⌜ FastDelivered table (commandsOf (now (book .entry))) m (now (site .entry)) r (now (site .exit)) ⌝ }
-{
-    let mut places = [0u16; 64];
-    commands::index(book, commands, &mut places);
-    fast::fast_delivery(site, table, book, &places, commands, m)
-}
 
 // Delivers a command fast.
 pub fn fast_delivery(
@@ -49,7 +33,8 @@ pub fn fast_delivery(
 ) -> u32
     ensures { λ r. ⌜ outcome r (now (site .exit)) ≡ fastDeliveryCall sites faults (now (book .entry)) (now (site .entry)) command ⌝ }
 {
-    let judged = judging::judge_site(true, sites, faults, book, &site[..]);
+    let mut places = [0u16; 64];
+    let judged = judging::note_site(true, sites, faults, book, &site[..], &mut places);
     if judged.code != 0 {
         return judged.code;
     }
@@ -62,7 +47,14 @@ pub fn fast_delivery(
         mask: 0,
     };
     let commands = judged.commands;
-    let verdict = deliver_fast(&mut site[..Site::SIZE], table, book, commands, command);
+    let verdict = fast::fast_delivery(
+        &mut site[..Site::SIZE],
+        table,
+        book,
+        &places,
+        commands,
+        command,
+    );
     refusals::code(verdict)
 }
 
@@ -97,24 +89,29 @@ fn decide(
 }
 
 // The round ends as the log decides, or the step is refused.
-fn end_round(site: &mut [u8], table: SiteTable, book: &[u8], commands: usize, log: &[u8]) -> Verdict
-    requires { ⌜ Good (table .sites) commands (now site) × (isGood table ≡ true) × (length (commandsOf (now book)) ≡ commands)
+fn end_round(
+    site: &mut [u8],
+    table: SiteTable,
+    book: &[u8],
+    places: &[u16],
+    commands: usize,
+    log: &[u8],
+) -> Verdict
+    requires { ⌜ Good (table .sites) commands (now site) × (isGood table ≡ true) × Noted (now book) (now places) × (length (commandsOf (now book)) ≡ commands)
         × (headOf (now site) .position ≤ length (now log) / entrySize)
         × (goodTo (now log) (table .sites) commands (headOf (now site) .position) ≡ true) ⌝ }
     ensures { λ r. ⌜ Ended table (commandsOf (now (book .entry))) (logOf (now (log .entry))) (now (site .entry)) r (now (site .exit)) ⌝ }
 {
-    let mut places = [0u16; 64];
-    commands::index(book, commands, &mut places);
-    let decision = decide(&site[..], table, book, &places, commands, log);
+    let decision = decide(&site[..], table, book, places, commands, log);
     match decision {
         Decision::Undecided => {
             let none = Set::empty();
-            ending::round_end(site, book, &places, commands, false, none, none)
+            ending::round_end(site, book, places, commands, false, none, none)
         }
         Decision::Decided(decided) => {
             let nc = decided.nc;
             let c = decided.c;
-            ending::round_end(site, book, &places, commands, true, nc, c)
+            ending::round_end(site, book, places, commands, true, nc, c)
         }
     }
 }
@@ -123,7 +120,8 @@ fn end_round(site: &mut [u8], table: SiteTable, book: &[u8], commands: usize, lo
 pub fn round_end(sites: usize, faults: usize, book: &[u8], site: &mut [u8], log: &[u8]) -> u32
     ensures { λ r. ⌜ outcome r (now (site .exit)) ≡ roundEndCall sites faults (now (book .entry)) (now (site .entry)) (now (log .entry)) ⌝ }
 {
-    let judged = judging::judge_site_and_log(true, sites, faults, book, &site[..], log);
+    let mut places = [0u16; 64];
+    let judged = judging::note_site_and_log(true, sites, faults, book, &site[..], log, &mut places);
     if judged.code != 0 {
         return judged.code;
     }
@@ -136,6 +134,6 @@ pub fn round_end(sites: usize, faults: usize, book: &[u8], site: &mut [u8], log:
         mask: 0,
     };
     let commands = judged.commands;
-    let verdict = end_round(&mut site[..Site::SIZE], table, book, commands, log);
+    let verdict = end_round(&mut site[..Site::SIZE], table, book, &places, commands, log);
     refusals::code(verdict)
 }

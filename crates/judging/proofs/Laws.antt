@@ -8,17 +8,22 @@ use native.Mathlib.Omega.{arith}
 use lib.Dec.{eqb, leb}
 use lib.ListN.{length, take, length-take}
 use borrow.Author.Tests.{leb-true, eqb-true, eq-eqb, ne-eqb}
-use Rattle.theory.specs.Counting.{left, right, not-true, not-false}
+use lib.Seq.{sets}
+use Rattle.theory.specs.Sets.{pick}
+use Rattle.theory.specs.Counting.{left, right, not-true, not-false, never}
 use Rattle.refusals.specs.declared.Refusal.{Refusal}
 use Rattle.refusals.specs.declared.Refusal.the-variants.{Book, Table, Form, Range, Size}
 use Rattle.refusals.specs.declared.Verdict.{Verdict}
+use Rattle.refusals.specs.declared.Verdict.the-variants.{Taken, Refused}
 use Rattle.refusals.specs.Refusals.{numberOf, codeOf}
 use Rattle.table.specs.declared.SiteTable.{SiteTable}
 use Rattle.table.specs.declared.Judged.the-variants as judged
 use Rattle.table.specs.Table.{maxSites, goodTable, judgeTable}
 use Rattle.table.proofs.Laws.{limits}
+use Rattle.commands.specs.declared.Measured.{Measured}
 use Rattle.commands.specs.declared.Measured.the-variants.{Commands, Unreadable}
-use Rattle.commands.specs.Book.{commandsOf, judgeBook, measureBook}
+use Rattle.commands.specs.Book.{maxCommands, commandsOf, placesOf, judgeBook, measureBook, walkedPlaces}
+use Rattle.commands.proofs.Noting.{note-noted}
 use Rattle.commands.proofs.Walk.{is-counted, not-counted}
 use Rattle.protocol.specs.System.{Demands, granted, _else_⨾_, verdict}
 use Rattle.entries.specs.Entries.{entrySize, goodTo}
@@ -28,8 +33,8 @@ use Rattle.layout.specs.Good.{goodSite}
 use Rattle.lent.proofs.Judged.{site-good}
 use Rattle.judging.specs.Outcomes.{isTaken, _then_}
 use Rattle.judging.specs.declared.Judgement.{Judgement}
-use Rattle.judging.specs.Judging.{anyPosition, entriesIn, isWhole, forTable, forBook, forCall, forSite, forSiteAndLog, Judges}
-use Rattle.judging.proofs.Demands.{Met, met, then-taken, then-code}
+use Rattle.judging.specs.Judging.{anyPosition, entriesIn, isWhole, forTable, forBook, forFirst, forLent, forSite, forSiteAndLog, placesAfter, Judges}
+use Rattle.judging.proofs.Demands.{Met, met, taken-zero, then-taken, then-code}
 
 -- The first bytes of a buffer that is long enough.
 pub first-length : (n : ℕ) (s : List ℕ) → n ≤ length s → n ≡ length (take n s)
@@ -63,14 +68,11 @@ module _ {v : Verdict} (book : List ℕ) {j : Judgement} where
   judges-also h q = record { code = q; taken = h .taken; refused = h .refused }
 
 -- The book that was measured.
-pub book-counted : (s : List ℕ) {j : Judgement} → j .code ≡ 0 → measureBook s ≡ Commands (j .commands) → Judges (verdict (forBook s)) s j
-book-counted s e h =
-    let m = is-counted s h in
-    record { code = e ∙ (λ i. codeOf (verdict (isTaken (m .0 i) else Book ⨾ granted))); taken = λ _. m .1; refused = λ n. absurd (n e) }
+pub book-counted : (s : List ℕ) {n : ℕ} → measureBook s ≡ Commands n → 0 ≡ codeOf (verdict (forBook s))
+book-counted s h = λ i. codeOf (verdict (isTaken (is-counted s h .0 i) else Book ⨾ granted))
 
-pub book-refused : (s : List ℕ) {j : Judgement} → (j .code ≡ 1) × (j .commands ≡ 0) → measureBook s ≡ Unreadable → Judges (verdict (forBook s)) s j
-book-refused s e h =
-    judges-refused s e (λ i. codeOf (verdict (isTaken (not-counted s h .0 i) else Book ⨾ granted))) (λ z. omega arith)
+pub book-refused : (s : List ℕ) → measureBook s ≡ Unreadable → 1 ≡ codeOf (verdict (forBook s))
+book-refused s h = λ i. codeOf (verdict (isTaken (not-counted s h .0 i) else Book ⨾ granted))
 
 -- A demand that does not hold, and one that does.
 pub demand-not : (t : Bool) (r : Refusal) (d : Demands) → not t ≡ true → numberOf r ≡ codeOf (verdict (t else r ⨾ d))
@@ -79,97 +81,135 @@ demand-not t r d h = λ i. codeOf (verdict (sym (not-true t h) i else r ⨾ d))
 pub demand-met : (t : Bool) (r : Refusal) (d : Demands) → not t ≡ false → verdict (t else r ⨾ d) ≡ verdict d
 demand-met t r d h = λ i. verdict (not-false t h i else r ⨾ d)
 
+-- After demands that are met, others answer.
+pub then-answer : (d e : Demands) {k l : ℕ} → k ≡ codeOf (verdict d) → k ≡ 0 → l ≡ codeOf (verdict e) → l ≡ codeOf (verdict (d then e))
+then-answer d e q z p = p ∙ ap codeOf (sym (then-taken d e q z))
+
+-- ---- the book, the log's form and the site
+
+module _ (n : ℕ) (book : List ℕ) (whole : Bool) (entries : ℕ) (site : List ℕ) where
+  pub lent-unreadable : {j : Judgement} → (j .code ≡ 1) × (j .commands ≡ 0) → measureBook book ≡ Unreadable → Judges (verdict (forLent n book whole entries site)) book j
+  lent-unreadable e h =
+      judges-refused book e
+      (then-code (forBook book) (whole else Form ⨾ goodSite n (length (commandsOf book)) entries site else Range ⨾ granted) (book-refused book h) (λ z. omega arith)) (λ z. omega arith)
+
+  module _ {commands : ℕ} (h : measureBook book ≡ Commands commands) where
+    by-rest : {k : ℕ} → k ≡ codeOf (verdict (whole else Form ⨾ goodSite n (length (commandsOf book)) entries site else Range ⨾ granted))
+        → k ≡ codeOf (verdict (forLent n book whole entries site))
+    by-rest q = then-answer (forBook book) (whole else Form ⨾ goodSite n (length (commandsOf book)) entries site else Range ⨾ granted) (book-counted book h) refl q
+
+    good-by : {t : Bool} → t ≡ goodSite n commands entries site → goodSite n (length (commandsOf book)) entries site ≡ t
+    good-by e = ap (λ (c : ℕ). goodSite n c entries site) (sym (is-counted book h .1)) ∙ sym e
+
+    pub lent-cut : {j : Judgement} → (j .code ≡ 3) × (j .commands ≡ 0) → not whole ≡ true → Judges (verdict (forLent n book whole entries site)) book j
+    lent-cut e w =
+        judges-refused book e (by-rest (demand-not whole Form (goodSite n (length (commandsOf book)) entries site else Range ⨾ granted) w)) (λ z. omega arith)
+
+    module _ (w : not whole ≡ false) {t : Bool} (et : t ≡ goodSite n commands entries site) where
+      by-site : {k : ℕ} → k ≡ codeOf (verdict (t else Range ⨾ granted)) → k ≡ codeOf (verdict (forLent n book whole entries site))
+      by-site q =
+          by-rest
+          (q
+          ∙ (λ i. codeOf (verdict (sym (good-by et) i else Range ⨾ granted)))
+          ∙ ap codeOf (sym (demand-met whole Form (goodSite n (length (commandsOf book)) entries site else Range ⨾ granted) w)))
+
+      pub lent-bad : {j : Judgement} → (j .code ≡ 4) × (j .commands ≡ 0) → not t ≡ true → Judges (verdict (forLent n book whole entries site)) book j
+      lent-bad e b = judges-refused book e (by-site (demand-not t Range granted b)) (λ z. omega arith)
+
+      pub lent-good : {j : Judgement} → j .code ≡ 0 → j .commands ≡ commands → not t ≡ false → Judges (verdict (forLent n book whole entries site)) book j
+      lent-good e c b =
+          record { code = e ∙ by-site (ap codeOf (sym (demand-met t Range granted b))); taken = λ _. c ∙ is-counted book h .1; refused = λ z. absurd (z e) }
+
+-- ---- a lent site
+
+-- Without a log there is none that is cut.
+no-log : (t : Bool) (d : Demands) → verdict (t else Book ⨾ true else Form ⨾ d) ≡ verdict (t else Book ⨾ d)
+no-log true d = refl
+no-log false d = refl
+
+module _ (n f : ℕ) (sized : Bool) (book places : List ℕ) {k : ℕ} (q : k ≡ codeOf (verdict (forFirst n f sized))) where
+  -- The places where the call is refused before its book, and where it is not.
+  pub places-kept : (k ≡ 0 → ⊥) → places ≡ placesAfter n f book sized places
+  places-kept z = go (verdict (forFirst n f sized)) q
+    where
+      go : (v : Verdict) → k ≡ codeOf v → places ≡ pick (isTaken v) (sets places 0 (walkedPlaces book)) places
+      go Taken e = absurd (z e)
+      go (Refused r) e = refl
+
+  pub places-noted : k ≡ 0 → sets places 0 (walkedPlaces book) ≡ placesAfter n f book sized places
+  places-noted z = λ i. pick (isTaken (sym (taken-zero (verdict (forFirst n f sized)) (sym q ∙ z)) i)) (sets places 0 (walkedPlaces book)) places
+
+  pub first-few : k ≡ 0 → n ≤ maxSites
+  first-few z = limits n f 0 (met (forFirst n f sized) q z .1 .0) .sites
+
 module _ (n f : ℕ) (book : List ℕ) where
-  pub call-table : (t : Bool) {k : ℕ} → not t ≡ false → k ≡ codeOf (verdict (forTable n f 0)) → (k ≡ 0 → ⊥) → k ≡ codeOf (verdict (forCall n f book t))
-  call-table t h q z = then-code (forTable n f 0) (forBook book) q z ∙ ap codeOf (sym (demand-met t Size (forTable n f 0 then forBook book) h))
+  module _ (enough : Bool) (site : List ℕ) {k : ℕ} (q : k ≡ codeOf (verdict (forFirst n f (enough && leb siteSize (length site))))) where
+    pub site-first : {j : Judgement} → (j .code ≡ k) × (j .commands ≡ 0) → (k ≡ 0 → ⊥) → Judges (verdict (forSite n f book enough site)) book j
+    site-first e z =
+        judges-refused book e
+        (then-code (forFirst n f (enough && leb siteSize (length site)))
+        (isTaken (judgeBook book) else Book ⨾ goodSite n (length (commandsOf book)) anyPosition (take siteSize site) else Range ⨾ granted) q z) z
 
-  pub call-book : (t : Bool) {k l : ℕ} → not t ≡ false → k ≡ codeOf (verdict (forTable n f 0)) → k ≡ 0 → l ≡ codeOf (verdict (forBook book))
-      → l ≡ codeOf (verdict (forCall n f book t))
-  call-book t h q z p =
-      p ∙ ap codeOf (sym (demand-met t Size (forTable n f 0 then forBook book) h ∙ then-taken (forTable n f 0) (forBook book) q z))
-
-  -- ---- a lent site
-
-  -- The first demands of a call with a site are met or not.
-  module _ (enough : Bool) (site : List ℕ) {k : ℕ} (q : k ≡ codeOf (verdict (forCall n f book (enough && leb siteSize (length site))))) where
-    pub site-first : (k ≡ 0 → ⊥) → k ≡ codeOf (verdict (forSite n f book enough site))
-    site-first z =
-        then-code (forCall n f book (enough && leb siteSize (length site)))
-        (goodSite n (length (commandsOf book)) anyPosition (take siteSize site) else Range ⨾ granted) q z
-
-    pub log-first : (log : List ℕ) → (k ≡ 0 → ⊥) → k ≡ codeOf (verdict (forSiteAndLog n f book enough site log))
-    log-first log z =
-        then-code (forCall n f book (enough && leb siteSize (length site)))
-        (isWhole log else Form
-        ⨾ goodSite n (length (commandsOf book)) (entriesIn log) (take siteSize site) else Range
-        ⨾ goodTo log n (length (commandsOf book)) (headOf (take siteSize site) .position) else Range
-        ⨾ granted) q z
+    pub log-first : (log : List ℕ) {j : Judgement} → (j .code ≡ k) × (j .commands ≡ 0) → (k ≡ 0 → ⊥) → Judges (verdict (forSiteAndLog n f book enough site log)) book j
+    log-first log e z =
+        judges-refused book e
+        (then-code (forFirst n f (enough && leb siteSize (length site)))
+        (forLent n book (isWhole log) (entriesIn log) (take siteSize site)
+        then goodTo log n (length (commandsOf book)) (headOf (take siteSize site) .position) else Range ⨾ granted) q z) z
 
     module _ (z : k ≡ 0) where
-      pub first-few : n ≤ maxSites
-      first-few = limits n f 0 (met (forCall n f book (enough && leb siteSize (length site))) q z .1 .0) .sites
-
       pub first-sized : siteSize ≤ length site
-      first-sized = leb-true siteSize (length site) (right enough (leb siteSize (length site)) (met (forCall n f book (enough && leb siteSize (length site))) q z .0))
+      first-sized = leb-true siteSize (length site) (right enough (leb siteSize (length site)) (met (forFirst n f (enough && leb siteSize (length site))) q z .0))
 
-      module _ {commands : ℕ} (ec : commands ≡ length (commandsOf book)) where
-        good-by : (entries : ℕ) {t : Bool} → t ≡ goodSite n commands entries (take siteSize site)
-            → goodSite n (length (commandsOf book)) entries (take siteSize site) ≡ t
-        good-by entries e = ap (λ (c : ℕ). goodSite n c entries (take siteSize site)) (sym ec) ∙ sym e
+      pub site-judges : {j : Judgement} → Judges (verdict (forLent n book true anyPosition (take siteSize site))) book j → Judges (verdict (forSite n f book enough site)) book j
+      site-judges h =
+          judges-also book h
+          (then-answer (forFirst n f (enough && leb siteSize (length site)))
+          (isTaken (judgeBook book) else Book ⨾ goodSite n (length (commandsOf book)) anyPosition (take siteSize site) else Range ⨾ granted) q z
+          (h .code ∙ ap codeOf (no-log (isTaken (judgeBook book)) (goodSite n (length (commandsOf book)) anyPosition (take siteSize site) else Range ⨾ granted))))
 
-        pub site-range : {t : Bool} → t ≡ goodSite n commands anyPosition (take siteSize site) → not t ≡ true
-            → 4 ≡ codeOf (verdict (forSite n f book enough site))
-        site-range {t} e h =
-            sym (ap codeOf (then-taken (forCall n f book (enough && leb siteSize (length site)))
-            (goodSite n (length (commandsOf book)) anyPosition (take siteSize site) else Range ⨾ granted) q z)
-            ∙ (λ i. codeOf (verdict ((good-by anyPosition e ∙ not-true t h) i else Range ⨾ granted))))
+      -- ---- a lent log
 
-        pub site-taken : {t : Bool} → t ≡ goodSite n commands anyPosition (take siteSize site) → not t ≡ false
-            → 0 ≡ codeOf (verdict (forSite n f book enough site))
-        site-taken {t} e h =
-            sym (ap codeOf (then-taken (forCall n f book (enough && leb siteSize (length site)))
-            (goodSite n (length (commandsOf book)) anyPosition (take siteSize site) else Range ⨾ granted) q z)
-            ∙ (λ i. codeOf (verdict ((good-by anyPosition e ∙ not-false t h) i else Range ⨾ granted))))
+      module _ (log : List ℕ) {j : Judgement} (h : Judges (verdict (forLent n book (isWhole log) (entriesIn log) (take siteSize site))) book j) where
+        -- By the demand on the entries that the site has read.
+        with-log : {l : ℕ}
+            → l ≡ codeOf (verdict (forLent n book (isWhole log) (entriesIn log) (take siteSize site) then goodTo log n (length (commandsOf book)) (headOf (take siteSize site) .position) else Range ⨾ granted))
+            → l ≡ codeOf (verdict (forSiteAndLog n f book enough site log))
+        with-log p =
+            then-answer (forFirst n f (enough && leb siteSize (length site)))
+            (forLent n book (isWhole log) (entriesIn log) (take siteSize site)
+            then goodTo log n (length (commandsOf book)) (headOf (take siteSize site) .position) else Range ⨾ granted) q z p
 
-        module _ (log : List ℕ) where
-          log-rest : (a b c : Bool) → isWhole log ≡ a → goodSite n (length (commandsOf book)) (entriesIn log) (take siteSize site) ≡ b
-              → goodTo log n (length (commandsOf book)) (headOf (take siteSize site) .position) ≡ c
-              → codeOf (verdict (forSiteAndLog n f book enough site log)) ≡ codeOf (verdict (a else Form ⨾ b else Range ⨾ c else Range ⨾ granted))
-          log-rest a b c ea eb ec =
-              ap codeOf (then-taken (forCall n f book (enough && leb siteSize (length site)))
-              (isWhole log else Form
-              ⨾ goodSite n (length (commandsOf book)) (entriesIn log) (take siteSize site) else Range
-              ⨾ goodTo log n (length (commandsOf book)) (headOf (take siteSize site) .position) else Range
-              ⨾ granted) q z)
-              ∙ (λ i. codeOf (verdict (ea i else Form ⨾ eb i else Range ⨾ ec i else Range ⨾ granted)))
+        pub log-refused : (j .code ≡ 0 → ⊥) → Judges (verdict (forSiteAndLog n f book enough site log)) book j
+        log-refused y =
+            judges-also book h
+            (with-log
+            (then-code (forLent n book (isWhole log) (entriesIn log) (take siteSize site))
+            (goodTo log n (length (commandsOf book)) (headOf (take siteSize site) .position) else Range ⨾ granted) (h .code) y))
 
-          pub log-form : (length log % entrySize ≡ 0 → ⊥) → 3 ≡ codeOf (verdict (forSiteAndLog n f book enough site log))
-          log-form h = sym (log-rest false _ _ (ne-eqb (length log % entrySize) 0 h) refl refl)
+        module _ (y : j .code ≡ 0) where
+          pub log-position : {p : ℕ} → p ≡ headOf (take siteSize site) .position → p * entrySize ≤ length log
+          unfolding headOf
+          log-position {p} ep =
+              let g : p ≤ length log / entrySize =
+              subst (λ (x : ℕ). x ≤ length log / entrySize) (sym ep)
+              (site-good (take siteSize site) n (length (commandsOf book)) (entriesIn log)
+              (met (forLent n book (isWhole log) (entriesIn log) (take siteSize site)) (h .code) y .1 .1 .0) .1) in
+              omega arith
 
-          module _ (w : length log % entrySize ≡ 0) {t : Bool} (e : t ≡ goodSite n commands (entriesIn log) (take siteSize site)) where
-            pub log-site : not t ≡ true → 4 ≡ codeOf (verdict (forSiteAndLog n f book enough site log))
-            log-site h = sym (log-rest true false _ (eq-eqb (length log % entrySize) 0 w) (good-by (entriesIn log) e ∙ not-true t h) refl)
+          module _ {p : ℕ} (ep : p ≡ headOf (take siteSize site) .position) {u : Bool} (eu : u ≡ goodTo log n (j .commands) p) where
+            by-entries : {l : ℕ} → l ≡ codeOf (verdict (u else Range ⨾ granted)) → l ≡ codeOf (verdict (forSiteAndLog n f book enough site log))
+            by-entries p =
+                with-log
+                (then-answer (forLent n book (isWhole log) (entriesIn log) (take siteSize site))
+                (goodTo log n (length (commandsOf book)) (headOf (take siteSize site) .position) else Range ⨾ granted) (h .code) y
+                (p ∙ (λ i. codeOf (verdict ((eu ∙ (λ l. goodTo log n (h .taken y l) (ep l))) i else Range ⨾ granted)))))
 
-            module _ (h : not t ≡ false) where
-              pub log-position : {p : ℕ} → p ≡ headOf (take siteSize site) .position → p * entrySize ≤ length log
-              unfolding headOf
-              log-position {p} ep =
-                  let g : p ≤ length log / entrySize =
-                  subst (λ (x : ℕ). x ≤ length log / entrySize) (sym ep)
-                  (site-good (take siteSize site) n (length (commandsOf book)) (entriesIn log) (good-by (entriesIn log) e ∙ not-false t h) .1) in
-                  omega arith
+            pub log-entries : {m : Judgement} → (m .code ≡ 4) × (m .commands ≡ 0) → not u ≡ true → Judges (verdict (forSiteAndLog n f book enough site log)) book m
+            log-entries e b = judges-refused book e (by-entries (demand-not u Range granted b)) (λ x. omega arith)
 
-              module _ {p : ℕ} (ep : p ≡ headOf (take siteSize site) .position) {u : Bool} (eu : u ≡ goodTo log n commands p) where
-                good-to : goodTo log n (length (commandsOf book)) (headOf (take siteSize site) .position) ≡ u
-                good-to = (λ i. goodTo log n (sym ec i) (sym ep i)) ∙ sym eu
-
-                pub log-entries : not u ≡ true → 4 ≡ codeOf (verdict (forSiteAndLog n f book enough site log))
-                log-entries m =
-                    sym (log-rest true true false (eq-eqb (length log % entrySize) 0 w) (good-by (entriesIn log) e ∙ not-false t h) (good-to ∙ not-true u m))
-
-                pub log-taken : not u ≡ false → 0 ≡ codeOf (verdict (forSiteAndLog n f book enough site log))
-                log-taken m =
-                    sym (log-rest true true true (eq-eqb (length log % entrySize) 0 w) (good-by (entriesIn log) e ∙ not-false t h) (good-to ∙ not-false u m))
+            pub log-taken : not u ≡ false → Judges (verdict (forSiteAndLog n f book enough site log)) book j
+            log-taken b = judges-also book h (y ∙ by-entries (ap codeOf (sym (demand-met u Range granted b))))
 
   -- ---- what a call knows once it was judged
 
@@ -217,3 +257,31 @@ module _ (n f : ℕ) (book : List ℕ) where
         },
         record { whole = eqb-true (length log % entrySize) 0 (m .1 .1 .1 .0); position = g .1; before = m .1 .1 .1 .1 .1 .0 },
       )
+
+-- ---- the noted places of a call that was judged
+
+-- Room for the places of the longest book.
+pub full-room : maxCommands ≤ 64
+full-room = omega arith
+
+-- A book that is taken was counted.
+counted : (s : List ℕ) → isTaken (judgeBook s) ≡ true → (n : ℕ) × (measureBook s ≡ Commands n)
+counted s e = go (measureBook s) refl
+  where
+    go : (m : Measured) → measureBook s ≡ m → (n : ℕ) × (measureBook s ≡ Commands n)
+    go (Commands n) h = (n, h)
+    go Unreadable h = absurd (never (isTaken (judgeBook s)) e (ap isTaken (sym (not-counted s h .0))))
+
+module _ (n f : ℕ) (book : List ℕ) (enough : Bool) (site places : List ℕ) {after : List ℕ} (room : maxCommands ≤ length places)
+    (e : after ≡ placesAfter n f book (enough && leb siteSize (length site)) places) where
+  noted : (enough && leb siteSize (length site)) ≡ true → Judged n f book site → take (length (commandsOf book)) after ≡ placesOf book
+  noted h j =
+      let m = counted book (j .listed) in
+      note-noted book places room (m .1)
+      (e ∙ (λ i. pick (isTaken (verdict (h i else Size ⨾ j .table i else Table ⨾ granted))) (sets places 0 (walkedPlaces book)) places))
+
+  pub site-noted : {k : ℕ} → k ≡ codeOf (verdict (forSite n f book enough site)) → k ≡ 0 → take (length (commandsOf book)) after ≡ placesOf book
+  site-noted q z = noted (met (forSite n f book enough site) q z .0) (site-judged n f book enough site q z .1)
+
+  pub log-noted : (log : List ℕ) {k : ℕ} → k ≡ codeOf (verdict (forSiteAndLog n f book enough site log)) → k ≡ 0 → take (length (commandsOf book)) after ≡ placesOf book
+  log-noted log q z = noted (met (forSiteAndLog n f book enough site log) q z .0) (log-judged n f book enough site log q z .1)

@@ -6,13 +6,15 @@ use mathlib.Core.List.{List, _++_}
 use Prim.Native.Nat.{ℕ, _/_, _%_}
 use lib.Dec.{eqb, leb}
 use lib.ListN.{length, take, drop}
+use lib.Seq.{sets}
+use Rattle.theory.specs.Sets.{pick}
 use Rattle.refusals.specs.declared.Refusal.the-variants.{Book, Table, Form, Range, Size}
 use Rattle.refusals.specs.declared.Verdict.{Verdict}
 use Rattle.refusals.specs.Refusals.{codeOf}
 use Rattle.table.specs.declared.SiteTable.{SiteTable}
 use Rattle.table.specs.Table.{goodTable}
-use Rattle.commands.specs.Book.{commandsOf, judgeBook}
-use Rattle.protocol.specs.System.{System, Demands, granted, _else_⨾_}
+use Rattle.commands.specs.Book.{commandsOf, judgeBook, walkedPlaces}
+use Rattle.protocol.specs.System.{System, Demands, granted, _else_⨾_, verdict}
 use Rattle.protocol.specs.Site as protocol
 use Rattle.system.specs.Dash.{dash}
 use Rattle.entries.specs.Entries.{entrySize, goodTo}
@@ -50,6 +52,22 @@ forTable sites faults mask = goodTable sites faults mask else Table ⨾ granted
 abbrev pub forBook : List ℕ → Demands
 forBook book = isTaken (judgeBook book) else Book ⨾ granted
 
+-- Sizes and the site table, which every call judges first.
+abbrev pub forFirst : ℕ → ℕ → Bool → Demands
+forFirst sites faults sized = sized else Size ⨾ goodTable sites faults 0 else Table ⨾ granted
+
+-- After them: the book, the log's form, and the site, for so many log entries.
+abbrev pub forLent : ℕ → List ℕ → Bool → ℕ → List ℕ → Demands
+forLent sites book whole entries site =
+    isTaken (judgeBook book) else Book
+    ⨾ whole else Form
+    ⨾ goodSite sites (length (commandsOf book)) entries site else Range
+    ⨾ granted
+
+-- The noted places after a call was judged: those that a walk through the book comes to, where it came to the book.
+abbrev pub placesAfter : ℕ → ℕ → List ℕ → Bool → List ℕ → List ℕ
+placesAfter sites faults book sized places = pick (isTaken (verdict (forFirst sites faults sized))) (sets places 0 (walkedPlaces book)) places
+
 module _ (sites faults : ℕ) (book : List ℕ) where
   -- The system that a site belongs to.
   abbrev pub systemOf : System
@@ -62,10 +80,6 @@ module _ (sites faults : ℕ) (book : List ℕ) where
   -- The lent bytes with another site in them; what is past the site stays.
   abbrev pub withSite : List ℕ → protocol.Site systemOf → List ℕ
   withSite site s = encode (tableOf sites faults) (commandsOf book) s ++ drop siteSize site
-
-  -- What every call judges first.
-  abbrev pub forCall : Bool → Demands
-  forCall sized = sized else Size ⨾ goodTable sites faults 0 else Table ⨾ isTaken (judgeBook book) else Book ⨾ granted
 
   -- What a call that is lent a site judges. The other buffers that it is lent are long enough or not.
   abbrev pub forSite : Bool → List ℕ → Demands

@@ -1,10 +1,16 @@
 // What every call judges of what it is lent, in document 01's order: sizes (9), the site table (2), the book (1), the log's form (3), the site (4).
 ghost use mathlib.Core.Path.{_≡_};
+ghost use mathlib.Core.Bool.{_&&_};
+ghost use Prim.Native.Nat.{_≤_};
+ghost use lib.Dec.{leb};
 ghost use lib.ListN.{length};
+ghost use lib.Seq.{sets};
+ghost use Rattle.table.specs.Table.{maxSites};
+ghost use Rattle.commands.specs.Book.{maxCommands, walkedPlaces};
 ghost use Rattle.layout.specs.Layout.{siteSize, headOf};
 ghost use Rattle.refusals.specs.Refusals.{codeOf};
 ghost use Rattle.protocol.specs.System.{verdict};
-ghost use Rattle.judging.specs.Judging.{forTable, forBook, forCall, forSite, forSiteAndLog, Judges};
+ghost use Rattle.judging.specs.Judging.{forTable, forBook, forFirst, forLent, forSite, forSiteAndLog, placesAfter, Judges};
 use commands::Measured;
 use entries::Entry;
 use layout::Site;
@@ -49,55 +55,115 @@ fn refused(code: u32) -> Judgement
     Judgement { code, commands: 0 }
 }
 
-// Whether bytes are a book, and how many commands it has: 0 or 1.
-fn count_book(book: &[u8]) -> Judgement
-    ensures { λ r. ⌜ Judges (verdict (forBook (now (book .entry)))) (now (book .entry)) r ⌝ }
-{
-    let measured = commands::measure(book);
-    match measured {
-        Measured::Commands(commands) => Judgement { code: 0, commands },
-        Measured::Unreadable => refused(REFUSED_BOOK),
-    }
-}
-
 // Whether bytes are a book: 0 or 1.
 pub fn judge_book(book: &[u8]) -> u32
     ensures { λ r. ⌜ r ≡ codeOf (verdict (forBook (now (book .entry)))) ⌝ }
 {
-    let judged = count_book(book);
-    judged.code
+    let measured = commands::measure(book);
+    match measured {
+        Measured::Commands(_) => 0,
+        Measured::Unreadable => REFUSED_BOOK,
+    }
 }
 
-// Sizes, the site table and the book: 0, 9, 2 or 1.
-fn judge_first(sized: bool, sites: usize, faults: usize, book: &[u8]) -> Judgement
-    ensures { λ r. ⌜ Judges (verdict (forCall sites faults (now (book .entry)) sized)) (now (book .entry)) r ⌝ }
+// Sizes and the site table: 0, 9 or 2.
+fn judge_first(sized: bool, sites: usize, faults: usize) -> u32
+    ensures { λ r. ⌜ r ≡ codeOf (verdict (forFirst sites faults sized)) ⌝ }
 {
     if !sized {
-        return refused(REFUSED_SIZE);
+        return REFUSED_SIZE;
     }
-    let table = judge_table(sites, faults, 0);
-    if table != 0 {
-        return refused(table);
-    }
-    count_book(book)
+    judge_table(sites, faults, 0)
 }
 
-// What a call that is lent a site judges; `enough`: its other buffers are long enough. 0, 9, 2, 1 or 4.
+// The book, the log's form and the site, for so many log entries: 0, 1, 3 or 4. The places that a walk through the book comes to are noted.
+fn note_lent(
+    sites: usize,
+    book: &[u8],
+    site: &[u8],
+    whole: bool,
+    entries: usize,
+    places: &mut [u16],
+) -> Judgement
+    requires { ⌜ (sites ≤ maxSites) × (maxCommands ≤ length (now places)) ⌝ }
+    ensures { λ r. ⌜ Judges (verdict (forLent sites (now (book .entry)) whole entries (now (site .entry)))) (now (book .entry)) r
+        × (now (places .exit) ≡ sets (now (places .entry)) 0 (walkedPlaces (now (book .entry)))) ⌝ }
+{
+    let measured = commands::note(book, places);
+    let Measured::Commands(commands) = measured else {
+        return refused(REFUSED_BOOK);
+    };
+    if !whole {
+        return refused(REFUSED_FORM);
+    }
+    if !lent::judge(site, sites, commands, entries) {
+        return refused(REFUSED_RANGE);
+    }
+    Judgement { code: 0, commands }
+}
+
+// What a call that is lent a site judges, with the places of the book's commands noted; `enough`: its other buffers are long enough. 0, 9, 2, 1 or 4.
+pub fn note_site(
+    enough: bool,
+    sites: usize,
+    faults: usize,
+    book: &[u8],
+    site: &[u8],
+    places: &mut [u16],
+) -> Judgement
+    requires { ⌜ maxCommands ≤ length (now places) ⌝ }
+    ensures { λ r. ⌜ Judges (verdict (forSite sites faults (now (book .entry)) enough (now (site .entry)))) (now (book .entry)) r
+        × (now (places .exit) ≡ placesAfter sites faults (now (book .entry)) (enough && leb siteSize (length (now (site .entry)))) (now (places .entry))) ⌝ }
+{
+    let sized = enough & (site.len() >= Site::SIZE);
+    let first = judge_first(sized, sites, faults);
+    if first != 0 {
+        return refused(first);
+    }
+    note_lent(sites, book, &site[..Site::SIZE], true, ANY_POSITION, places)
+}
+
+// The same without the places.
 pub fn judge_site(enough: bool, sites: usize, faults: usize, book: &[u8], site: &[u8]) -> Judgement
     ensures { λ r. ⌜ Judges (verdict (forSite sites faults (now (book .entry)) enough (now (site .entry)))) (now (book .entry)) r ⌝ }
 {
-    let sized = enough & (site.len() >= Site::SIZE);
-    let first = judge_first(sized, sites, faults, book);
-    if first.code != 0 {
-        return first;
-    }
-    if !lent::judge(&site[..Site::SIZE], sites, first.commands, ANY_POSITION) {
-        return refused(REFUSED_RANGE);
-    }
-    first
+    let mut places = [0u16; 64];
+    note_site(enough, sites, faults, book, site, &mut places)
 }
 
-// What a call that is lent a site and the log judges. 0, 9, 2, 1, 3 or 4.
+// What a call that is lent a site and the log judges, with the places of the book's commands noted. 0, 9, 2, 1, 3 or 4.
+pub fn note_site_and_log(
+    enough: bool,
+    sites: usize,
+    faults: usize,
+    book: &[u8],
+    site: &[u8],
+    log: &[u8],
+    places: &mut [u16],
+) -> Judgement
+    requires { ⌜ maxCommands ≤ length (now places) ⌝ }
+    ensures { λ r. ⌜ Judges (verdict (forSiteAndLog sites faults (now (book .entry)) enough (now (site .entry)) (now (log .entry)))) (now (book .entry)) r
+        × (now (places .exit) ≡ placesAfter sites faults (now (book .entry)) (enough && leb siteSize (length (now (site .entry)))) (now (places .entry))) ⌝ }
+{
+    let sized = enough & (site.len() >= Site::SIZE);
+    let first = judge_first(sized, sites, faults);
+    if first != 0 {
+        return refused(first);
+    }
+    let whole = log.len() % Entry::BYTES == 0;
+    let entries = log.len() / Entry::BYTES;
+    let judged = note_lent(sites, book, &site[..Site::SIZE], whole, entries, places);
+    if judged.code != 0 {
+        return judged;
+    }
+    let position = position_of(&site[..Site::SIZE]);
+    if !entries::judge_prefix(log, position, sites, judged.commands) {
+        return refused(REFUSED_RANGE);
+    }
+    judged
+}
+
+// The same without the places.
 pub fn judge_site_and_log(
     enough: bool,
     sites: usize,
@@ -108,23 +174,8 @@ pub fn judge_site_and_log(
 ) -> Judgement
     ensures { λ r. ⌜ Judges (verdict (forSiteAndLog sites faults (now (book .entry)) enough (now (site .entry)) (now (log .entry)))) (now (book .entry)) r ⌝ }
 {
-    let sized = enough & (site.len() >= Site::SIZE);
-    let first = judge_first(sized, sites, faults, book);
-    if first.code != 0 {
-        return first;
-    }
-    if log.len() % Entry::BYTES != 0 {
-        return refused(REFUSED_FORM);
-    }
-    let entries = log.len() / Entry::BYTES;
-    if !lent::judge(&site[..Site::SIZE], sites, first.commands, entries) {
-        return refused(REFUSED_RANGE);
-    }
-    let position = position_of(&site[..Site::SIZE]);
-    if !entries::judge_prefix(log, position, sites, first.commands) {
-        return refused(REFUSED_RANGE);
-    }
-    first
+    let mut places = [0u16; 64];
+    note_site_and_log(enough, sites, faults, book, site, log, &mut places)
 }
 
 // The log position of a site.

@@ -1,33 +1,34 @@
 -- What a turn writes, and what its call answers: one law an answer.
 -- Assumes nothing.
-use mathlib.Core.Path.{_≡_, refl, sym, ap, _∙_}
-use mathlib.Core.Bool.{Bool, true, false, not}
-use mathlib.Core.List.{List, _++_, append-nil}
+use mathlib.Core.Path.{_≡_, refl, sym, ap, subst, _∙_}
+use mathlib.Core.Bool.{Bool, true, false, not, _&&_, _||_}
+use mathlib.Core.List.{List, [], _++_, append-nil}
 use Prim.Native.Nat.{ℕ, _+_, _*_, _/_, _≤_, _<_}
 use native.Mathlib.Omega.{arith}
 use lib.Dec.{leb, ltb}
 use lib.ListN.{length, take, drop, getD, length-take, length-drop, drop-of-length-le}
 use borrow.Author.Tests.{lt-ltb, le-ltb, leb-true}
 use borrow.Rule.Slice.PartMut.{putMid}
-use Rattle.theory.specs.Sets.{pick}
+use Rattle.theory.specs.Sets.{pick, any}
 use Rattle.theory.specs.Counting.{not-true}
 use Rattle.wire.specs.Wire.{bytes, splice}
 use Rattle.wire.proofs.Laws.{mid-splice}
 use Rattle.refusals.specs.declared.Refusal.{Refusal}
-use Rattle.refusals.specs.declared.Refusal.the-variants.{Range, Disabled}
+use Rattle.refusals.specs.declared.Refusal.the-variants.{Range, Disabled, ThirdEntry, LastRound}
 use Rattle.refusals.specs.declared.Verdict.{Verdict}
 use Rattle.refusals.specs.declared.Verdict.the-variants.{Taken, Refused}
 use Rattle.refusals.specs.Refusals.{numberOf, codeOf}
 use Rattle.sets.specs.declared.Set.{Set}
-use Rattle.sets.specs.Sets.{capacity, inSet, setOf, setBytes, withoutOf, readSet, writeSet}
+use Rattle.sets.specs.Sets.{capacity, inSet, setOf, setBytes, withoutOf, withinOf, readSet, writeSet}
 use Rattle.sets.proofs.Laws.{in-without}
 use Rattle.table.specs.declared.SiteTable.{SiteTable}
-use Rattle.commands.specs.Book.{commandsOf}
+use Rattle.register.specs.declared.Command.{Command}
+use Rattle.commands.specs.Book.{maxCommands, commandsOf, placesOf}
 use Rattle.conflicts.specs.Conflicts.{conflictRows}
-use Rattle.protocol.specs.System.{_else_⨾_, verdict, free}
-use Rattle.protocol.specs.Recovery.{entries}
+use Rattle.protocol.specs.System.{granted, _else_⨾_, verdict, free}
+use Rattle.protocol.specs.Recovery.{Log, entries}
 use Rattle.protocol.specs.Site as protocol
-use Rattle.system.specs.Dash.{dash}
+use Rattle.system.specs.Dash.{dash, lastRound}
 use Rattle.calm.specs.Rows.{freeBy}
 use Rattle.calm.proofs.Same.{free-rows}
 use Rattle.entries.specs.declared.Entry.{Entry}
@@ -35,31 +36,80 @@ use Rattle.entries.specs.Entries.{entrySize, entryBytes, writeEntry, logTo, log
 use Rattle.entries.proofs.Bytes.{length-entry}
 use Rattle.layout.specs.declared.Proposal.{Proposal}
 use Rattle.layout.specs.Layout.{siteSize, receivedPlace, deliveredPlace, headOf, view}
-use Rattle.layout.specs.Good.{Holds}
+use Rattle.layout.specs.Good.{Good, Holds}
 use Rattle.layout.specs.Step.{settled}
 use Rattle.layout.proofs.Header.{next}
+use Rattle.layout.proofs.Tables.{within-without}
 use Rattle.site.specs.declared.Turn.{Turn}
 use Rattle.site.specs.declared.Turn.the-variants as turn
 use Rattle.site.specs.Steps.{hasTurn, answerTo, Turned, TookTurn}
 use Rattle.site.proofs.Turning.{third-entry, no-turn}
 use Rattle.judging.specs.Outcomes.{Outcome, outcome, answered, _then_}
-use Rattle.judging.specs.Judging.{tableOf, systemOf, siteIn, withSite, forSiteAndLog}
+use Rattle.judging.specs.Judging.{tableOf, systemOf, siteIn, withSite, forSiteAndLog, placesAfter}
 use Rattle.judging.proofs.Demands.{then-taken, then-refused, answered-refused}
-use Rattle.judging.proofs.Laws.{Judged, log-judged}
+use Rattle.judging.proofs.Laws.{Judged, log-judged, log-noted}
 use Rattle.judging.proofs.Steps.{first-small, written, as-before}
 use Rattle.turning.specs.Turning.{turnSize, buffers, acknowledgmentBytes, proposalBytes, entryFor, entryOf, sentBytes, turned, sent, turnCall}
 
 -- ---- the conflict test
 
-pub calm : (book site rows : List ℕ) {received delivered x : Set} {r : Bool} → rows ≡ conflictRows book → received ≡ readSet site receivedPlace
-    → delivered ≡ readSet site deliveredPlace → x ≡ withoutOf received delivered → r ≡ freeBy rows (inSet x)
-    → (t : SiteTable) → r ≡ protocol.acknowledges (dash t (commandsOf book)) (view t (commandsOf book) site)
-unfolding headOf
-calm book site rows er ea ed ex e t =
-    e
-    ∙ (λ i. freeBy (er i) (inSet ((ex ∙ (λ j. withoutOf (ea j) (ed j))) i)))
-    ∙ free-rows book t (inSet (withoutOf (readSet site receivedPlace) (readSet site deliveredPlace)))
-    ∙ ap (free (dash t (commandsOf book))) (λ i m. in-without (readSet site receivedPlace) (readSet site deliveredPlace) m i)
+module _ (book site : List ℕ) (delivered : Set) {received x : Set} (ea : received ≡ readSet site receivedPlace) (ex : x ≡ withoutOf received delivered) where
+  pub calm-within : withinOf (headOf site .received) (length (commandsOf book)) ≡ true → withinOf x (length (commandsOf book)) ≡ true
+  unfolding headOf
+  calm-within h =
+      ap (λ (y : Set). withinOf y (length (commandsOf book))) (ex ∙ ap (λ (y : Set). withoutOf y delivered) ea)
+      ∙ within-without (readSet site receivedPlace) delivered (length (commandsOf book)) h
+
+  pub calm : {r : Bool} → delivered ≡ readSet site deliveredPlace → r ≡ freeBy (conflictRows book) (inSet x)
+      → (t : SiteTable) → r ≡ protocol.acknowledges (dash t (commandsOf book)) (view t (commandsOf book) site)
+  unfolding headOf
+  calm ed e t =
+      e
+      ∙ (λ i. freeBy (conflictRows book) (inSet ((ex ∙ (λ j. withoutOf (ea j) (ed j))) i)))
+      ∙ free-rows book t (inSet (withoutOf (readSet site receivedPlace) (readSet site deliveredPlace)))
+      ∙ ap (free (dash t (commandsOf book))) (λ i m. in-without (readSet site receivedPlace) (readSet site deliveredPlace) m i)
+
+-- ---- the entries of the round
+
+pub third-told : (log : List ℕ) (own round : ℕ) {free : Bool} {n : ℕ} → free ≡ false → n ≡ entries own round (logTo log (length log / entrySize))
+    → leb 2 n ≡ (not free && leb 2 (entries own round (logOf log)))
+unfolding logOf
+third-told log own round ef e = λ i. not (sym ef i) && leb 2 (e i)
+
+-- A turn that acknowledges does not ask for them.
+module _ (t : SiteTable) (cs : List Command) (b : List ℕ) (own : ℕ) (log : Log) (good : Good (t .sites) (length cs) b) where
+  no-entries : (r : ℕ) → entries own r [] ≡ 0
+  unfolding entries
+  no-entries r = refl
+
+  asked : protocol.acknowledges (dash t cs) (view t cs b) ≡ true
+      → verdict (protocol.forTurn (dash t cs) own (view t cs b) []) ≡ verdict (protocol.forTurn (dash t cs) own (view t cs b) log)
+  asked e =
+      let s = view t cs b in
+      let p : (protocol.acknowledges (dash t cs) s || ltb (entries own (s .round) []) 2) ≡ (protocol.acknowledges (dash t cs) s || ltb (entries own (s .round) log) 2) =
+      ap (λ (a : Bool). a || ltb (entries own (s .round) []) 2) e ∙ sym (ap (λ (a : Bool). a || ltb (entries own (s .round) log) 2) e) in
+      λ i.
+      verdict
+      (protocol.isAcknowledging (s .phase) else Disabled
+      ⨾ any (length cs) (protocol.unacknowledged (dash t cs) s) else Disabled
+      ⨾ p i else ThirdEntry
+      ⨾ protocol.acknowledges (dash t cs) s || leb (s .round) lastRound else LastRound
+      ⨾ granted)
+
+  pub took : (free : Bool) {third : Bool} {answer : Turn} {b′ : List ℕ} → free ≡ protocol.acknowledges (dash t cs) (view t cs b)
+      → third ≡ (not free && leb 2 (entries own (view t cs b .round) log)) → TookTurn free third b answer b′ → Turned t cs own log (view t cs b) answer b′
+  took false {third} ef et h = h t cs own log good ef (ap not et ∙ third-entry (entries own (view t cs b .round) log))
+  took true {third} {answer} {b′} ef et h =
+      let s = view t cs b in
+      let w = h t cs own [] good ef (ap not et ∙ ap (λ (n : ℕ). ltb n 2) (sym (no-entries (s .round)))) in
+      let e = asked (sym ef) in
+      record {
+        answer = w .answer ∙ ap (λ (v : Verdict). answerTo t cs v (protocol.acknowledges (dash t cs) s) s) e;
+        site =
+            subst
+            (λ (v : Verdict). Holds t cs b′ (settled v (pick (protocol.acknowledges (dash t cs) s) (protocol.acknowledge (dash t cs) s) (protocol.propose (dash t cs) s)) s))
+            e (w .site);
+      }
 
 -- ---- what is written
 
@@ -121,6 +171,13 @@ module _ (n f : ℕ) (book site log : List ℕ) (own : ℕ) (o : List ℕ) {k : 
     pub turn-sized : siteSize ≤ length site
     turn-sized = judged .sized
 
+    pub turn-received : withinOf (headOf (take siteSize site) .received) (length (commandsOf book)) ≡ true
+    turn-received = judged .good .head .received
+
+    pub turn-noted : (places : List ℕ) {after : List ℕ} → maxCommands ≤ length places
+        → after ≡ placesAfter n f book (leb turnSize (length o) && leb siteSize (length site)) places → take (length (commandsOf book)) after ≡ placesOf book
+    turn-noted places room e = log-noted n f book (leb turnSize (length o)) site places room e log q z
+
     pub turn-room : turnSize ≤ length o
     turn-room = leb-true turnSize (length o) (log-judged n f book (leb turnSize (length o)) site log q z .0)
 
@@ -171,13 +228,13 @@ module _ (n f : ℕ) (book site log : List ℕ) (own : ℕ) (o : List ℕ) {k : 
             (record { site = own; round = er i; nc = setOf capacity (siteIn n f book site .pending); c = setOf capacity (protocol.unacknowledged (systemOf n f book) (siteIn n f book site)) })))))
         done (Refused r) a e w = λ i. outcome (e i .code) (buffers (as-before n f book site (judged .good) small w i) (e i .left))
 
-        pub turn-done : {free : Bool} {appended : ℕ} {answer : Turn} → ((t : SiteTable) → free ≡ protocol.acknowledges (dash t (commandsOf book)) (view t (commandsOf book) (take siteSize site)))
-            → appended ≡ entries own round (logTo log (length log / entrySize)) → TookTurn free (leb 2 appended) (take siteSize site) answer b
+        pub turn-done : {free third : Bool} {answer : Turn} → ((t : SiteTable) → free ≡ protocol.acknowledges (dash t (commandsOf book)) (view t (commandsOf book) (take siteSize site)))
+            → third ≡ (not free && leb 2 (entries own round (logOf log))) → TookTurn free third (take siteSize site) answer b
             → outcome code l ≡ sent own round answer o → outcome code (buffers (b ++ drop siteSize site) l) ≡ turnCall n f book site log own o
-        unfolding turnCall logOf
-        turn-done {appended = appended} ef ea took e =
-            let w = took (tableOf n f) (commandsOf book) own (logOf log) (judged .good) (ef (tableOf n f))
-            (third-entry appended ∙ ap (λ (k : ℕ). ltb k 2) (ea ∙ ap (λ (r : ℕ). entries own r (logTo log (length log / entrySize))) er)) in
+        unfolding turnCall
+        turn-done {free} ef et k e =
+            let w = took (tableOf n f) (commandsOf book) (take siteSize site) own (logOf log) (judged .good) free (ef (tableOf n f))
+            (et ∙ ap (λ (r : ℕ). not free && leb 2 (entries own r (logOf log))) er) k in
             done (verdict (protocol.forTurn (systemOf n f book) own (siteIn n f book site) (logOf log))) (protocol.acknowledges (systemOf n f book) (siteIn n f book site))
             (e ∙ ap (λ (y : Turn). sent own round y o) (w .answer)) (w .site)
             ∙ (λ i. answered (sym (first true (lt-ltb own n h)) i)

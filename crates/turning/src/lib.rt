@@ -1,10 +1,13 @@
 // The call of a turn: the site acknowledges what it received, or proposes where that has a conflict, and what it sends is written.
+ghost use mathlib.Core.Bool.{true, not, _&&_};
 ghost use mathlib.Core.Path.{_≡_};
 ghost use Prim.Native.Nat.{_≤_, _<_};
-ghost use lib.ListN.{length};
+ghost use lib.Dec.{leb};
+ghost use lib.ListN.{length, take};
 ghost use Rattle.wire.specs.Wire.{splice};
+ghost use Rattle.sets.specs.Sets.{withinOf};
 ghost use Rattle.table.specs.declared.SiteTable.{SiteTable};
-ghost use Rattle.commands.specs.Book.{commandsOf};
+ghost use Rattle.commands.specs.Book.{commandsOf, placesOf};
 ghost use Rattle.protocol.specs.Recovery as recovery;
 ghost use Rattle.protocol.specs.Site as protocol;
 ghost use Rattle.system.specs.Dash.{dash};
@@ -34,15 +37,14 @@ const SET: usize = 1;
 const ENTRY: usize = 9;
 
 // Whether no two undelivered commands of a site conflict.
-fn is_calm(book: &[u8], commands: usize, site: &[u8]) -> bool
-    requires { ⌜ (commands ≡ length (commandsOf (now book))) × (length (now site) ≡ siteSize) ⌝ }
+fn is_calm(book: &[u8], places: &[u16], site: &[u8]) -> bool
+    requires { ⌜ (take (length (commandsOf (now book))) (now places) ≡ placesOf (now book)) × (length (now site) ≡ siteSize)
+        × (withinOf (headOf (now site) .received) (length (commandsOf (now book))) ≡ true) ⌝ }
     ensures { λ r. ⌜ ((t : SiteTable) → r ≡ protocol.acknowledges (dash t (commandsOf (now (book .entry)))) (view t (commandsOf (now (book .entry))) (now (site .entry)))) ⌝ }
 {
-    let mut rows = [0u64; 64];
-    conflicts::conflicts_of(book, commands, &mut rows);
     let received = Set::read(site, Site::RECEIVED);
     let delivered = Set::read(site, Site::DELIVERED);
-    calm::is_free(&rows, received.without(delivered))
+    calm::is_free_in(book, places, received.without(delivered))
 }
 
 // The round of a site.
@@ -52,6 +54,16 @@ fn round_of(site: &[u8]) -> usize
 {
     let round = wire::get1(site, Site::ROUND);
     round as usize
+}
+
+// Whether a site that proposes has two entries of its round in the log. They are not looked for where it acknowledges.
+fn is_third(free: bool, log: &[u8], own: usize, round: usize) -> bool
+    ensures { λ r. ⌜ r ≡ (not free && leb 2 (recovery.entries own round (logOf (now (log .entry))))) ⌝ }
+{
+    if free {
+        return false;
+    }
+    entries::entries_of(log, log.len() / Entry::BYTES, own, round) >= 2
 }
 
 // An acknowledgment is written.
@@ -120,7 +132,16 @@ pub fn turn(
     ensures { λ r. ⌜ outcome r (buffers (now (site .exit)) (now (out .exit))) ≡ turnCall sites faults (now (book .entry)) (now (site .entry)) (now (log .entry)) own (now (out .entry)) ⌝ }
 {
     let enough = out.len() >= TURN_BYTES;
-    let judged = judging::judge_site_and_log(enough, sites, faults, book, &site[..], log);
+    let mut places = [0u16; 64];
+    let judged = judging::note_site_and_log(
+        enough,
+        sites,
+        faults,
+        book,
+        &site[..],
+        log,
+        &mut places,
+    );
     if judged.code != 0 {
         return judged.code;
     }
@@ -130,9 +151,9 @@ pub fn turn(
     if !site::has_turn(&site[..Site::SIZE]) {
         return REFUSED_DISABLED;
     }
-    let free = is_calm(book, judged.commands, &site[..Site::SIZE]);
+    let free = is_calm(book, &places, &site[..Site::SIZE]);
     let round = round_of(&site[..Site::SIZE]);
-    let appended = entries::entries_of(log, log.len() / Entry::BYTES, own, round);
-    let answer = site::take_turn(&mut site[..Site::SIZE], free, appended >= 2);
+    let third = is_third(free, log, own, round);
+    let answer = site::take_turn(&mut site[..Site::SIZE], free, third);
     send(out, own, round, answer)
 }

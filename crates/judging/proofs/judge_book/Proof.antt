@@ -1,14 +1,26 @@
--- `judging::judge_book`: the number of the book's verdict.
+-- `judging::judge_book`: by what was measured.
 -- Assumes nothing.
+use mathlib.Core.Path.{sym, _∙_}
+use denote.Ref.{now}
+use Rattle.judging.proofs.Laws.{book-counted, book-refused}
 use borrow.Author.Needs.{needs}
 use Rattle.judging.proofs.judge_book.Statement.{statement}
 use Rattle.judging.proofs.judge_book.Tie as tie
 
-count-book-requires : tie.Need-count-book-requires
-count-book-requires c κs = search needs
+measure-requires : tie.Need-measure-requires
+measure-requires c κs = search needs
+
+enum-told : tie.Need-enum-told
+enum-told c = search needs
+
+enum-told-2 : tie.Need-enum-told-2
+enum-told-2 c = search needs
 
 returns : tie.Need-returns
-returns c = c .count-book .ensures .code
+returns c = book-counted (now (c .before .before .before .before .args .book)) (sym (c .before .before .measure .ensures) ∙ c .enum-told .given .1)
+
+returns-2 : tie.Need-returns-2
+returns-2 c = book-refused (now (c .before .before .before .before .args .book)) (sym (c .before .before .measure .ensures) ∙ c .enum-told2 .given .1)
 
 pub judge-book-spec : {M : Type 1} → statement M
-judge-book-spec = tie.close (tie.spec count-book-requires returns)
+judge-book-spec = tie.close (tie.spec measure-requires enum-told enum-told-2 returns returns-2)

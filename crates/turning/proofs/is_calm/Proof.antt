@@ -1,15 +1,10 @@
--- `turning::is_calm`: the rows say which undelivered commands conflict.
+-- `turning::is_calm`: the book says which undelivered commands conflict.
 -- Assumes nothing.
-use Rattle.turning.proofs.Laws.{calm}
+use denote.Ref.{now}
+use Rattle.turning.proofs.Laws.{calm, calm-within}
 use borrow.Author.Needs.{needs}
 use Rattle.turning.proofs.is_calm.Statement.{statement}
 use Rattle.turning.proofs.is_calm.Tie as tie
-
-slice-aggregate-conflicts-of : tie.Need-slice-aggregate-conflicts-of
-slice-aggregate-conflicts-of c = search needs
-
-conflicts-of-requires : tie.Need-conflicts-of-requires
-conflicts-of-requires c κs = search needs
 
 read-requires : tie.Need-read-requires
 read-requires c κs = search needs
@@ -17,27 +12,19 @@ read-requires c κs = search needs
 read-requires-2 : tie.Need-read-requires-2
 read-requires-2 c κs = search needs
 
-slice-aggregate-is-free : tie.Need-slice-aggregate-is-free
-slice-aggregate-is-free c = search needs
-
 without-requires : tie.Need-without-requires
 without-requires c κs = search needs
 
-is-free-requires : tie.Need-is-free-requires
-is-free-requires c κs = search needs
+is-free-in-requires : tie.Need-is-free-in-requires
+is-free-in-requires c κs =
+    let s = c .before .before .before .before .before .before in
+    (s .pre .0, calm-within (now (s .args .book)) (now (s .args .site)) (c .before .read2 .result) (c .before .before .read .ensures) (c .without .ensures) (s .pre .2))
 
 returns : tie.Need-returns
-returns c = calm _ _ _ (c .before .before .before .before .before .before .conflicts-of .ensures) (c .before .before .before .before .read .ensures) (c .before .before .before .read2 .ensures) (c .before .without .ensures) (c .is-free .ensures)
+returns c =
+    let a = c .before .before .before .before .before .before .before .args in
+    calm (now (a .book)) (now (a .site)) (c .before .before .read2 .result) (c .before .before .before .read .ensures) (c .before .without .ensures) (c .before .before .read2 .ensures) (c .is-free-in .ensures)
 
 pub is-calm-spec : {M : Type 1} → statement M
 is-calm-spec =
-    tie.close
-    (tie.spec
-    slice-aggregate-conflicts-of
-    conflicts-of-requires
-    read-requires
-    read-requires-2
-    slice-aggregate-is-free
-    without-requires
-    is-free-requires
-    returns)
+    tie.close (tie.spec read-requires read-requires-2 without-requires is-free-in-requires returns)

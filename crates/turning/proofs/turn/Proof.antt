@@ -1,93 +1,151 @@
 -- `turning::turn`: a law for each answer.
 -- Assumes nothing.
-use mathlib.Core.Path.{refl, sym}
-use native.Mathlib.Omega.{arith}
-use lib.Seq.{length-front}
+use mathlib.Core.Path.{sym}
 use denote.Ref.{now}
 use Rattle.layout.specs.Layout.{siteSize}
-use Rattle.judging.proofs.Laws.{first-length}
-use Rattle.turning.proofs.Laws.{turn-refused, turn-range, turn-disabled, turn-sized, turn-room, turn-own, turn-done}
+use Rattle.judging.proofs.Laws.{first-length, full-room}
+use Rattle.turning.proofs.Laws.{turn-refused, turn-range, turn-disabled, turn-sized, turn-received, turn-noted, turn-room, turn-own, turn-done}
 use borrow.Author.Needs.{needs}
 use Rattle.turning.proofs.turn.Statement.{statement}
 use Rattle.turning.proofs.turn.Tie as tie
 
-judge-site-and-log-requires : tie.Need-judge-site-and-log-requires
-judge-site-and-log-requires c κs = search needs
+slice-aggregate-note-site-and-log : tie.Need-slice-aggregate-note-site-and-log
+slice-aggregate-note-site-and-log c = search needs
+
+note-site-and-log-requires : tie.Need-note-site-and-log-requires
+note-site-and-log-requires c κs = search needs
 
 same-length : tie.Need-same-length
-same-length c = refl
+same-length c = search needs
 
 returns : tie.Need-returns
-returns c = let a = c .before .before .before .before .before .before .before .before .args in turn-refused (a .sites) (a .faults) (now (a .book)) (now (a .site)) (now (a .log)) (a .own) (now (a .out)) (c .before .before .judge-site-and-log .ensures .code) (c .if1 .taken)
+returns c =
+    let a = c .before .before .before .before .before .before .before .before .before .before .args in
+    let q = c .before .before .before .note-site-and-log .ensures .0 .code in
+    turn-refused (a .sites) (a .faults) (now (a .book)) (now (a .site)) (now (a .log)) (a .own) (now (a .out)) q (c .if1 .taken)
 
 same-length-2 : tie.Need-same-length-2
-same-length-2 c = refl
+same-length-2 c = search needs
 
 returns-2 : tie.Need-returns-2
-returns-2 c = let a = c .before .before .before .before .before .before .before .before .before .args in turn-range (a .sites) (a .faults) (now (a .book)) (now (a .site)) (now (a .log)) (a .own) (now (a .out)) (c .before .before .before .judge-site-and-log .ensures .code) (c .before .if1 .left) (c .if2 .taken)
+returns-2 c =
+    let a = c .before .before .before .before .before .before .before .before .before .before .before .args in
+    let q = c .before .before .before .before .note-site-and-log .ensures .0 .code in
+    turn-range (a .sites) (a .faults) (now (a .book)) (now (a .site)) (now (a .log)) (a .own) (now (a .out)) q (c .before .if1 .left) (c .if2 .taken)
 
 slice-reshare-prefix-has-turn : tie.Need-slice-reshare-prefix-has-turn
-slice-reshare-prefix-has-turn c = let a = c .before .before .before .before .before .before .before .before .before .args in turn-sized (a .sites) (a .faults) (now (a .book)) (now (a .site)) (now (a .log)) (a .own) (now (a .out)) (c .before .before .before .judge-site-and-log .ensures .code) (c .before .if1 .left)
+slice-reshare-prefix-has-turn c =
+    let a = c .before .before .before .before .before .before .before .before .before .before .before .args in
+    let q = c .before .before .before .before .note-site-and-log .ensures .0 .code in
+    turn-sized (a .sites) (a .faults) (now (a .book)) (now (a .site)) (now (a .log)) (a .own) (now (a .out)) q (c .before .if1 .left)
 
 slice-aggregate-has-turn : tie.Need-slice-aggregate-has-turn
-slice-aggregate-has-turn c = let a = c .before .before .before .before .before .before .before .before .before .before .args in first-length siteSize (now (a .site)) (turn-sized (a .sites) (a .faults) (now (a .book)) (now (a .site)) (now (a .log)) (a .own) (now (a .out)) (c .before .before .before .before .judge-site-and-log .ensures .code) (c .before .before .if1 .left))
+slice-aggregate-has-turn c =
+    let a = c .before .before .before .before .before .before .before .before .before .before .before .before .args in
+    let q = c .before .before .before .before .before .note-site-and-log .ensures .0 .code in
+    first-length siteSize (now (a .site)) (turn-sized (a .sites) (a .faults) (now (a .book)) (now (a .site)) (now (a .log)) (a .own) (now (a .out)) q (c .before .before .if1 .left))
 
 has-turn-requires : tie.Need-has-turn-requires
-has-turn-requires c κs = let a = c .before .before .before .before .before .before .before .before .before .before .args in sym (first-length siteSize (now (a .site)) (turn-sized (a .sites) (a .faults) (now (a .book)) (now (a .site)) (now (a .log)) (a .own) (now (a .out)) (c .before .before .before .before .judge-site-and-log .ensures .code) (c .before .before .if1 .left)))
+has-turn-requires c κs =
+    let a = c .before .before .before .before .before .before .before .before .before .before .before .before .args in
+    let q = c .before .before .before .before .before .note-site-and-log .ensures .0 .code in
+    sym (first-length siteSize (now (a .site)) (turn-sized (a .sites) (a .faults) (now (a .book)) (now (a .site)) (now (a .log)) (a .own) (now (a .out)) q (c .before .before .if1 .left)))
 
 same-length-3 : tie.Need-same-length-3
-same-length-3 c = refl
+same-length-3 c = search needs
 
 returns-3 : tie.Need-returns-3
-returns-3 c = let a = c .before .before .before .before .before .before .before .before .before .before .before .before .args in turn-disabled (a .sites) (a .faults) (now (a .book)) (now (a .site)) (now (a .log)) (a .own) (now (a .out)) (c .before .before .before .before .before .before .judge-site-and-log .ensures .code) (c .before .before .before .before .if1 .left) (c .before .before .before .if2 .left) (λ i. c .before .before .before .before .before .before .before .before .before .before .slice-known .given i .fits) (c .before .has-turn .ensures) (c .if3 .taken)
-
-slice-reshare-prefix-is-calm : tie.Need-slice-reshare-prefix-is-calm
-slice-reshare-prefix-is-calm c = let a = c .before .before .before .before .before .before .before .before .before .before .before .before .args in turn-sized (a .sites) (a .faults) (now (a .book)) (now (a .site)) (now (a .log)) (a .own) (now (a .out)) (c .before .before .before .before .before .before .judge-site-and-log .ensures .code) (c .before .before .before .before .if1 .left)
+returns-3 c =
+    let a = c .before .before .before .before .before .before .before .before .before .before .before .before .before .before .args in
+    let q = c .before .before .before .before .before .before .before .note-site-and-log .ensures .0 .code in
+    turn-disabled (a .sites) (a .faults) (now (a .book)) (now (a .site)) (now (a .log)) (a .own) (now (a .out)) q (c .before .before .before .before .if1 .left) (c .before .before .before .if2 .left) (λ i. c .before .before .before .before .before .before .before .before .before .before .before .before .slice-known .given i .fits) (c .before .has-turn .ensures) (c .if3 .taken)
 
 slice-aggregate-is-calm : tie.Need-slice-aggregate-is-calm
-slice-aggregate-is-calm c = let a = c .before .before .before .before .before .before .before .before .before .before .before .before .before .args in first-length siteSize (now (a .site)) (turn-sized (a .sites) (a .faults) (now (a .book)) (now (a .site)) (now (a .log)) (a .own) (now (a .out)) (c .before .before .before .before .before .before .before .judge-site-and-log .ensures .code) (c .before .before .before .before .before .if1 .left))
+slice-aggregate-is-calm c = search needs
+
+slice-reshare-prefix-is-calm : tie.Need-slice-reshare-prefix-is-calm
+slice-reshare-prefix-is-calm c =
+    let a = c .before .before .before .before .before .before .before .before .before .before .before .before .before .before .before .args in
+    let q = c .before .before .before .before .before .before .before .before .note-site-and-log .ensures .0 .code in
+    turn-sized (a .sites) (a .faults) (now (a .book)) (now (a .site)) (now (a .log)) (a .own) (now (a .out)) q (c .before .before .before .before .before .if1 .left)
+
+slice-aggregate-is-calm-2 : tie.Need-slice-aggregate-is-calm-2
+slice-aggregate-is-calm-2 c =
+    let a = c .before .before .before .before .before .before .before .before .before .before .before .before .before .before .before .before .args in
+    let q = c .before .before .before .before .before .before .before .before .before .note-site-and-log .ensures .0 .code in
+    first-length siteSize (now (a .site)) (turn-sized (a .sites) (a .faults) (now (a .book)) (now (a .site)) (now (a .log)) (a .own) (now (a .out)) q (c .before .before .before .before .before .before .if1 .left))
 
 is-calm-requires : tie.Need-is-calm-requires
-is-calm-requires c κs = let a = c .before .before .before .before .before .before .before .before .before .before .before .before .before .args in (c .before .before .before .before .before .before .before .judge-site-and-log .ensures .taken (c .before .before .before .before .before .if1 .left), sym (first-length siteSize (now (a .site)) (turn-sized (a .sites) (a .faults) (now (a .book)) (now (a .site)) (now (a .log)) (a .own) (now (a .out)) (c .before .before .before .before .before .before .before .judge-site-and-log .ensures .code) (c .before .before .before .before .before .if1 .left))))
+is-calm-requires c κs =
+    let a = c .before .before .before .before .before .before .before .before .before .before .before .before .before .before .before .before .args in
+    let q = c .before .before .before .before .before .before .before .before .before .note-site-and-log .ensures .0 .code in
+    let z = c .before .before .before .before .before .before .if1 .left in
+    (turn-noted (a .sites) (a .faults) (now (a .book)) (now (a .site)) (now (a .log)) (a .own) (now (a .out)) q z _ full-room (c .before .before .before .before .before .before .before .before .before .note-site-and-log .ensures .1), sym (first-length siteSize (now (a .site)) (turn-sized (a .sites) (a .faults) (now (a .book)) (now (a .site)) (now (a .log)) (a .own) (now (a .out)) q z)), turn-received (a .sites) (a .faults) (now (a .book)) (now (a .site)) (now (a .log)) (a .own) (now (a .out)) q z)
 
 slice-reshare-prefix-round-of : tie.Need-slice-reshare-prefix-round-of
-slice-reshare-prefix-round-of c = let a = c .before .before .before .before .before .before .before .before .before .before .before .before .before .before .args in turn-sized (a .sites) (a .faults) (now (a .book)) (now (a .site)) (now (a .log)) (a .own) (now (a .out)) (c .before .before .before .before .before .before .before .before .judge-site-and-log .ensures .code) (c .before .before .before .before .before .before .if1 .left)
+slice-reshare-prefix-round-of c =
+    let a = c .before .before .before .before .before .before .before .before .before .before .before .before .before .before .before .before .before .args in
+    let q = c .before .before .before .before .before .before .before .before .before .before .note-site-and-log .ensures .0 .code in
+    turn-sized (a .sites) (a .faults) (now (a .book)) (now (a .site)) (now (a .log)) (a .own) (now (a .out)) q (c .before .before .before .before .before .before .before .if1 .left)
 
 slice-aggregate-round-of : tie.Need-slice-aggregate-round-of
-slice-aggregate-round-of c = let a = c .before .before .before .before .before .before .before .before .before .before .before .before .before .before .before .args in first-length siteSize (now (a .site)) (turn-sized (a .sites) (a .faults) (now (a .book)) (now (a .site)) (now (a .log)) (a .own) (now (a .out)) (c .before .before .before .before .before .before .before .before .before .judge-site-and-log .ensures .code) (c .before .before .before .before .before .before .before .if1 .left))
+slice-aggregate-round-of c =
+    let a = c .before .before .before .before .before .before .before .before .before .before .before .before .before .before .before .before .before .before .args in
+    let q = c .before .before .before .before .before .before .before .before .before .before .before .note-site-and-log .ensures .0 .code in
+    first-length siteSize (now (a .site)) (turn-sized (a .sites) (a .faults) (now (a .book)) (now (a .site)) (now (a .log)) (a .own) (now (a .out)) q (c .before .before .before .before .before .before .before .before .if1 .left))
 
 round-of-requires : tie.Need-round-of-requires
-round-of-requires c κs = let a = c .before .before .before .before .before .before .before .before .before .before .before .before .before .before .before .args in sym (first-length siteSize (now (a .site)) (turn-sized (a .sites) (a .faults) (now (a .book)) (now (a .site)) (now (a .log)) (a .own) (now (a .out)) (c .before .before .before .before .before .before .before .before .before .judge-site-and-log .ensures .code) (c .before .before .before .before .before .before .before .if1 .left)))
+round-of-requires c κs =
+    let a = c .before .before .before .before .before .before .before .before .before .before .before .before .before .before .before .before .before .before .args in
+    let q = c .before .before .before .before .before .before .before .before .before .before .before .note-site-and-log .ensures .0 .code in
+    sym (first-length siteSize (now (a .site)) (turn-sized (a .sites) (a .faults) (now (a .book)) (now (a .site)) (now (a .log)) (a .own) (now (a .out)) q (c .before .before .before .before .before .before .before .before .if1 .left)))
 
-entries-of-requires : tie.Need-entries-of-requires
-entries-of-requires c κs = omega arith
+is-third-requires : tie.Need-is-third-requires
+is-third-requires c κs = search needs
 
 slice-relend-prefix-take-turn : tie.Need-slice-relend-prefix-take-turn
-slice-relend-prefix-take-turn c = let a = c .before .before .before .before .before .before .before .before .before .before .before .before .before .before .before .before .before .args in turn-sized (a .sites) (a .faults) (now (a .book)) (now (a .site)) (now (a .log)) (a .own) (now (a .out)) (c .before .before .before .before .before .before .before .before .before .before .before .judge-site-and-log .ensures .code) (c .before .before .before .before .before .before .before .before .before .if1 .left)
+slice-relend-prefix-take-turn c =
+    let a = c .before .before .before .before .before .before .before .before .before .before .before .before .before .before .before .before .before .before .before .before .args in
+    let q = c .before .before .before .before .before .before .before .before .before .before .before .before .before .note-site-and-log .ensures .0 .code in
+    turn-sized (a .sites) (a .faults) (now (a .book)) (now (a .site)) (now (a .log)) (a .own) (now (a .out)) q (c .before .before .before .before .before .before .before .before .before .before .if1 .left)
 
 slice-aggregate-take-turn : tie.Need-slice-aggregate-take-turn
-slice-aggregate-take-turn c = let a = c .before .before .before .before .before .before .before .before .before .before .before .before .before .before .before .before .before .before .args in first-length siteSize (now (a .site)) (turn-sized (a .sites) (a .faults) (now (a .book)) (now (a .site)) (now (a .log)) (a .own) (now (a .out)) (c .before .before .before .before .before .before .before .before .before .before .before .before .judge-site-and-log .ensures .code) (c .before .before .before .before .before .before .before .before .before .before .if1 .left))
+slice-aggregate-take-turn c =
+    let a = c .before .before .before .before .before .before .before .before .before .before .before .before .before .before .before .before .before .before .before .before .before .args in
+    let q = c .before .before .before .before .before .before .before .before .before .before .before .before .before .before .note-site-and-log .ensures .0 .code in
+    first-length siteSize (now (a .site)) (turn-sized (a .sites) (a .faults) (now (a .book)) (now (a .site)) (now (a .log)) (a .own) (now (a .out)) q (c .before .before .before .before .before .before .before .before .before .before .before .if1 .left))
 
 take-turn-requires : tie.Need-take-turn-requires
-take-turn-requires c κs = let a = c .before .before .before .before .before .before .before .before .before .before .before .before .before .before .before .before .before .before .args in sym (first-length siteSize (now (a .site)) (turn-sized (a .sites) (a .faults) (now (a .book)) (now (a .site)) (now (a .log)) (a .own) (now (a .out)) (c .before .before .before .before .before .before .before .before .before .before .before .before .judge-site-and-log .ensures .code) (c .before .before .before .before .before .before .before .before .before .before .if1 .left)))
+take-turn-requires c κs =
+    let a = c .before .before .before .before .before .before .before .before .before .before .before .before .before .before .before .before .before .before .before .before .before .args in
+    let q = c .before .before .before .before .before .before .before .before .before .before .before .before .before .before .note-site-and-log .ensures .0 .code in
+    sym (first-length siteSize (now (a .site)) (turn-sized (a .sites) (a .faults) (now (a .book)) (now (a .site)) (now (a .log)) (a .own) (now (a .out)) q (c .before .before .before .before .before .before .before .before .before .before .before .if1 .left)))
 
 send-requires : tie.Need-send-requires
-send-requires c κs = let a = c .before .before .before .before .before .before .before .before .before .before .before .before .before .before .before .before .before .before .before .before .before .before .args in (turn-room (a .sites) (a .faults) (now (a .book)) (now (a .site)) (now (a .log)) (a .own) (now (a .out)) (c .before .before .before .before .before .before .before .before .before .before .before .before .before .before .before .before .judge-site-and-log .ensures .code) (c .before .before .before .before .before .before .before .before .before .before .before .before .before .before .if1 .left), turn-own (a .sites) (a .faults) (now (a .book)) (now (a .site)) (now (a .log)) (a .own) (now (a .out)) (c .before .before .before .before .before .before .before .before .before .before .before .before .before .before .before .before .judge-site-and-log .ensures .code) (c .before .before .before .before .before .before .before .before .before .before .before .before .before .before .if1 .left) (c .before .before .before .before .before .before .before .before .before .before .before .before .before .if2 .left), c .before .before .before .before .before .before .round-of .ensures .1)
+send-requires c κs =
+    let a = c .before .before .before .before .before .before .before .before .before .before .before .before .before .before .before .before .before .before .before .before .before .before .before .before .before .args in
+    let q = c .before .before .before .before .before .before .before .before .before .before .before .before .before .before .before .before .before .before .note-site-and-log .ensures .0 .code in
+    let z = c .before .before .before .before .before .before .before .before .before .before .before .before .before .before .before .if1 .left in
+    (turn-room (a .sites) (a .faults) (now (a .book)) (now (a .site)) (now (a .log)) (a .own) (now (a .out)) q z, turn-own (a .sites) (a .faults) (now (a .book)) (now (a .site)) (now (a .log)) (a .own) (now (a .out)) q z (c .before .before .before .before .before .before .before .before .before .before .before .before .before .before .if2 .left), c .before .before .before .before .before .before .round-of .ensures .1)
 
 same-length-4 : tie.Need-same-length-4
-same-length-4 c = let a = c .before .before .before .before .before .before .before .before .before .before .before .before .before .before .before .before .before .before .before .before .before .before .before .before .before .args in length-front (now (a .site)) (c .before .before .before .before .before .before .take-turn .last .0) siteSize (c .before .before .before .before .before .before .take-turn .kept .0)
+same-length-4 c = search needs
 
 same-length-5 : tie.Need-same-length-5
-same-length-5 c = c .before .before .send .kept .0
+same-length-5 c = search needs
 
 returns-4 : tie.Need-returns-4
-returns-4 c = let a = c .before .before .before .before .before .before .before .before .before .before .before .before .before .before .before .before .before .before .before .before .before .before .before .before .before .args in turn-done (a .sites) (a .faults) (now (a .book)) (now (a .site)) (now (a .log)) (a .own) (now (a .out)) (c .before .before .before .before .before .before .before .before .before .before .before .before .before .before .before .before .before .before .before .judge-site-and-log .ensures .code) (c .before .before .before .before .before .before .before .before .before .before .before .before .before .before .before .before .before .if1 .left) (c .before .before .before .before .before .before .before .before .before .before .before .before .before .before .before .before .if2 .left) (λ i. c .before .before .before .before .before .before .before .before .before .before .before .before .before .before .before .before .before .before .before .before .before .before .before .slice-known .given i .fits) (c .before .before .before .before .before .before .before .before .before .round-of .ensures .0) (c .before .before .before .before .before .before .before .before .before .before .before .is-calm .ensures) (c .before .before .before .before .before .before .before .before .entries-of .ensures) (c .before .before .before .before .before .before .take-turn .ensures) (c .before .before .send .ensures)
+returns-4 c =
+    let a = c .before .before .before .before .before .before .before .before .before .before .before .before .before .before .before .before .before .before .before .before .before .before .before .before .before .before .before .before .args in
+    let q = c .before .before .before .before .before .before .before .before .before .before .before .before .before .before .before .before .before .before .before .before .before .note-site-and-log .ensures .0 .code in
+    turn-done (a .sites) (a .faults) (now (a .book)) (now (a .site)) (now (a .log)) (a .own) (now (a .out)) q (c .before .before .before .before .before .before .before .before .before .before .before .before .before .before .before .before .before .before .if1 .left) (c .before .before .before .before .before .before .before .before .before .before .before .before .before .before .before .before .before .if2 .left) (λ i. c .before .before .before .before .before .before .before .before .before .before .before .before .before .before .before .before .before .before .before .before .before .before .before .before .before .before .slice-known .given i .fits) (c .before .before .before .before .before .before .before .before .before .round-of .ensures .0) (c .before .before .before .before .before .before .before .before .before .before .before .is-calm .ensures) (c .before .before .before .before .before .before .before .before .is-third .ensures) (c .before .before .before .before .before .before .take-turn .ensures) (c .before .before .send .ensures)
 
 pub turn-spec : {M : Type 1} → statement M
 turn-spec =
     tie.close
     (tie.spec
-    judge-site-and-log-requires
+    slice-aggregate-note-site-and-log
+    note-site-and-log-requires
     same-length
     returns
     same-length-2
@@ -97,13 +155,14 @@ turn-spec =
     has-turn-requires
     same-length-3
     returns-3
-    slice-reshare-prefix-is-calm
     slice-aggregate-is-calm
+    slice-reshare-prefix-is-calm
+    slice-aggregate-is-calm-2
     is-calm-requires
     slice-reshare-prefix-round-of
     slice-aggregate-round-of
     round-of-requires
-    entries-of-requires
+    is-third-requires
     slice-relend-prefix-take-turn
     slice-aggregate-take-turn
     take-turn-requires

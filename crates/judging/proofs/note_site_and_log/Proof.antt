@@ -1,0 +1,108 @@
+-- `judging::note_site_and_log`: a law for each answer.
+-- Assumes nothing.
+use mathlib.Core.Path.{sym, _∙_}
+use mathlib.Core.Bool.{_&&_}
+use lib.Dec.{leb}
+use lib.ListN.{length}
+use denote.Ref.{now}
+use Rattle.layout.specs.Layout.{siteSize}
+use Rattle.judging.proofs.Laws.{first-length, places-kept, places-noted, first-few, first-sized, log-first, log-refused, log-position, log-entries, log-taken}
+use borrow.Author.Needs.{needs}
+use Rattle.judging.proofs.note_site_and_log.Statement.{statement}
+use Rattle.judging.proofs.note_site_and_log.Tie as tie
+
+judge-first-requires : tie.Need-judge-first-requires
+judge-first-requires c κs = search needs
+
+refused-requires : tie.Need-refused-requires
+refused-requires c κs = search needs
+
+returns : tie.Need-returns
+returns c =
+    let a = c .before .before .before .before .before .before .before .args in
+    let q = c .before .before .judge-first .ensures in
+    (log-first (a .sites) (a .faults) (now (a .book)) (a .enough) (now (a .site)) q (now (a .log)) (c .refused .ensures) (c .before .if1 .taken), places-kept (a .sites) (a .faults) (a .enough && leb siteSize (length (now (a .site)))) (now (a .book)) (now (a .places)) q (c .before .if1 .taken))
+
+slice-aggregate-note-lent : tie.Need-slice-aggregate-note-lent
+slice-aggregate-note-lent c =
+    let a = c .before .before .before .before .before .before .before .args in
+    first-length siteSize (now (a .site)) (first-sized (a .sites) (a .faults) (now (a .book)) (a .enough) (now (a .site)) (c .before .before .judge-first .ensures) (c .before .if1 .left))
+
+note-lent-requires : tie.Need-note-lent-requires
+note-lent-requires c κs =
+    let a = c .before .before .before .before .before .before .before .before .args in
+    (first-few (a .sites) (a .faults) (a .enough && leb siteSize (length (now (a .site)))) (now (a .book)) (now (a .places)) (c .before .before .before .judge-first .ensures) (c .before .before .if1 .left), c .before .before .before .before .before .before .before .before .pre)
+
+same-length : tie.Need-same-length
+same-length c = search needs
+
+returns-2 : tie.Need-returns-2
+returns-2 c =
+    let a = c .before .before .before .before .before .before .before .before .before .before .before .before .before .args in
+    let q = c .before .before .before .before .before .before .before .before .judge-first .ensures in
+    let z = c .before .before .before .before .before .before .before .if1 .left in
+    let j = c .before .before .before .before .note-lent .ensures in
+    (log-refused (a .sites) (a .faults) (now (a .book)) (a .enough) (now (a .site)) q z (now (a .log)) (j .0) (c .if2 .taken), j .1 ∙ places-noted (a .sites) (a .faults) (a .enough && leb siteSize (length (now (a .site)))) (now (a .book)) (now (a .places)) q z)
+
+slice-aggregate-position-of : tie.Need-slice-aggregate-position-of
+slice-aggregate-position-of c =
+    let a = c .before .before .before .before .before .before .before .before .before .before .before .before .before .before .args in
+    first-length siteSize (now (a .site)) (first-sized (a .sites) (a .faults) (now (a .book)) (a .enough) (now (a .site)) (c .before .before .before .before .before .before .before .before .before .judge-first .ensures) (c .before .before .before .before .before .before .before .before .if1 .left))
+
+position-of-requires : tie.Need-position-of-requires
+position-of-requires c κs =
+    let a = c .before .before .before .before .before .before .before .before .before .before .before .before .before .before .args in
+    sym (first-length siteSize (now (a .site)) (first-sized (a .sites) (a .faults) (now (a .book)) (a .enough) (now (a .site)) (c .before .before .before .before .before .before .before .before .before .judge-first .ensures) (c .before .before .before .before .before .before .before .before .if1 .left)))
+
+judge-prefix-requires : tie.Need-judge-prefix-requires
+judge-prefix-requires c κs =
+    let a = c .before .before .before .before .before .before .before .before .before .before .before .before .before .before .before .args in
+    let q = c .before .before .before .before .before .before .before .before .before .before .judge-first .ensures in
+    let z = c .before .before .before .before .before .before .before .before .before .if1 .left in
+    let j = c .before .before .before .before .before .before .note-lent .ensures in
+    (log-position (a .sites) (a .faults) (now (a .book)) (a .enough) (now (a .site)) q z (now (a .log)) (j .0) (c .before .before .if2 .left) (c .position-of .ensures), first-few (a .sites) (a .faults) (a .enough && leb siteSize (length (now (a .site)))) (now (a .book)) (now (a .places)) q z)
+
+refused-requires-2 : tie.Need-refused-requires-2
+refused-requires-2 c κs = search needs
+
+same-length-2 : tie.Need-same-length-2
+same-length-2 c = search needs
+
+returns-3 : tie.Need-returns-3
+returns-3 c =
+    let a = c .before .before .before .before .before .before .before .before .before .before .before .before .before .before .before .before .before .before .args in
+    let q = c .before .before .before .before .before .before .before .before .before .before .before .before .before .judge-first .ensures in
+    let z = c .before .before .before .before .before .before .before .before .before .before .before .before .if1 .left in
+    let j = c .before .before .before .before .before .before .before .before .before .note-lent .ensures in
+    (log-entries (a .sites) (a .faults) (now (a .book)) (a .enough) (now (a .site)) q z (now (a .log)) (j .0) (c .before .before .before .before .before .if2 .left) (c .before .before .before .position-of .ensures) (c .before .before .judge-prefix .ensures) (c .refused2 .ensures) (c .before .if3 .taken), j .1 ∙ places-noted (a .sites) (a .faults) (a .enough && leb siteSize (length (now (a .site)))) (now (a .book)) (now (a .places)) q z)
+
+same-length-3 : tie.Need-same-length-3
+same-length-3 c = search needs
+
+returns-4 : tie.Need-returns-4
+returns-4 c =
+    let a = c .before .before .before .before .before .before .before .before .before .before .before .before .before .before .before .before .before .args in
+    let q = c .before .before .before .before .before .before .before .before .before .before .before .before .judge-first .ensures in
+    let z = c .before .before .before .before .before .before .before .before .before .before .before .if1 .left in
+    let j = c .before .before .before .before .before .before .before .before .note-lent .ensures in
+    (log-taken (a .sites) (a .faults) (now (a .book)) (a .enough) (now (a .site)) q z (now (a .log)) (j .0) (c .before .before .before .before .if2 .left) (c .before .before .position-of .ensures) (c .before .judge-prefix .ensures) (c .if3 .left), j .1 ∙ places-noted (a .sites) (a .faults) (a .enough && leb siteSize (length (now (a .site)))) (now (a .book)) (now (a .places)) q z)
+
+pub note-site-and-log-spec : {M : Type 1} → statement M
+note-site-and-log-spec =
+    tie.close
+    (tie.spec
+    judge-first-requires
+    refused-requires
+    returns
+    slice-aggregate-note-lent
+    note-lent-requires
+    same-length
+    returns-2
+    slice-aggregate-position-of
+    position-of-requires
+    judge-prefix-requires
+    refused-requires-2
+    same-length-2
+    returns-3
+    same-length-3
+    returns-4)
