@@ -13,7 +13,7 @@ use lib.Dec.{eqb, leb, ltb, lit<}
 use lib.ListN.{length, getD}
 use borrow.Author.Tests.{eq-eqb, ne-eqb, eqb-true, lt-ltb, le-ltb, ltb-true, ltb-false, le-leb, lt-leb, leb-true}
 use Rattle.theory.specs.Sets.{all, pick}
-use Rattle.theory.specs.Counting.{never, same-test, lt-or-le, all-at, all-of, all-none, all-ext, any-not-all, not-not, or-false}
+use Rattle.theory.specs.Counting.{both, left, right, never, same-test, lt-or-le, all-at, all-of, all-none, all-ext, any-not-all, not-not, or-false}
 use Rattle.wire.specs.Wire.{readLe}
 use Rattle.wire.proofs.Laws.{read-suc, read-none, read-one}
 use Rattle.sets.specs.declared.Set.{Set}
@@ -167,6 +167,34 @@ clear-words w (suc n) b from h =
     (λ i. clear-words w n b from (omega arith) i && (clear-word w b (from + w * n) (omega arith) ∙ sym (clear-ext b from (from + w * n) (w * n) w refl)) i)
     ∙ sym (all-split (w * n) w (λ i. eqb (getD b (from + i) 0) 0))
     ∙ ap (λ (m : ℕ). all m (λ i. eqb (getD b (from + i) 0) 0)) (sym q)
+
+-- One word more.
+pub words-more : (b : List ℕ) (from k : ℕ) {x y : ℕ} → x < 2 ^ 64 → y < 2 ^ 64 → y ≡ readLe 8 b (from + 8 * k) → eqb x 0 ≡ all k (λ j. eqb (readLe 8 b (from + 8 * j)) 0)
+    → eqb (bitOr x y) 0 ≡ all (k + 1) (λ j. eqb (readLe 8 b (from + 8 * j)) 0)
+words-more b from k {x} {y} h l ey e =
+    or-zero x y h l ∙ all-next k (λ j. eqb (readLe 8 b (from + 8 * j)) 0) e (ap (λ (z : ℕ). eqb z 0) ey)
+
+-- Two parts that overlap or touch.
+clear-both : (b : List ℕ) (from m at n : ℕ) → from ≤ at → at ≤ from + m → from + m ≤ at + n → clearFrom b from m && clearFrom b at n ≡ clearFrom b from (at + n - from)
+unfolding clearFrom
+clear-both b from m at n h l g =
+    same-test _ _
+    (λ e. all-of (at + n - from) _
+    (λ i o. ⊎-elim (λ s. all-at m _ (left (clearFrom b from m) (clearFrom b at n) e) i s)
+    (λ s.
+    let q : at + (from + i - at) ≡ from + i = omega arith in
+    ap (λ (j : ℕ). eqb (getD b j 0) 0) (sym q) ∙ all-at n _ (right (clearFrom b from m) (clearFrom b at n) e) (from + i - at) (omega arith)) (lt-or-le i m)))
+    (λ e. both (clearFrom b from m) (clearFrom b at n) (all-of m _ (λ i o. all-at (at + n - from) _ e i (omega arith)))
+    (all-of n _ (λ i o. let q : from + (at + i - from) ≡ at + i = omega arith in ap (λ (j : ℕ). eqb (getD b j 0) 0) (sym q) ∙ all-at (at + n - from) _ e (at + i - from) (omega arith))))
+
+-- What the code makes of the first word and of the words up to the end.
+pub rest-judged : (b : List ℕ) (from words : ℕ) {x : ℕ} {t : Bool} → length b ≡ siteSize → from + 8 * words ≤ siteSize → siteSize < from + 8 * words + 8 → (words ≡ 0 → ⊥)
+    → x ≡ readLe 8 b from → t ≡ clearFrom b (siteSize - 8 * words) (8 * words) → eqb x 0 && t ≡ clearFrom b from (siteSize - from)
+rest-judged b from words size l g n ex et =
+    let q : siteSize - 8 * words + 8 * words - from ≡ siteSize - from = omega arith in
+    (λ i. (ap (λ (z : ℕ). eqb z 0) ex ∙ clear-word 8 b from (omega (arith, size))) i && et i)
+    ∙ clear-both b from 8 (siteSize - 8 * words) (8 * words) (omega arith) (omega arith) (omega arith)
+    ∙ ap (clearFrom b from) q
 
 -- ---- the sets heard
 

@@ -1,7 +1,7 @@
 // A lent site judged byte by byte, and a fresh site written over a lent buffer.
 ghost use mathlib.Core.Path.{_≡_};
 ghost use mathlib.Core.List.{List};
-ghost use Prim.Native.Nat.{_-_, _*_, _%_, _≤_, _<_, ℕ};
+ghost use Prim.Native.Nat.{_+_, _-_, _*_, _%_, _≤_, _<_, ℕ};
 ghost use lib.ListN.{length, getD};
 ghost use mathlib.Core.Bool.{_&&_};
 ghost use lib.Dec.{eqb, leb, ltb};
@@ -109,6 +109,33 @@ fn is_clear(site: &[u8], from: usize, to: usize) -> bool
     found == 0
 }
 
+// Whether n words from a place on are 0: found by their union.
+fn are_words_clear(site: &[u8], from: usize, n: usize) -> bool
+    requires { ⌜ from + 8 * n ≤ length (now site) ⌝ }
+    ensures { λ r. ⌜ r ≡ clearFrom (now (site .entry)) from (8 * n) ⌝ }
+{
+    let mut found: u64 = 0;
+    let mut k = 0;
+    while k < n {
+        found = found | wire::get8(site, from + 8 * k);
+        k += 1;
+    }
+    found == 0
+}
+
+// Whether the bytes from a place up to the site's end are 0: words up to the end, and before them the word at the place, which may overlap the next.
+fn is_rest_clear(site: &[u8], from: usize) -> bool
+    requires { ⌜ (length (now site) ≡ siteSize) × (from ≤ siteSize) ⌝ }
+    ensures { λ r. ⌜ r ≡ clearFrom (now (site .entry)) from (siteSize - from) ⌝ }
+{
+    let words = (Site::SIZE - from) / 8;
+    if words == 0 {
+        return is_clear(site, from, Site::SIZE);
+    }
+    let first = wire::get8(site, from);
+    (first == 0) & are_words_clear(site, Site::SIZE - 8 * words, words)
+}
+
 // The k-th byte of the places for deliveries where it is a command, and else 0.
 fn command_byte(k: usize, byte: u8) -> u8
     ensures { λ r. ⌜ r ≡ pick (eqb (k % deliverySize) 0) byte 0 ⌝ }
@@ -150,7 +177,7 @@ fn judge_deliveries(site: &[u8], commands: usize, recorded: usize) -> bool
     ensures { λ r. ⌜ r ≡ all capacity (goodSlot commands recorded (now (site .entry))) ⌝ }
 {
     let rest = Site::DELIVERIES + Site::DELIVERY * recorded;
-    if !is_clear(site, rest, Site::SIZE) {
+    if !is_rest_clear(site, rest) {
         return false;
     }
     if recorded == 0 {

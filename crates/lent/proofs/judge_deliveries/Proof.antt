@@ -19,18 +19,18 @@ mul-rest c = search needs
 add-rest : tie.Need-add-rest
 add-rest c = search needs
 
-is-clear-requires : tie.Need-is-clear-requires
-is-clear-requires c κs = search needs
+is-rest-clear-requires : tie.Need-is-rest-clear-requires
+is-rest-clear-requires c κs = search needs
 
 returns : tie.Need-returns
 returns c =
     let a = c .before .before .before .args in
-    slots-not (now (a .site)) (a .commands) (a .recorded) (c .before .before .before .pre .0) (c .before .before .before .pre .1) (c .before .is-clear .ensures) (not-true _ (c .if1 .taken))
+    slots-not (now (a .site)) (a .commands) (a .recorded) (c .before .before .before .pre .0) (c .before .before .before .pre .1) (c .before .is-rest-clear .ensures) (not-true _ (c .if1 .taken))
 
 returns-2 : tie.Need-returns-2
 returns-2 c =
     let a = c .before .before .before .before .args in
-    slots-none (now (a .site)) (a .commands) (a .recorded) (c .before .before .before .before .pre .0) (c .before .before .before .before .pre .1) (c .before .before .is-clear .ensures) (c .if2 .taken) (not-false _ (c .before .if1 .left))
+    slots-none (now (a .site)) (a .commands) (a .recorded) (c .before .before .before .before .pre .0) (c .before .before .before .before .pre .1) (c .before .before .is-rest-clear .ensures) (c .if2 .taken) (not-false _ (c .before .if1 .left))
 
 commands-within-requires : tie.Need-commands-within-requires
 commands-within-requires c κs = search needs
@@ -39,7 +39,7 @@ returns-3 : tie.Need-returns-3
 returns-3 c =
     let a = c .before .before .before .before .before .args in
     let n = c .before .if2 .left in
-    slots-some (now (a .site)) (a .commands) (a .recorded) (c .before .before .before .before .before .pre .0) (c .before .before .before .before .before .pre .1) (c .before .before .before .is-clear .ensures) (positive (a .recorded) n) (not-false _ (c .before .before .if1 .left))
+    slots-some (now (a .site)) (a .commands) (a .recorded) (c .before .before .before .before .before .pre .0) (c .before .before .before .before .before .pre .1) (c .before .before .before .is-rest-clear .ensures) (positive (a .recorded) n) (not-false _ (c .before .before .if1 .left))
     (c .commands-within .ensures)
 
 pub judge-deliveries-spec : {M : Type 1} → statement M
@@ -48,7 +48,7 @@ judge-deliveries-spec =
     (tie.spec
     mul-rest
     add-rest
-    is-clear-requires
+    is-rest-clear-requires
     returns
     returns-2
     commands-within-requires
