@@ -1,41 +1,28 @@
 -- The test of a lent site tells exactly the good sites whose log position is among the entries lent.
 -- Assumes nothing.
-use mathlib.Core.Path.{_≡_, sym, ap, _∙_}
+use mathlib.Core.Path.{_≡_, refl, sym, ap, _∙_}
 use mathlib.Core.Bool.{Bool, true, false, _&&_, _||_}
 use mathlib.Core.Logic.{_⊎_, inl, inr, ⊎-elim}
 use mathlib.Core.List.{List}
-use Prim.Native.Nat.{ℕ, _+_, _*_, _≤_, _<_}
+use Prim.Native.Nat.{ℕ, zero, suc, _+_, _*_, _≤_, _<_}
 use native.Mathlib.Omega.{arith}
 use lib.Dec.{eqb, leb, ltb}
-use lib.ListN.{length}
+use lib.ListN.{length, getD}
 use borrow.Author.Tests.{ltb-true, lt-ltb, leb-true, le-leb, eqb-true, eq-eqb}
 use Rattle.theory.specs.Sets.{all}
-use Rattle.theory.specs.Counting.{both, left, right, either, true-or, or-true, lt-or-le, all-at, all-of}
+use Rattle.theory.specs.Counting.{both, never, left, right, either, true-or, or-true, lt-or-le, all-at, all-of}
 use Rattle.wire.specs.Wire.{readLe}
 use Rattle.sets.specs.declared.Set.{Set}
-use Rattle.sets.specs.Sets.{capacity, withinOf, readSet}
+use Rattle.sets.specs.Sets.{capacity, emptyOf, unionOf, isEmptyOf, withinOf, readSet}
+use Rattle.sets.proofs.Laws.{empty-word, union-fits, read-fits}
 use Rattle.register.specs.Register.{isWithin}
 use Rattle.register.specs.Lent.{registerOf}
 use Rattle.register.proofs.Laws.{within-test}
 use Rattle.register.proofs.Lent.{view-within}
 use Rattle.layout.specs.declared.Site.{Site}
-use Rattle.layout.specs.Layout.{siteSize, phasePlace, countPlace, positionPlace, ncPlace, cPlace, registerPlace, siteRounds, heardSets, heardAt, slot, headOf, proposalOf}
+use Rattle.layout.specs.Layout.{siteSize, roundPlace, phasePlace, countPlace, positionPlace, receivedPlace, deliveredPlace, pendingPlace, fastPlace, ncPlace, cPlace, registerPlace, siteRounds, heardSets, heardAt, slot, headOf, phaseFrom, proposalOf}
 use Rattle.layout.specs.Good.{GoodHead, GoodTables, Good, goodHead, goodHeard, goodSlot, goodPhase, goodSite}
-
--- What the code of judge makes of its parts, where the size is right.
-pub judged : (sites commands entries : ℕ) (b : List ℕ) {h : Site} {p e w d g : Bool} → length b ≡ siteSize → h ≡ headOf b → p ≡ goodPhase b → g ≡ goodHead commands h
-    → e ≡ all heardSets (goodHeard sites commands b) → w ≡ isWithin (registerOf b registerPlace) → d ≡ all capacity (goodSlot commands (h .deliveries) b)
-    → (leb (h .position) entries && p && g && e && w && d) ≡ goodSite sites commands entries b
-unfolding headOf
-judged sites commands entries b el eh ep eg ee ew ed =
-    (λ i.
-    leb (eh i .position) entries && ep i && (eg ∙ ap (goodHead commands) eh) i && ee i && ew i
-    && (ed ∙ ap (λ (x : Site). all capacity (goodSlot commands (x .deliveries) b)) eh) i)
-    ∙ ap
-    (λ (t : Bool).
-    t && leb (readLe 2 b positionPlace) entries && goodPhase b && goodHead commands (headOf b) && all heardSets (goodHeard sites commands b)
-    && isWithin (registerOf b registerPlace) && all capacity (goodSlot commands (readLe 1 b countPlace) b))
-    (sym (eq-eqb (length b) siteSize el))
+use Rattle.lent.proofs.Tables.{and-assoc, within-union, or-zero, same-false}
 
 pub not-sized : (sites commands entries : ℕ) (b : List ℕ) → eqb (length b) siteSize ≡ false → false ≡ goodSite sites commands entries b
 not-sized sites commands entries b e =
@@ -136,6 +123,86 @@ module _ (b : List ℕ) where
       go (inr l) =
           true-or (eqb (readLe 1 b phasePlace) 1) (eqb (readLe 1 b phasePlace) 0 && eqb (readLe 8 b ncPlace) 0 && eqb (readLe 8 b cPlace) 0)
           (eq-eqb (readLe 1 b phasePlace) 1 (omega arith))
+
+  -- ---- what the code of judge_header makes of the bytes
+
+  -- The sets that a phase waits with are those that stand there, where nothing stands while it acknowledges.
+  nc-same : (t : ℕ) (nc c : Set) → (t ≡ 0 → nc ≡ emptyOf) → nc ≡ proposalOf (phaseFrom t nc c) .nc
+  nc-same zero nc c h = h refl
+  nc-same (suc t) nc c h = refl
+
+  c-same : (t : ℕ) (nc c : Set) → (t ≡ 0 → c ≡ emptyOf) → c ≡ proposalOf (phaseFrom t nc c) .c
+  c-same zero nc c h = h refl
+  c-same (suc t) nc c h = refl
+
+  empty-read : (at : ℕ) → readLe 8 b at ≡ 0 → readSet b at ≡ emptyOf
+  unfolding readSet
+  empty-read at e = λ i. record { bits = e i }
+
+  spread : (t r d p f n c : Bool) → t && ((((r && d) && p) && f) && (n && c)) ≡ (((((t && r) && d) && p) && f) && n) && c
+  spread true r d p f n c = sym (and-assoc (((r && d) && p) && f) n c)
+  spread false r d p f n c = refl
+
+  module _ (commands : ℕ) (size : length b ≡ siteSize) (small : (i : ℕ) → getD b i 0 < 256) where
+    nothing-proposed : isEmptyOf (unionOf (readSet b ncPlace) (readSet b cPlace)) ≡ eqb (readLe 8 b ncPlace) 0 && eqb (readLe 8 b cPlace) 0
+    unfolding readSet unionOf
+    nothing-proposed =
+        let n = read-fits b ncPlace small (omega (arith, size)) in
+        let c = read-fits b cPlace small (omega (arith, size)) in
+        sym (empty-word (unionOf (readSet b ncPlace) (readSet b cPlace)) (union-fits (readSet b ncPlace) (readSet b cPlace) n c))
+        ∙ or-zero (readLe 8 b ncPlace) (readLe 8 b cPlace) n c
+
+    abbrev within : ℕ → Bool
+    within at = withinOf (readSet b at) commands
+
+    abbrev sets : Set
+    sets =
+        unionOf (unionOf (unionOf (unionOf (readSet b receivedPlace) (readSet b deliveredPlace)) (readSet b pendingPlace)) (readSet b fastPlace))
+        (unionOf (readSet b ncPlace) (readSet b cPlace))
+
+    sets-within : withinOf sets commands
+        ≡ (((within receivedPlace && within deliveredPlace) && within pendingPlace) && within fastPlace) && (within ncPlace && within cPlace)
+    sets-within =
+        within-union _ (unionOf (readSet b ncPlace) (readSet b cPlace)) commands
+        ∙ (λ i.
+        (within-union _ (readSet b fastPlace) commands
+        ∙ (λ j. (within-union _ (readSet b pendingPlace) commands ∙ (λ k. within-union (readSet b receivedPlace) (readSet b deliveredPlace) commands k && within pendingPlace)) j && within fastPlace)) i
+        && within-union (readSet b ncPlace) (readSet b cPlace) commands i)
+
+    abbrev numbers : Bool
+    numbers =
+        leb 1 (readLe 1 b roundPlace) && leb (readLe 1 b roundPlace) siteRounds && leb (readLe 1 b countPlace) commands && leb (readLe 1 b countPlace) capacity
+
+    in-phase : (p : Bool) → goodPhase b ≡ p
+        → (p && leb 1 (readLe 1 b roundPlace) && leb (readLe 1 b roundPlace) siteRounds && leb (readLe 1 b countPlace) commands && leb (readLe 1 b countPlace) capacity && withinOf sets commands)
+        ≡ (p && goodHead commands (headOf b))
+    unfolding goodHead headOf
+    in-phase false e = refl
+    in-phase true e =
+        let h = phase-good e .1 in
+        ap (λ (t : Bool). numbers && t) sets-within
+        ∙ spread numbers (within receivedPlace) (within deliveredPlace) (within pendingPlace) (within fastPlace) (within ncPlace) (within cPlace)
+        ∙ (λ i.
+        ((((numbers && within receivedPlace) && within deliveredPlace) && within pendingPlace) && within fastPlace)
+        && withinOf (nc-same (readLe 1 b phasePlace) (readSet b ncPlace) (readSet b cPlace) (λ z. empty-read ncPlace (h z .0)) i) commands
+        && withinOf (c-same (readLe 1 b phasePlace) (readSet b ncPlace) (readSet b cPlace) (λ z. empty-read cPlace (h z .1)) i) commands)
+
+    pub head-judged : {tag round n : ℕ} {u v : Set} {e w : Bool} → tag ≡ readLe 1 b phasePlace → round ≡ readLe 1 b roundPlace → n ≡ readLe 1 b countPlace
+        → u ≡ unionOf (readSet b ncPlace) (readSet b cPlace)
+        → v ≡ unionOf (unionOf (unionOf (unionOf (readSet b receivedPlace) (readSet b deliveredPlace)) (readSet b pendingPlace)) (readSet b fastPlace)) u
+        → e ≡ isEmptyOf u → w ≡ withinOf v commands
+        → ((eqb tag 1 || eqb tag 0 && e) && leb 1 round && leb round siteRounds && leb n commands && leb n capacity && w) ≡ (goodPhase b && goodHead commands (headOf b))
+    head-judged et er en eu ev ee ew =
+        (λ i.
+        (eqb (et i) 1 || eqb (et i) 0 && (ee ∙ ap isEmptyOf eu ∙ nothing-proposed) i)
+        && leb 1 (er i) && leb (er i) siteRounds && leb (en i) commands && leb (en i) capacity
+        && (ew ∙ ap (λ (s : Set). withinOf s commands) (ev ∙ ap (unionOf _) eu)) i)
+        ∙ ap
+        (λ (t : Bool).
+        (eqb (readLe 1 b phasePlace) 1 || t) && leb 1 (readLe 1 b roundPlace) && leb (readLe 1 b roundPlace) siteRounds && leb (readLe 1 b countPlace) commands
+        && leb (readLe 1 b countPlace) capacity && withinOf sets commands)
+        (sym (and-assoc (eqb (readLe 1 b phasePlace) 0) (eqb (readLe 8 b ncPlace) 0) (eqb (readLe 8 b cPlace) 0)))
+        ∙ in-phase (goodPhase b) refl
 
   module _ (sites commands n : ℕ) where
     tables-good : n ≤ capacity → all heardSets (goodHeard sites commands b) ≡ true → isWithin (registerOf b registerPlace) ≡ true
@@ -246,3 +313,56 @@ module _ (b : List ℕ) where
           within-test (registerOf b registerPlace) (g .tables .readings),
           good-slots sites commands (readLe 1 b countPlace) (g .tables),
         )
+
+  -- ---- what the code of judge tells
+
+  module _ (sites commands entries : ℕ) where
+    abbrev site : Bool
+    site = goodSite sites commands entries b
+
+    parts : site ≡ true
+        → (leb (readLe 2 b positionPlace) entries ≡ true) × ((goodPhase b && goodHead commands (headOf b)) ≡ true) × (all heardSets (goodHeard sites commands b) ≡ true)
+        × (isWithin (registerOf b registerPlace) ≡ true)
+    parts h =
+        let t₁ = eqb (length b) siteSize in
+        let t₂ = t₁ && leb (readLe 2 b positionPlace) entries in
+        let t₃ = t₂ && goodPhase b in
+        let t₄ = t₃ && goodHead commands (headOf b) in
+        let t₅ = t₄ && all heardSets (goodHeard sites commands b) in
+        let t₆ = t₅ && isWithin (registerOf b registerPlace) in
+        let e₆ = split t₅ (isWithin (registerOf b registerPlace)) (left t₆ (all capacity (goodSlot commands (readLe 1 b countPlace) b)) h) in
+        let e₅ = split t₄ (all heardSets (goodHeard sites commands b)) (e₆ .0) in
+        let e₄ = split t₃ (goodHead commands (headOf b)) (e₅ .0) in
+        let e₃ = split t₂ (goodPhase b) (e₄ .0) in
+        (right t₁ (leb (readLe 2 b positionPlace) entries) (e₃ .0), both (goodPhase b) (goodHead commands (headOf b)) (e₃ .1) (e₄ .1), e₅ .1, e₆ .1)
+
+    -- Where one part is not good, the site is not.
+    pub not-within-log : {p : ℕ} → p ≡ readLe 2 b positionPlace → entries < p → false ≡ site
+    not-within-log e l =
+        sym (same-false site (λ h. let q = leb-true (readLe 2 b positionPlace) entries (parts h .0) in let z = e in absurd (omega arith)))
+
+    pub not-header : {t : Bool} → t ≡ (goodPhase b && goodHead commands (headOf b)) → t ≡ false → false ≡ site
+    not-header {t} e f = sym (same-false site (λ h. never t (e ∙ parts h .1) f))
+
+    pub not-heard : {t : Bool} → t ≡ all heardSets (goodHeard sites commands b) → t ≡ false → false ≡ site
+    not-heard {t} e f = sym (same-false site (λ h. never t (e ∙ parts h .2) f))
+
+    pub not-register : {t : Bool} → t ≡ isWithin (registerOf b registerPlace) → t ≡ false → false ≡ site
+    not-register {t} e f = sym (same-false site (λ h. never t (e ∙ parts h .3) f))
+
+    -- Where all parts but the deliveries are good, the deliveries tell.
+    pub judged : {p n : ℕ} {t u w d : Bool} → length b ≡ siteSize → p ≡ readLe 2 b positionPlace → p ≤ entries
+        → t ≡ (goodPhase b && goodHead commands (headOf b)) → t ≡ true → u ≡ all heardSets (goodHeard sites commands b) → u ≡ true
+        → w ≡ isWithin (registerOf b registerPlace) → w ≡ true → n ≡ readLe 1 b countPlace → d ≡ all capacity (goodSlot commands n b) → d ≡ site
+    judged el ep lp et tt′ eu ut ew wt en ed =
+        let h = split (goodPhase b) (goodHead commands (headOf b)) (sym et ∙ tt′) in
+        let l : readLe 2 b positionPlace ≤ entries = let z = ep in omega arith in
+        ed
+        ∙ ap (λ (m : ℕ). all capacity (goodSlot commands m b)) en
+        ∙ sym (λ i.
+        eq-eqb (length b) siteSize el i && le-leb (readLe 2 b positionPlace) entries l i && h .0 i && h .1 i && (sym eu ∙ ut) i && (sym ew ∙ wt) i
+        && all capacity (goodSlot commands (readLe 1 b countPlace) b))
+
+    -- A header that is good counts no more deliveries than there are places.
+    pub few : {t : Bool} → t ≡ (goodPhase b && goodHead commands (headOf b)) → t ≡ true → readLe 1 b countPlace ≤ capacity
+    few e h = counted (head-good commands (headOf b) (right (goodPhase b) (goodHead commands (headOf b)) (sym e ∙ h)) .room)

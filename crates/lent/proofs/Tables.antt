@@ -1,27 +1,29 @@
 -- The tables of a lent site are good where the sets and commands that count are within the book and the bytes of all others are 0.
 -- Rests on sets' Laws.
-use mathlib.Core.Path.{_≡_, refl, sym, ap, _∙_}
+use mathlib.Core.Path.{_≡_, refl, sym, ap, subst, _∙_}
 use mathlib.Core.Bool.{Bool, true, false, not, _&&_, _||_}
+use mathlib.Core.Logic.{⊎-elim}
 use mathlib.Core.List.{List}
-use Prim.Native.Nat.{ℕ, zero, suc, _+_, _*_, _-_, _/_, _≤_, _<_, _^_}
+use Prim.Native.Nat.{ℕ, zero, suc, _+_, _*_, _-_, _/_, _%_, _≤_, _<_, _^_}
 use native.Mathlib.Nat.{mul-suc}
 use native.Mathlib.Decide.{ℕ-discrete}
 use native.Mathlib.Omega.{arith}
 use lib.Bits.{bitOr, or-lt}
-use lib.Pow.{shr-le}
-use lib.Dec.{eqb, ltb}
+use lib.Dec.{eqb, leb, ltb, lit<}
 use lib.ListN.{length, getD}
-use borrow.Author.Tests.{eq-eqb, ne-eqb, lt-ltb, le-ltb, le-leb, lt-leb}
-use Rattle.theory.specs.Sets.{all}
-use Rattle.theory.specs.Counting.{all-of, all-ext, any-not-all, not-not, or-false}
+use borrow.Author.Tests.{eq-eqb, ne-eqb, eqb-true, lt-ltb, le-ltb, ltb-true, ltb-false, le-leb, lt-leb, leb-true}
+use Rattle.theory.specs.Sets.{all, pick}
+use Rattle.theory.specs.Counting.{both, left, right, never, same-test, lt-or-le, all-at, all-of, all-none, all-ext, any-not-all, not-not, or-false}
 use Rattle.wire.specs.Wire.{readLe}
 use Rattle.wire.proofs.Laws.{read-suc, read-none, read-one}
 use Rattle.sets.specs.declared.Set.{Set}
-use Rattle.sets.specs.Sets.{capacity, inSet, unionOf, isEmptyOf, withinOf, setBytes, readSet}
-use Rattle.sets.proofs.Laws.{in-union, within-at, within-of, within-word, within-all, empty-word, read-fits}
-use Rattle.layout.specs.Layout.{siteSize, siteRounds, heardSets, registerPlace, heardAt, slot}
+use Rattle.sets.specs.Sets.{capacity, inSet, emptyOf, unionOf, isEmptyOf, withinOf, setBytes, readSet}
+use Rattle.sets.proofs.Laws.{in-union, within-at, within-of, within-all, empty-word, read-fits}
+use Rattle.layout.specs.Layout.{siteSize, siteRounds, heardSets, heardAt, deliveriesPlace, deliverySize, slot}
+use Rattle.table.specs.Table.{maxSites}
 use Rattle.layout.specs.Good.{goodHeard, goodSlot}
-use Rattle.lent.specs.Clear.{clearFrom, withinAt, recordedAt}
+use Rattle.layout.proofs.Tables.{within-empty}
+use Rattle.lent.specs.Clear.{clearFrom, unionFrom, recordedAt}
 
 -- ---- tests, all together
 
@@ -31,13 +33,21 @@ and-swap true false true d = refl
 and-swap true false false d = refl
 and-swap false b c d = refl
 
-and-assoc : (a b c : Bool) → (a && b) && c ≡ a && (b && c)
+pub and-assoc : (a b c : Bool) → (a && b) && c ≡ a && (b && c)
 and-assoc true b c = refl
 and-assoc false b c = refl
 
 and-true : (a : Bool) → a && true ≡ a
 and-true true = refl
 and-true false = refl
+
+and-false : (a : Bool) → a && false ≡ false
+and-false true = refl
+and-false false = refl
+
+pub same-false : (a : Bool) → (a ≡ true → ⊥) → a ≡ false
+same-false true h = absurd (h refl)
+same-false false h = refl
 
 absorbed : (x y : Bool) → (y ≡ true → x ≡ true) → x && y ≡ y
 absorbed x true h = ap (λ (t : Bool). t && true) (h refl)
@@ -76,7 +86,7 @@ neither false true true = refl
 neither false true false = refl
 neither false false z = refl
 
-within-union : (x y : Set) (c : ℕ) → withinOf (unionOf x y) c ≡ withinOf x c && withinOf y c
+pub within-union : (x y : Set) (c : ℕ) → withinOf (unionOf x y) c ≡ withinOf x c && withinOf y c
 within-union x y c =
     all-ext capacity _ (λ m. (not (inSet x m) || ltb m c) && (not (inSet y m) || ltb m c))
     (λ m l. ap (λ (t : Bool). not t || ltb m c) (in-union x y m) ∙ neither (inSet x m) (inSet y m) (ltb m c))
@@ -93,7 +103,7 @@ empty-within x =
 zero-word : (x : Set) → x .bits < 2 ^ 64 → eqb (x .bits) 0 ≡ withinOf x 0
 zero-word x h = empty-word x h ∙ empty-within x
 
-or-zero : (a b : ℕ) → a < 2 ^ 64 → b < 2 ^ 64 → eqb (bitOr a b) 0 ≡ eqb a 0 && eqb b 0
+pub or-zero : (a b : ℕ) → a < 2 ^ 64 → b < 2 ^ 64 → eqb (bitOr a b) 0 ≡ eqb a 0 && eqb b 0
 unfolding unionOf
 or-zero a b h l =
     zero-word (unionOf (record { bits = a }) (record { bits = b })) (or-lt 64 a b h l)
@@ -158,64 +168,189 @@ clear-words w (suc n) b from h =
     ∙ sym (all-split (w * n) w (λ i. eqb (getD b (from + i) 0) 0))
     ∙ ap (λ (m : ℕ). all m (λ i. eqb (getD b (from + i) 0) 0)) (sym q)
 
+-- One word more.
+pub words-more : (b : List ℕ) (from k : ℕ) {x y : ℕ} → x < 2 ^ 64 → y < 2 ^ 64 → y ≡ readLe 8 b (from + 8 * k) → eqb x 0 ≡ all k (λ j. eqb (readLe 8 b (from + 8 * j)) 0)
+    → eqb (bitOr x y) 0 ≡ all (k + 1) (λ j. eqb (readLe 8 b (from + 8 * j)) 0)
+words-more b from k {x} {y} h l ey e =
+    or-zero x y h l ∙ all-next k (λ j. eqb (readLe 8 b (from + 8 * j)) 0) e (ap (λ (z : ℕ). eqb z 0) ey)
+
+-- Two parts that overlap or touch.
+clear-both : (b : List ℕ) (from m at n : ℕ) → from ≤ at → at ≤ from + m → from + m ≤ at + n → clearFrom b from m && clearFrom b at n ≡ clearFrom b from (at + n - from)
+unfolding clearFrom
+clear-both b from m at n h l g =
+    same-test _ _
+    (λ e. all-of (at + n - from) _
+    (λ i o. ⊎-elim (λ s. all-at m _ (left (clearFrom b from m) (clearFrom b at n) e) i s)
+    (λ s.
+    let q : at + (from + i - at) ≡ from + i = omega arith in
+    ap (λ (j : ℕ). eqb (getD b j 0) 0) (sym q) ∙ all-at n _ (right (clearFrom b from m) (clearFrom b at n) e) (from + i - at) (omega arith)) (lt-or-le i m)))
+    (λ e. both (clearFrom b from m) (clearFrom b at n) (all-of m _ (λ i o. all-at (at + n - from) _ e i (omega arith)))
+    (all-of n _ (λ i o. let q : from + (at + i - from) ≡ at + i = omega arith in ap (λ (j : ℕ). eqb (getD b j 0) 0) (sym q) ∙ all-at (at + n - from) _ e (at + i - from) (omega arith))))
+
+-- What the code makes of the first word and of the words up to the end.
+pub rest-judged : (b : List ℕ) (from words : ℕ) {x : ℕ} {t : Bool} → length b ≡ siteSize → from + 8 * words ≤ siteSize → siteSize < from + 8 * words + 8 → (words ≡ 0 → ⊥)
+    → x ≡ readLe 8 b from → t ≡ clearFrom b (siteSize - 8 * words) (8 * words) → eqb x 0 && t ≡ clearFrom b from (siteSize - from)
+rest-judged b from words size l g n ex et =
+    let q : siteSize - 8 * words + 8 * words - from ≡ siteSize - from = omega arith in
+    (λ i. (ap (λ (z : ℕ). eqb z 0) ex ∙ clear-word 8 b from (omega (arith, size))) i && et i)
+    ∙ clear-both b from 8 (siteSize - 8 * words) (8 * words) (omega arith) (omega arith) (omega arith)
+    ∙ ap (clearFrom b from) q
+
 -- ---- the sets heard
 
-module _ (b : List ℕ) (commands : ℕ) where
-  pub within-full : (n : ℕ) → capacity ≤ commands → true ≡ all n (withinAt commands b)
-  within-full n h = sym (all-of n (withinAt commands b) (λ m l. within-all (readSet b (heardAt m)) commands h))
+-- A union is within a book where all its sets are.
+union-within : (b : List ℕ) (at commands n : ℕ) → withinOf (unionFrom b at n) commands ≡ all n (λ k. withinOf (readSet b (at + setBytes * k)) commands)
+unfolding unionFrom all
+union-within b at commands zero = within-empty commands
+union-within b at commands (suc n) =
+    within-union (unionFrom b at n) (readSet b (at + setBytes * n)) commands
+    ∙ ap (λ (t : Bool). t && withinOf (readSet b (at + setBytes * n)) commands) (union-within b at commands n)
 
-  pub within-more : (k : ℕ) {x : ℕ} {y : Set} → x < 2 ^ 64 → y .bits < 2 ^ 64 → y ≡ readSet b (heardAt k) → eqb x 0 ≡ all k (withinAt commands b)
-      → (bitOr x (y .bits / 2 ^ commands) < 2 ^ 64) × (eqb (bitOr x (y .bits / 2 ^ commands)) 0 ≡ all (k + 1) (withinAt commands b))
-  within-more k {x} {y} h f ey e =
-      let l : y .bits / 2 ^ commands < 2 ^ 64 = omega (arith, shr-le (y .bits) commands) in (
-        or-lt 64 x (y .bits / 2 ^ commands) h l,
-        or-zero x (y .bits / 2 ^ commands) h l
-            ∙ all-next k (withinAt commands b) e (within-word y commands f ∙ ap (λ (s : Set). withinOf s commands) ey),
-      )
+-- One set more.
+pub union-more : (b : List ℕ) (at k : ℕ) {x y z : Set} → x ≡ unionFrom b at k → y ≡ readSet b (at + setBytes * k) → z ≡ unionOf x y → z ≡ unionFrom b at (k + 1)
+unfolding unionFrom
+union-more b at k ex ey ez = let q : suc k ≡ k + 1 = omega arith in ez ∙ (λ i. unionOf (ex i) (ey i)) ∙ ap (unionFrom b at) q
 
-module _ (b : List ℕ) (sites commands : ℕ) (size : length b ≡ siteSize) (small : (i : ℕ) → getD b i 0 < 256) (few : siteRounds * sites ≤ heardSets) where
-  abbrev senders : ℕ
-  senders = siteRounds * sites
+pub union-none : (b : List ℕ) (at : ℕ) → emptyOf ≡ unionFrom b at 0
+unfolding unionFrom
+union-none b at = refl
 
-  spoken : all senders (withinAt commands b) ≡ all senders (goodHeard sites commands b)
-  spoken =
-      all-ext senders _ (goodHeard sites commands b)
-      (λ m l.
+pub first-few : (t : Bool) (sites : ℕ) → sites ≤ maxSites → pick t sites 0 ≤ maxSites
+first-few true sites h = h
+first-few false sites h = omega arith
+
+module _ (b : List ℕ) (sites commands : ℕ) (size : length b ≡ siteSize) (small : (i : ℕ) → getD b i 0 < 256) where
+  abbrev good : ℕ → Bool
+  good = goodHeard sites commands b
+
+  spoken : (m : ℕ) → m < siteRounds * sites → withinOf (readSet b (heardAt m)) commands ≡ good m
+  spoken m l =
       sym (and-true (withinOf (readSet b (heardAt m)) commands))
-      ∙ ap (λ (t : Bool). withinOf (readSet b (heardAt m)) commands && (t || eqb (readLe setBytes b (heardAt m)) 0)) (sym (lt-ltb m senders l)))
+      ∙ ap (λ (t : Bool). withinOf (readSet b (heardAt m)) commands && (t || eqb (readLe setBytes b (heardAt m)) 0)) (sym (lt-ltb m (siteRounds * sites) l))
 
-  silence : (m : ℕ) → m < heardSets → senders ≤ m → eqb (readLe setBytes b (heardAt m)) 0 ≡ goodHeard sites commands b m
+  silent : (m : ℕ) → m < heardSets → siteRounds * sites ≤ m → withinOf (readSet b (heardAt m)) 0 ≡ good m
   unfolding readSet
-  silence m l g =
+  silent m l g =
       let s = readSet b (heardAt m) in
       let e : eqb (readLe setBytes b (heardAt m)) 0 ≡ withinOf s 0 = zero-word s (read-fits b (heardAt m) small (omega (arith, size))) in
       sym
-      (ap (λ (t : Bool). withinOf s commands && (t || eqb (readLe setBytes b (heardAt m)) 0)) (le-ltb m senders g)
+      (ap (λ (t : Bool). withinOf s commands && (t || eqb (readLe setBytes b (heardAt m)) 0)) (le-ltb m (siteRounds * sites) g)
       ∙ ap (λ (t : Bool). withinOf s commands && t) e
-      ∙ absorbed (withinOf s commands) (withinOf s 0) (λ h. within-of s commands (λ j lj hj. absurd (nothing (within-at s 0 h j lj hj))))
-      ∙ sym e)
+      ∙ absorbed (withinOf s commands) (withinOf s 0) (λ h. within-of s commands (λ j lj hj. absurd (nothing (within-at s 0 h j lj hj)))))
     where
       nothing : {j : ℕ} → j < 0 → ⊥
       nothing h = omega arith
 
-  -- What the code makes of the two parts.
-  pub heard-judged : {w e : Bool} → w ≡ all senders (withinAt commands b) → e ≡ clearFrom b (heardAt senders) (registerPlace - heardAt senders)
-      → w && e ≡ all heardSets (goodHeard sites commands b)
-  heard-judged ew ee =
-      let q : senders + (heardSets - senders) ≡ heardSets = omega arith in
-      let z : registerPlace - heardAt senders ≡ setBytes * (heardSets - senders) = omega arith in
-      (λ i.
-      (ew ∙ spoken) i
-      && (ee ∙ ap (clearFrom b (heardAt senders)) z
-      ∙ sym (clear-words setBytes (heardSets - senders) b (heardAt senders) (omega (arith, size)))
-      ∙ all-ext (heardSets - senders) _ (λ j. goodHeard sites commands b (senders + j))
-      (λ m l.
-      let p : heardAt senders + setBytes * m ≡ heardAt (senders + m) = omega arith in
-      ap (λ (at : ℕ). eqb (readLe setBytes b at) 0) p ∙ silence (senders + m) (omega arith) (omega arith))) i)
-      ∙ sym (all-split senders (heardSets - senders) (goodHeard sites commands b))
-      ∙ ap (λ (n : ℕ). all n (goodHeard sites commands b)) q
+  -- The k-th set of a sender.
+  of-sender : (sender k : ℕ) → sender < maxSites → k < siteRounds
+      → withinOf (readSet b (heardAt (siteRounds * sender) + setBytes * k)) (pick (ltb sender sites) commands 0) ≡ good (siteRounds * sender + k)
+  of-sender sender k l g =
+      let q : heardAt (siteRounds * sender) + setBytes * k ≡ heardAt (siteRounds * sender + k) = omega arith in
+      ap (λ (at : ℕ). withinOf (readSet b at) (pick (ltb sender sites) commands 0)) q
+      ∙ ⊎-elim
+      (λ h. ap (λ (t : Bool). withinOf (readSet b (heardAt (siteRounds * sender + k))) (pick t commands 0)) (lt-ltb sender sites h)
+      ∙ spoken (siteRounds * sender + k) (omega arith))
+      (λ h. ap (λ (t : Bool). withinOf (readSet b (heardAt (siteRounds * sender + k))) (pick t commands 0)) (le-ltb sender sites h)
+      ∙ silent (siteRounds * sender + k) (omega arith) (omega arith))
+      (lt-or-le sender sites)
+
+  -- All sets of a sender.
+  sender-sets : (sender : ℕ) → sender < maxSites
+      → withinOf (unionFrom b (heardAt (siteRounds * sender)) siteRounds) (pick (ltb sender sites) commands 0) ≡ all siteRounds (λ k. good (siteRounds * sender + k))
+  sender-sets sender l =
+      union-within b (heardAt (siteRounds * sender)) (pick (ltb sender sites) commands 0) siteRounds
+      ∙ all-ext siteRounds _ (λ k. good (siteRounds * sender + k)) (λ k g. of-sender sender k l g)
+
+  -- What the code tells of one sender more.
+  module _ (sender : ℕ) {u : Set} {n : ℕ} {t : Bool} (l : sender < maxSites) (eu : u ≡ unionFrom b (heardAt (siteRounds * sender)) siteRounds)
+      (en : n ≡ pick (ltb sender sites) commands 0) (et : t ≡ withinOf u n) where
+    told : t ≡ all siteRounds (λ k. good (siteRounds * sender + k))
+    told = et ∙ (λ i. withinOf (eu i) (en i)) ∙ sender-sets sender l
+
+    pub senders-more : all (siteRounds * sender) good ≡ true → t ≡ true → all (siteRounds * (sender + 1)) good ≡ true
+    senders-more h y =
+        let q : siteRounds * sender + siteRounds ≡ siteRounds * (sender + 1) = omega arith in
+        ap (λ (n : ℕ). all n good) (sym q)
+        ∙ all-split (siteRounds * sender) siteRounds good
+        ∙ (λ i. h i && (sym told ∙ y) i)
+
+    pub senders-not : t ≡ false → false ≡ all heardSets good
+    senders-not y = sym (same-false (all heardSets good) (λ h. never t (told ∙ all-of siteRounds _ (λ k g. all-at heardSets good h (siteRounds * sender + k) (omega arith))) y))
+
+  -- Where the first looked at is the first that there is not, the book has all that a set can hold.
+  pub senders-first : all (siteRounds * pick (leb capacity commands) sites 0) good ≡ true
+  senders-first = go (leb capacity commands) refl
+    where
+      go : (t : Bool) → leb capacity commands ≡ t → all (siteRounds * pick t sites 0) good ≡ true
+      go true e = all-of (siteRounds * sites) good (λ m l. sym (spoken m l) ∙ within-all (readSet b (heardAt m)) commands (leb-true capacity commands e))
+      go false e = let q : 0 ≡ siteRounds * 0 = omega arith in ap (λ (n : ℕ). all n good) (sym q) ∙ all-none good
 
 -- ---- the deliveries
+
+-- The k-th byte of the places for deliveries where it is a command, and else 0.
+abbrev pub counted : List ℕ → ℕ → ℕ
+counted b k = pick (eqb (k % deliverySize) 0) (getD b (deliveriesPlace + k) 0) 0
+
+module _ (b : List ℕ) (commands : ℕ) (size : length b ≡ siteSize) where
+  at-slot : (k : ℕ) → k < capacity → readLe 1 b (slot k) ≡ counted b (deliverySize * k)
+  at-slot k l =
+      let e : deliverySize * k % deliverySize ≡ 0 = omega arith in
+      read-one b (slot k) (omega (arith, size))
+      ∙ sym (ap (λ (t : Bool). pick t (getD b (slot k) 0) 0) (eq-eqb (deliverySize * k % deliverySize) 0 e))
+
+  counted-below : 0 < commands → all capacity (recordedAt commands b) ≡ true → (m : ℕ) → m < siteSize - deliveriesPlace → counted b m < commands
+  counted-below h e m l = go (eqb (m % deliverySize) 0) refl
+    where
+      go : (t : Bool) → eqb (m % deliverySize) 0 ≡ t → counted b m < commands
+      go true y =
+          let z = eqb-true (m % deliverySize) 0 y in
+          let q : m ≡ deliverySize * (m / deliverySize) = omega arith in
+          let s : m / deliverySize < capacity = omega arith in
+          subst (λ (x : ℕ). counted b x < commands) (sym q)
+          (subst (λ (x : ℕ). x < commands) (at-slot (m / deliverySize) s)
+          (ltb-true _ commands (all-at capacity (recordedAt commands b) e (m / deliverySize) s)))
+      go false y = subst (λ (t : Bool). pick t (getD b (deliveriesPlace + m) 0) 0 < commands) (sym y) h
+
+  -- One byte more: the greater of two is at least both, and below what both are below.
+  pub greatest-more : (k : ℕ) {g x r : ℕ} → x ≡ counted b k → r ≡ pick (ltb g x) x g → ((m : ℕ) → m < k → counted b m ≤ g)
+      → ((c : ℕ) → 0 < c → ((m : ℕ) → m < k → counted b m < c) → g < c)
+      → ((m : ℕ) → m < k + 1 → counted b m ≤ r) × ((c : ℕ) → 0 < c → ((m : ℕ) → m < k + 1 → counted b m < c) → r < c)
+  greatest-more k {g} {x} {r} ex er most least = go (ltb g x) refl
+    where
+      go : (t : Bool) → ltb g x ≡ t → ((m : ℕ) → m < k + 1 → counted b m ≤ r) × ((c : ℕ) → 0 < c → ((m : ℕ) → m < k + 1 → counted b m < c) → r < c)
+      go true y =
+          let p = ltb-true g x y in
+          let q : r ≡ x = er ∙ ap (λ (t : Bool). pick t x g) y in (
+            λ m l. ⊎-elim (λ h. let u = most m h in omega arith) (λ h. let e : counted b m ≡ counted b k = ap (counted b) (same m l h) in omega arith) (lt-or-le m k),
+            λ c z h. let u = h k (omega arith) in omega arith,
+          )
+        where
+          same : (m : ℕ) → m < k + 1 → k ≤ m → m ≡ k
+          same m l h = omega arith
+      go false y =
+          let p = ltb-false g x y in
+          let q : r ≡ g = er ∙ ap (λ (t : Bool). pick t x g) y in (
+            λ m l. ⊎-elim (λ h. let u = most m h in omega arith) (λ h. let e : counted b m ≡ counted b k = ap (counted b) (same m l h) in omega arith) (lt-or-le m k),
+            λ c z h. let u = least c z (λ m l. h m (omega arith)) in omega arith,
+          )
+        where
+          same : (m : ℕ) → m < k + 1 → k ≤ m → m ≡ k
+          same m l h = omega arith
+
+  -- The greatest command is one of the book where all are.
+  pub greatest-told : {g : ℕ} → ((m : ℕ) → m < siteSize - deliveriesPlace → counted b m ≤ g)
+      → ((c : ℕ) → 0 < c → ((m : ℕ) → m < siteSize - deliveriesPlace → counted b m < c) → g < c) → ltb g commands ≡ all capacity (recordedAt commands b)
+  greatest-told {g} most least =
+      same-test (ltb g commands) (all capacity (recordedAt commands b))
+      (λ h. all-of capacity (recordedAt commands b)
+      (λ k l.
+      let p = ltb-true g commands h in
+      let q = most (deliverySize * k) (omega arith) in
+      let e = at-slot k l in
+      lt-ltb _ commands (omega arith)))
+      (λ h.
+      let p = ltb-true _ commands (all-at capacity (recordedAt commands b) h 0 (lit< tt)) in
+      lt-ltb g commands (least commands (omega arith) (counted-below (omega arith) h)))
 
 module _ (b : List ℕ) (commands recorded : ℕ) where
   slot-recorded : (k : ℕ) → k < recorded → recordedAt commands b k ≡ goodSlot commands recorded b k
@@ -223,9 +358,6 @@ module _ (b : List ℕ) (commands recorded : ℕ) where
       sym (or-false (recordedAt commands b k))
       ∙ (λ i. sym (lt-ltb k recorded l) i && recordedAt commands b k
       || sym (lt-leb recorded k l) i && eqb (readLe 1 b (slot k)) 0 && eqb (readLe 4 b (slot k + 1)) 0)
-
-  pub slots-full : capacity ≤ recorded → {r : Bool} → r ≡ all capacity (recordedAt commands b) → r ≡ all capacity (goodSlot commands recorded b)
-  slots-full h e = e ∙ all-ext capacity _ (goodSlot commands recorded b) (λ m l. slot-recorded m (omega arith))
 
   module _ (size : length b ≡ siteSize) where
     slot-empty : (k : ℕ) → k < capacity → recorded ≤ k → eqb (readLe 5 b (slot k)) 0 ≡ goodSlot commands recorded b k
@@ -238,7 +370,7 @@ module _ (b : List ℕ) (commands recorded : ℕ) where
         || sym (le-leb recorded k h) i && eqb (readLe 1 b (slot k)) 0 && eqb (readLe 4 b (slot k + 1)) 0)
 
     -- What the code makes of the two parts.
-    pub slots-judged : {w e : Bool} → recorded < capacity → w ≡ all recorded (recordedAt commands b) → e ≡ clearFrom b (slot recorded) (siteSize - slot recorded)
+    slots-judged : {w e : Bool} → recorded ≤ capacity → w ≡ all recorded (recordedAt commands b) → e ≡ clearFrom b (slot recorded) (siteSize - slot recorded)
         → w && e ≡ all capacity (goodSlot commands recorded b)
     slots-judged h ew ee =
         let q : recorded + (capacity - recorded) ≡ capacity = omega arith in
@@ -253,3 +385,33 @@ module _ (b : List ℕ) (commands recorded : ℕ) where
         ap (λ (at : ℕ). eqb (readLe 5 b at) 0) p ∙ slot-empty (recorded + m) (omega arith) (omega arith))) i)
         ∙ sym (all-split recorded (capacity - recorded) (goodSlot commands recorded b))
         ∙ ap (λ (n : ℕ). all n (goodSlot commands recorded b)) q
+
+    -- Where there is a recorded command of the book, the places after it may be taken for commands 0.
+    recorded-all : 0 < recorded → recorded ≤ capacity → clearFrom b (slot recorded) (siteSize - slot recorded) ≡ true
+        → all recorded (recordedAt commands b) ≡ all capacity (recordedAt commands b)
+    unfolding clearFrom
+    recorded-all h l e =
+        same-test (all recorded (recordedAt commands b)) (all capacity (recordedAt commands b))
+        (λ a. all-of capacity (recordedAt commands b)
+        (λ k g. ⊎-elim (λ m. all-at recorded (recordedAt commands b) a k m) (λ m. unrecorded a k g m) (lt-or-le k recorded)))
+        (λ a. all-of recorded (recordedAt commands b) (λ k g. all-at capacity (recordedAt commands b) a k (omega arith)))
+      where
+        unrecorded : all recorded (recordedAt commands b) ≡ true → (k : ℕ) → k < capacity → recorded ≤ k → recordedAt commands b k ≡ true
+        unrecorded a k g m =
+            let p = ltb-true _ commands (all-at recorded (recordedAt commands b) a 0 h) in
+            let q : slot recorded + (slot k - slot recorded) ≡ slot k = omega arith in
+            let z : getD b (slot recorded + (slot k - slot recorded)) 0 ≡ 0 = eqb-true _ 0 (all-at (siteSize - slot recorded) _ e (slot k - slot recorded) (omega arith)) in
+            let y = read-one b (slot k) (omega (arith, size)) in
+            let x = ap (λ (i : ℕ). getD b i 0) q in
+            lt-ltb _ commands (omega arith)
+
+    -- What the code tells.
+    module _ {e : Bool} (l : recorded ≤ capacity) (ee : e ≡ clearFrom b (slot recorded) (siteSize - slot recorded)) where
+      pub slots-not : e ≡ false → false ≡ all capacity (goodSlot commands recorded b)
+      slots-not h = sym (and-false (all recorded (recordedAt commands b))) ∙ slots-judged l refl (sym h ∙ ee)
+
+      pub slots-none : recorded ≡ 0 → e ≡ true → true ≡ all capacity (goodSlot commands recorded b)
+      slots-none z h = slots-judged l (all-zero (recordedAt commands b) ∙ ap (λ (n : ℕ). all n (recordedAt commands b)) (sym z)) (sym h ∙ ee)
+
+      pub slots-some : 0 < recorded → e ≡ true → {w : Bool} → w ≡ all capacity (recordedAt commands b) → w ≡ all capacity (goodSlot commands recorded b)
+      slots-some z h ew = sym (and-true _) ∙ slots-judged l (ew ∙ sym (recorded-all z l (sym ee ∙ h))) (sym h ∙ ee)

@@ -1,52 +1,98 @@
 // A lent site judged byte by byte, and a fresh site written over a lent buffer.
 ghost use mathlib.Core.Path.{_≡_};
 ghost use mathlib.Core.List.{List};
-ghost use Prim.Native.Nat.{_-_, _≤_, _<_, ℕ};
+ghost use Prim.Native.Nat.{_+_, _-_, _*_, _%_, _≤_, _<_, ℕ};
 ghost use lib.ListN.{length, getD};
-ghost use Rattle.theory.specs.Sets.{all};
+ghost use mathlib.Core.Bool.{_&&_};
+ghost use lib.Dec.{eqb, leb, ltb};
+ghost use Rattle.theory.specs.Sets.{all, pick};
 ghost use Rattle.sets.specs.Sets.{capacity};
 ghost use Rattle.table.specs.declared.SiteTable.{SiteTable};
 ghost use Rattle.table.specs.Table.{maxSites};
 ghost use Rattle.register.specs.declared.Command.{Command};
 ghost use Rattle.protocol.specs.Site as protocol;
 ghost use Rattle.system.specs.Dash.{dash};
-ghost use Rattle.layout.specs.Layout.{siteSize, heardSets};
+ghost use Rattle.layout.specs.Layout.{siteSize, siteRounds, heardSets, heardAt, deliverySize, headOf};
 ghost use Rattle.lent.specs.Fresh.{freshHead};
-ghost use Rattle.lent.specs.Clear.{clearFrom, withinAt, recordedAt};
+ghost use Rattle.lent.specs.Clear.{clearFrom, unionFrom, recordedAt};
 ghost use Rattle.layout.specs.Good.{goodHead, goodHeard, goodSlot, goodPhase, goodSite, Holds};
 use layout::Phase;
 use layout::Site;
 use sets::Set;
+use table::SiteTable;
 
-// Whether the tag is 0 or 1, and nothing is proposed while it is 0.
-fn judge_phase(site: &[u8]) -> bool
+// Whether the numbers of a header are in range, and its sets within the book: of the sets, their union is looked at.
+fn judge_header(site: &[u8], commands: usize) -> bool
     requires { ⌜ length (now site) ≡ siteSize ⌝ }
-    ensures { λ r. ⌜ r ≡ goodPhase (now (site .entry)) ⌝ }
+    ensures { λ r. ⌜ r ≡ (goodPhase (now (site .entry)) && goodHead commands (headOf (now (site .entry)))) ⌝ }
 {
     let tag = wire::get1(site, Site::PHASE);
-    let nc = wire::get8(site, Site::NC);
-    let c = wire::get8(site, Site::C);
-    (tag == 1) | (tag == 0) & (nc == 0) & (c == 0)
-}
-
-// Whether the numbers of a header are in range and its sets within the book.
-fn judge_header(header: Site, commands: usize) -> bool
-    ensures { λ r. ⌜ r ≡ goodHead commands header ⌝ }
-{
-    let phase = header.phase;
-    let proposed = layout::proposal_of(phase);
-    let round = header.round as usize;
-    let deliveries = header.deliveries as usize;
-    (1 <= round)
+    let round = wire::get1(site, Site::ROUND) as usize;
+    let deliveries = wire::get1(site, Site::COUNT) as usize;
+    let proposed = Set::read(site, Site::NC).union(Set::read(site, Site::C));
+    let sets = Set::read(site, Site::RECEIVED)
+        .union(Set::read(site, Site::DELIVERED))
+        .union(Set::read(site, Site::PENDING))
+        .union(Set::read(site, Site::FAST))
+        .union(proposed);
+    ((tag == 1) | (tag == 0) & proposed.is_empty())
+        & (1 <= round)
         & (round <= Site::ROUNDS)
         & (deliveries <= commands)
         & (deliveries <= Set::CAPACITY)
-        & header.received.within(commands)
-        & header.delivered.within(commands)
-        & header.pending.within(commands)
-        & header.fast.within(commands)
-        & proposed.nc.within(commands)
-        & proposed.c.within(commands)
+        & sets.within(commands)
+}
+
+// The union of what a sender acknowledged in all rounds.
+fn sender_union(site: &[u8], sender: usize) -> Set
+    requires { ⌜ (length (now site) ≡ siteSize) × (sender < maxSites) ⌝ }
+    ensures { λ r. ⌜ r ≡ unionFrom (now (site .entry)) (heardAt (siteRounds * sender)) siteRounds ⌝ }
+{
+    let from = Site::HEARD + Set::BYTES * (Site::ROUNDS * sender);
+    let mut union = Set::empty();
+    let mut k = 0;
+    while k < Site::ROUNDS {
+        let set = Set::read(site, from + Set::BYTES * k);
+        union = union.union(set);
+        k += 1;
+    }
+    union
+}
+
+// The first sender whose sets are looked at: a book of 64 commands has all that a set can hold.
+fn first_looked_at(sites: usize, commands: usize) -> usize
+    ensures { λ r. ⌜ r ≡ pick (leb capacity commands) sites 0 ⌝ }
+{
+    if commands >= Set::CAPACITY {
+        return sites;
+    }
+    0
+}
+
+// The commands that a sender may have acknowledged: none where there is no such sender.
+fn allowed(sender: usize, sites: usize, commands: usize) -> usize
+    ensures { λ r. ⌜ r ≡ pick (ltb sender sites) commands 0 ⌝ }
+{
+    if sender < sites {
+        return commands;
+    }
+    0
+}
+
+// Whether every set heard is within the book, and those of senders that there are not are empty.
+fn judge_heard(site: &[u8], sites: usize, commands: usize) -> bool
+    requires { ⌜ (length (now site) ≡ siteSize) × (sites ≤ maxSites) ⌝ }
+    ensures { λ r. ⌜ r ≡ all heardSets (goodHeard sites commands (now (site .entry))) ⌝ }
+{
+    let mut sender = first_looked_at(sites, commands);
+    while sender < SiteTable::MAX_SITES {
+        let union = sender_union(site, sender);
+        if !union.within(allowed(sender, sites, commands)) {
+            return false;
+        }
+        sender += 1;
+    }
+    true
 }
 
 // Whether the bytes from one place up to another are 0: found by their union, without a branch a byte.
@@ -63,62 +109,84 @@ fn is_clear(site: &[u8], from: usize, to: usize) -> bool
     found == 0
 }
 
-// Whether the first n sets heard are within the book: found by the union of what is past it. A book of 64 commands has all that a set can hold.
-fn heard_within(site: &[u8], n: usize, commands: usize) -> bool
-    requires { ⌜ (length (now site) ≡ siteSize) × (n ≤ heardSets) ⌝ }
-    ensures { λ r. ⌜ r ≡ all n (withinAt commands (now (site .entry))) ⌝ }
+// Whether n words from a place on are 0: found by their union.
+fn are_words_clear(site: &[u8], from: usize, n: usize) -> bool
+    requires { ⌜ from + 8 * n ≤ length (now site) ⌝ }
+    ensures { λ r. ⌜ r ≡ clearFrom (now (site .entry)) from (8 * n) ⌝ }
 {
-    if commands >= Set::CAPACITY {
-        return true;
-    }
-    let mut beyond: u64 = 0;
+    let mut found: u64 = 0;
     let mut k = 0;
     while k < n {
-        let set = Set::read(site, Site::HEARD + Set::BYTES * k);
-        beyond = beyond | (set.bits >> commands);
+        found = found | wire::get8(site, from + 8 * k);
         k += 1;
     }
-    beyond == 0
+    found == 0
 }
 
-// Whether every set heard is within the book, and those of senders that there are not are empty.
-fn judge_heard(site: &[u8], sites: usize, commands: usize) -> bool
-    requires { ⌜ (length (now site) ≡ siteSize) × (sites ≤ maxSites) ⌝ }
-    ensures { λ r. ⌜ r ≡ all heardSets (goodHeard sites commands (now (site .entry))) ⌝ }
+// Whether the bytes from a place up to the site's end are 0: words up to the end, and before them the word at the place, which may overlap the next.
+fn is_rest_clear(site: &[u8], from: usize) -> bool
+    requires { ⌜ (length (now site) ≡ siteSize) × (from ≤ siteSize) ⌝ }
+    ensures { λ r. ⌜ r ≡ clearFrom (now (site .entry)) from (siteSize - from) ⌝ }
 {
-    let senders = Site::ROUNDS * sites;
-    let silent = Site::HEARD + Set::BYTES * senders;
-    heard_within(site, senders, commands) & is_clear(site, silent, Site::REGISTER)
-}
-
-// Whether the first n places for a delivery hold commands of the book.
-fn recorded_within(site: &[u8], n: usize, commands: usize) -> bool
-    requires { ⌜ (length (now site) ≡ siteSize) × (n ≤ capacity) ⌝ }
-    ensures { λ r. ⌜ r ≡ all n (recordedAt commands (now (site .entry))) ⌝ }
-{
-    let mut good = true;
-    let mut k = 0;
-    while k < n {
-        let command = wire::get1(site, Site::DELIVERIES + Site::DELIVERY * k);
-        good = good & ((command as usize) < commands);
-        k += 1;
+    let words = (Site::SIZE - from) / 8;
+    if words == 0 {
+        return is_clear(site, from, Site::SIZE);
     }
-    good
+    let first = wire::get8(site, from);
+    (first == 0) & are_words_clear(site, Site::SIZE - 8 * words, words)
 }
 
-// Whether the recorded places for a delivery hold commands of the book, and those after them nothing.
-fn judge_deliveries(site: &[u8], commands: usize, recorded: usize) -> bool
+// The k-th byte of the places for deliveries where it is a command, and else 0.
+fn command_byte(k: usize, byte: u8) -> u8
+    ensures { λ r. ⌜ r ≡ pick (eqb (k % deliverySize) 0) byte 0 ⌝ }
+{
+    if k % Site::DELIVERY == 0 {
+        return byte;
+    }
+    0
+}
+
+// The greater of two bytes.
+fn greater(a: u8, b: u8) -> u8
+    ensures { λ r. ⌜ r ≡ pick (ltb a b) b a ⌝ }
+{
+    if a < b {
+        return b;
+    }
+    a
+}
+
+// Whether all places for a delivery hold commands of the book: the greatest of them is looked at. All bytes go alike, without a branch a byte.
+fn commands_within(site: &[u8], commands: usize) -> bool
     requires { ⌜ length (now site) ≡ siteSize ⌝ }
+    ensures { λ r. ⌜ r ≡ all capacity (recordedAt commands (now (site .entry))) ⌝ }
+{
+    let mut greatest: u8 = 0;
+    let mut k = 0;
+    while k < Site::SIZE - Site::DELIVERIES {
+        let command = command_byte(k, site[Site::DELIVERIES + k]);
+        greatest = greater(greatest, command);
+        k += 1;
+    }
+    (greatest as usize) < commands
+}
+
+// Whether the recorded places for a delivery hold commands of the book, and those after them nothing. Where one is recorded, those that hold nothing may be taken for command 0.
+fn judge_deliveries(site: &[u8], commands: usize, recorded: usize) -> bool
+    requires { ⌜ (length (now site) ≡ siteSize) × (recorded ≤ capacity) ⌝ }
     ensures { λ r. ⌜ r ≡ all capacity (goodSlot commands recorded (now (site .entry))) ⌝ }
 {
-    if recorded >= Set::CAPACITY {
-        return recorded_within(site, Set::CAPACITY, commands);
-    }
     let rest = Site::DELIVERIES + Site::DELIVERY * recorded;
-    recorded_within(site, recorded, commands) & is_clear(site, rest, Site::SIZE)
+    if !is_rest_clear(site, rest) {
+        return false;
+    }
+    if recorded == 0 {
+        return true;
+    }
+    commands_within(site, commands)
 }
 
-// Whether lent bytes are a site, for so many sites, commands and log entries.
+// Whether lent bytes are a site, for so many sites, commands and log entries. The header is looked at first.
 pub fn judge(site: &[u8], sites: usize, commands: usize, entries: usize) -> bool
     requires { ⌜ sites ≤ maxSites ⌝ }
     ensures { λ r. ⌜ r ≡ goodSite sites commands entries (now (site .entry)) ⌝ }
@@ -126,15 +194,21 @@ pub fn judge(site: &[u8], sites: usize, commands: usize, entries: usize) -> bool
     if site.len() != Site::SIZE {
         return false;
     }
-    let header = Site::read(site);
-    let position = header.position as usize;
-    let recorded = header.deliveries as usize;
-    (position <= entries)
-        & judge_phase(site)
-        & judge_header(header, commands)
-        & judge_heard(site, sites, commands)
-        & register::judge(site, Site::REGISTER)
-        & judge_deliveries(site, commands, recorded)
+    let position = wire::get2(site, Site::POSITION) as usize;
+    if position > entries {
+        return false;
+    }
+    if !judge_header(site, commands) {
+        return false;
+    }
+    if !judge_heard(site, sites, commands) {
+        return false;
+    }
+    if !register::judge(site, Site::REGISTER) {
+        return false;
+    }
+    let recorded = wire::get1(site, Site::COUNT) as usize;
+    judge_deliveries(site, commands, recorded)
 }
 
 // The header of a fresh site.

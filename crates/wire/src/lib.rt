@@ -40,7 +40,7 @@ pub fn get2(s: &[u8], at: usize) -> u16
     b0 + 256 * b1
 }
 
-// The number of four bytes at a position.
+// The number of four bytes at a position. Each byte is weighed by itself: of such a sum one read is made.
 pub fn get4(s: &[u8], at: usize) -> u32
     requires { ⌜ at + 4 ≤ length (now s) ⌝ }
     ensures { λ r. ⌜ r ≡ readLe 4 (now (s .entry)) at ⌝ }
@@ -49,10 +49,10 @@ pub fn get4(s: &[u8], at: usize) -> u32
     let b1 = wide4(s[at + 1]);
     let b2 = wide4(s[at + 2]);
     let b3 = wide4(s[at + 3]);
-    b0 + 256 * (b1 + 256 * (b2 + 256 * b3))
+    b0 + 256 * b1 + 65536 * b2 + 16777216 * b3
 }
 
-// The number of eight bytes at a position.
+// The number of eight bytes at a position, in the same way.
 pub fn get8(s: &[u8], at: usize) -> u64
     requires { ⌜ at + 8 ≤ length (now s) ⌝ }
     ensures { λ r. ⌜ r ≡ readLe 8 (now (s .entry)) at ⌝ }
@@ -65,7 +65,14 @@ pub fn get8(s: &[u8], at: usize) -> u64
     let b5 = wide8(s[at + 5]);
     let b6 = wide8(s[at + 6]);
     let b7 = wide8(s[at + 7]);
-    b0 + 256 * (b1 + 256 * (b2 + 256 * (b3 + 256 * (b4 + 256 * (b5 + 256 * (b6 + 256 * b7))))))
+    b0
+        + 256 * b1
+        + 65536 * b2
+        + 16777216 * b3
+        + 4294967296 * b4
+        + 1099511627776 * b5
+        + 281474976710656 * b6
+        + 72057594037927936 * b7
 }
 
 // A byte is written at a position.
