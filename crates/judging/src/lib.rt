@@ -1,6 +1,7 @@
 // What every call judges of what it is lent, in document 01's order: sizes (9), the site table (2), the book (1), the log's form (3), the site (4).
 ghost use mathlib.Core.Path.{_≡_};
-ghost use lib.ListN.{length};
+ghost use lib.ListN.{length, take, replicate};
+ghost use Rattle.entries.specs.Entries.{cells, Counting};
 ghost use Rattle.layout.specs.Layout.{siteSize, headOf};
 ghost use Rattle.refusals.specs.Refusals.{codeOf};
 ghost use Rattle.protocol.specs.System.{verdict};
@@ -97,16 +98,20 @@ pub fn judge_site(enough: bool, sites: usize, faults: usize, book: &[u8], site: 
     first
 }
 
-// What a call that is lent a site and the log judges. 0, 9, 2, 1, 3 or 4.
-pub fn judge_site_and_log(
+// What a call that is lent a site and the log judges. 0, 9, 2, 1, 3 or 4. The table, where the call is not refused, has the entries
+// counted that the site has read.
+pub fn judge_and_count(
     enough: bool,
     sites: usize,
     faults: usize,
     book: &[u8],
     site: &[u8],
     log: &[u8],
+    counts: &mut [u8],
 ) -> Judgement
-    ensures { λ r. ⌜ Judges (verdict (forSiteAndLog sites faults (now (book .entry)) enough (now (site .entry)) (now (log .entry)))) (now (book .entry)) r ⌝ }
+    requires { ⌜ now counts ≡ replicate cells 0 ⌝ }
+    ensures { λ r. ⌜ Judges (verdict (forSiteAndLog sites faults (now (book .entry)) enough (now (site .entry)) (now (log .entry)))) (now (book .entry)) r
+        × (r .code ≡ 0 → Counting (now (log .entry)) (headOf (take siteSize (now (site .entry))) .position) (now (counts .exit))) ⌝ }
 {
     let sized = enough & (site.len() >= Site::SIZE);
     let first = judge_first(sized, sites, faults, book);
@@ -121,10 +126,25 @@ pub fn judge_site_and_log(
         return refused(REFUSED_RANGE);
     }
     let position = position_of(&site[..Site::SIZE]);
-    if !entries::judge_prefix(log, position, sites, first.commands) {
+    if !entries::judge_prefix(log, position, sites, first.commands, counts) {
         return refused(REFUSED_RANGE);
     }
     first
+}
+
+// The same of a call that does not look at the counts.
+pub fn judge_site_and_log(
+    enough: bool,
+    sites: usize,
+    faults: usize,
+    book: &[u8],
+    site: &[u8],
+    log: &[u8],
+) -> Judgement
+    ensures { λ r. ⌜ Judges (verdict (forSiteAndLog sites faults (now (book .entry)) enough (now (site .entry)) (now (log .entry)))) (now (book .entry)) r ⌝ }
+{
+    let mut counts = [0u8; entries::CELLS];
+    judge_and_count(enough, sites, faults, book, site, log, &mut counts)
 }
 
 // The log position of a site.
