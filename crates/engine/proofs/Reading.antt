@@ -1,6 +1,6 @@
 -- What the call of a log read answers: one law an answer.
 -- Assumes nothing.
-use mathlib.Core.Path.{_≡_, sym, ap, _∙_}
+use mathlib.Core.Path.{_≡_, sym, ap, subst, _∙_}
 use mathlib.Core.Bool.{Bool, true, false, not}
 use mathlib.Core.List.{List, _++_}
 use mathlib.Core.Logic.{_⊎_, inl, inr}
@@ -16,12 +16,15 @@ use Rattle.theory.specs.Counting.{not-true, not-false, lt-or-le}
 use Rattle.refusals.specs.declared.Refusal.the-variants.{Range}
 use Rattle.refusals.specs.declared.Verdict.{Verdict}
 use Rattle.refusals.specs.Refusals.{codeOf}
+use Rattle.table.specs.Table.{maxSites}
 use Rattle.commands.specs.Book.{commandsOf}
 use Rattle.protocol.specs.System.{_else_⨾_, verdict}
 use Rattle.protocol.specs.Recovery.{entries}
 use Rattle.protocol.specs.Site as protocol
+use Rattle.system.specs.Dash.{lastRound}
 use Rattle.entries.specs.declared.Entry.{Entry}
-use Rattle.entries.specs.Entries.{entrySize, entryOf, viewEntry, logTo, logOf, inRangeOf}
+use Rattle.entries.specs.Entries.{entrySize, entryOf, viewEntry, logTo, logOf, inRangeOf, Counting}
+use Rattle.entries.proofs.Judging.{in-range-told}
 use Rattle.entries.proofs.Logs.{log-nth, log-end, log-of-take}
 use Rattle.layout.specs.Layout.{siteSize, headOf}
 use Rattle.site.specs.Steps.{ReadEntry}
@@ -45,6 +48,19 @@ module _ (log : List ℕ) (p : ℕ) where
   unfolding nextInRangeOf
   next-some n m h ee er =
       er ∙ ap (inRangeOf n m) ee ∙ (λ i. pick (sym (lt-ltb p (entriesIn log) h) i) (inRangeOf n m (entryOf log p)) true)
+
+  -- The numbers of an entry in range.
+  pub next-numbers : (n m : ℕ) → n ≤ maxSites → {t : Bool} → t ≡ nextInRangeOf log p n m → not t ≡ false → p < entriesIn log
+      → (entryOf log p .site < maxSites) × (1 ≤ entryOf log p .round) × (entryOf log p .round ≤ lastRound)
+  unfolding nextInRangeOf
+  next-numbers n m few {t} et h l =
+      let r = in-range-told n m (entryOf log p)
+      ((λ i. pick (sym (lt-ltb p (entriesIn log) l) i) (inRangeOf n m (entryOf log p)) true) ∙ sym et ∙ not-false t h) in
+      let s = r .site in
+      (omega arith, r .some-round, r .round)
+
+  pub counting-at : {q : ℕ} {counts : List ℕ} → p ≡ q → Counting log q counts → Counting log p counts
+  counting-at {counts = counts} e k = subst (λ (x : ℕ). Counting log x counts) (sym e) k
 
   pub third-none : entriesIn log ≤ p → false ≡ thirdOf log p
   unfolding thirdOf
@@ -122,6 +138,9 @@ module _ (n f : ℕ) (book site log : List ℕ) {k : ℕ} (q : k ≡ codeOf (ver
   module _ (z : k ≡ 0) where
     judged : Judged n f book site × JudgedLog n f book site log
     judged = let j = log-judged n f book true site log q z in (j .1, j .2)
+
+    pub read-few : n ≤ maxSites
+    read-few = judged .0 .few
 
     pub read-sized : siteSize ≤ length site
     read-sized = judged .0 .sized

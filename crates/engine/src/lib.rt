@@ -1,9 +1,14 @@
 // The calls that change a lent site. Each judges all that it is lent, and where it refuses it leaves everything as it was.
 ghost use mathlib.Core.Path.{_≡_};
 ghost use mathlib.Core.List.{List};
+ghost use Prim.Native.Nat.{_≤_, _<_};
 ghost use Rattle.table.specs.declared.SiteTable.{SiteTable};
 ghost use Rattle.register.specs.declared.Command.{Command};
+ghost use Rattle.table.specs.Table.{maxSites};
+ghost use Rattle.system.specs.Dash.{lastRound};
+ghost use Rattle.entries.specs.Entries.{entryOf, Counting};
 ghost use Rattle.judging.specs.Outcomes.{outcome};
+ghost use Rattle.judging.specs.Judging.{entriesIn};
 ghost use Rattle.engine.specs.Calls.{freshCall, receiveCommandCall, receiveAcknowledgmentCall, receiveCheckCall, logReadCall};
 ghost use Rattle.engine.specs.Next.{nextInRangeOf, thirdOf};
 use entries::Entry;
@@ -97,8 +102,10 @@ fn next_in_range(log: &[u8], position: usize, sites: usize, commands: usize) -> 
     entries::in_range(entry, sites, commands)
 }
 
-// Whether the entry at a position, where there is one, is a third of its site and round.
-fn next_is_third(log: &[u8], position: usize) -> bool
+// Whether the entry at a position, where there is one, is a third of its site and round. It is in range, and the table counts those before it.
+fn next_is_third(log: &[u8], position: usize, counts: &[u8]) -> bool
+    requires { ⌜ Counting (now log) position (now counts)
+        × (position < entriesIn (now log) → (entryOf (now log) position .site < maxSites) × (1 ≤ entryOf (now log) position .round) × (entryOf (now log) position .round ≤ lastRound)) ⌝ }
     ensures { λ r. ⌜ r ≡ thirdOf (now (log .entry)) position ⌝ }
 {
     if position >= log.len() / Entry::BYTES {
@@ -106,14 +113,15 @@ fn next_is_third(log: &[u8], position: usize) -> bool
     }
     let site = entries::site_of(log, position);
     let round = entries::round_of(log, position);
-    entries::entries_of(log, position, site, round) >= 2
+    entries::counted(counts, site, round) >= 2
 }
 
 // The next log entry is read.
 pub fn log_read(sites: usize, faults: usize, book: &[u8], site: &mut [u8], log: &[u8]) -> u32
     ensures { λ r. ⌜ outcome r (now (site .exit)) ≡ logReadCall sites faults (now (book .entry)) (now (site .entry)) (now (log .entry)) ⌝ }
 {
-    let judged = judging::judge_site_and_log(true, sites, faults, book, &site[..], log);
+    let mut counts = [0u8; entries::CELLS];
+    let judged = judging::judge_and_count(true, sites, faults, book, &site[..], log, &mut counts);
     if judged.code != 0 {
         return judged.code;
     }
@@ -122,7 +130,7 @@ pub fn log_read(sites: usize, faults: usize, book: &[u8], site: &mut [u8], log: 
         return REFUSED_RANGE;
     }
     let left = position < log.len() / Entry::BYTES;
-    let third = next_is_third(log, position);
+    let third = next_is_third(log, position, &counts);
     let verdict = site::read_entry(&mut site[..Site::SIZE], left, third);
     refusals::code(verdict)
 }

@@ -1,3 +1,5 @@
 pub mod Bytes
 pub mod Logs
 pub mod Judging
+pub mod Counts
+pub mod Prefix

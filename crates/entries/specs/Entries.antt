@@ -1,13 +1,15 @@
 -- The common log in bytes (document 01, "How a round is decided"): what an entry's bytes say, the log that they are, and which entries are good.
 -- Assumes nothing.
+use mathlib.Core.Path.{_≡_}
 use mathlib.Core.Bool.{Bool, _&&_}
 use mathlib.Core.List.{List, [], _∷_, _++_}
-use Prim.Native.Nat.{ℕ, zero, suc, _+_, _*_, _/_}
+use Prim.Native.Nat.{ℕ, zero, suc, _+_, _*_, _/_, _<_}
 use lib.Dec.{eqb, leb, ltb}
-use lib.ListN.{length}
+use lib.ListN.{length, getD}
 use Rattle.theory.specs.Sets.{one, all}
 use Rattle.wire.specs.Wire.{readLe, bytes, splice}
 use Rattle.sets.specs.Sets.{inSet, withinOf, setBytes, readSet}
+use Rattle.table.specs.Table.{maxSites}
 use Rattle.protocol.specs.Recovery as recovery
 use Rattle.system.specs.Dash.{lastRound}
 use Rattle.entries.specs.declared.Entry.{Entry}
@@ -49,16 +51,39 @@ logOf b = logTo b (length b / entrySize)
 abbrev pub oneOf : List ℕ → ℕ → ℕ → ℕ → ℕ
 oneOf b k site round = one (eqb (entryOf b k .site) site && eqb (entryOf b k .round) round)
 
+-- A site and a round are in range.
+abbrev pub numbersOf : ℕ → ℕ → ℕ → Bool
+numbersOf sites site round = ltb site sites && leb 1 round && leb round lastRound
+
 -- Site, round and sets of an entry are in range.
 abbrev pub inRangeOf : ℕ → ℕ → Entry → Bool
-inRangeOf sites commands e =
-    ltb (e .site) sites && leb 1 (e .round) && leb (e .round) lastRound && withinOf (e .nc) commands && withinOf (e .c) commands
+inRangeOf sites commands e = numbersOf sites (e .site) (e .round) && withinOf (e .nc) commands && withinOf (e .c) commands
 
--- The k-th entry is in range and no third of its site and round among those before it.
+-- The k-th entry is no third of its site and round among those before it.
+abbrev pub noThirdAt : List ℕ → ℕ → Bool
+noThirdAt b k = ltb (recovery.entries (entryOf b k .site) (entryOf b k .round) (logTo b k)) 2
+
+-- The k-th entry is in range and no third.
 abbrev pub goodAt : List ℕ → ℕ → ℕ → ℕ → Bool
-goodAt b sites commands k =
-    inRangeOf sites commands (entryOf b k) && ltb (recovery.entries (entryOf b k .site) (entryOf b k .round) (logTo b k)) 2
+goodAt b sites commands k = inRangeOf sites commands (entryOf b k) && noThirdAt b k
 
 -- So are all of the first k.
 abbrev pub goodTo : List ℕ → ℕ → ℕ → ℕ → Bool
 goodTo b sites commands k = all k (goodAt b sites commands)
+
+-- Of each of the first k entries, the numbers are in range and it is no third;
+abbrev pub numberedTo : List ℕ → ℕ → ℕ → Bool
+numberedTo b sites k = all k (λ i. numbersOf sites (entryOf b i .site) (entryOf b i .round) && noThirdAt b i)
+
+-- of each, the sets are in range.
+abbrev pub setsTo : List ℕ → ℕ → ℕ → Bool
+setsTo b commands k = all k (λ i. withinOf (entryOf b i .nc) commands && withinOf (entryOf b i .c) commands)
+
+-- The cells of a table of counts, one for each site and round.
+abbrev pub cells : ℕ
+cells = 352
+
+-- A table of counts: how many of the first k entries each site has in each round.
+pub record Counting (b : List ℕ) (k : ℕ) (counts : List ℕ) : Type 0 where
+  pub size : length counts ≡ cells
+  pub holds : (j r : ℕ) → j < maxSites → r < lastRound → getD counts (j * lastRound + r) 0 ≡ recovery.entries j (suc r) (logTo b k)

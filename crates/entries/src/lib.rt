@@ -1,10 +1,16 @@
 // The common log: entries of 18 bytes, what each says, and which a log read would take.
+ghost use mathlib.Core.Bool.{true};
+ghost use mathlib.Core.List.{List};
 ghost use mathlib.Core.Path.{_≡_};
-ghost use Prim.Native.Nat.{_+_, _*_, _≤_, _<_};
-ghost use lib.ListN.{length};
+ghost use Prim.Native.Nat.{ℕ, _+_, _*_, _≤_, _<_};
+ghost use lib.Dec.{eqb};
+ghost use lib.ListN.{length, replicate};
+ghost use Rattle.sets.specs.Sets.{least, unionOf};
 ghost use Rattle.table.specs.Table.{maxSites};
 ghost use Rattle.protocol.specs.Recovery.{entries};
-ghost use Rattle.entries.specs.Entries.{entrySize, entryOf, writeEntry, logTo, oneOf, inRangeOf, goodTo};
+ghost use Rattle.system.specs.Dash.{lastRound};
+ghost use Rattle.entries.specs.Entries.{entrySize, entryOf, writeEntry, logTo, oneOf, numbersOf, inRangeOf, numberedTo, setsTo, goodTo};
+ghost use Rattle.entries.specs.Entries.{cells, Counting};
 use sets::Set;
 
 // One proposal in the log: the site that made it, its round, NC and C.
@@ -22,8 +28,8 @@ impl Entry {
     pub const ROUNDS: usize = 32;
 }
 
-// One count for each site and round: 11 times 32.
-const CELLS: usize = 352;
+// The cells of a table of counts, one for each site and round: 11 times 32.
+pub const CELLS: usize = 352;
 
 fn wide(x: u8) -> usize
     ensures { λ r. ⌜ (r ≡ x) × (r < 256) ⌝ }
@@ -110,32 +116,69 @@ fn one_of(log: &[u8], k: usize, site: usize, round: usize) -> usize
     1
 }
 
+// How many of the first k entries a site has in a round, of which `found` are among the first `from`.
+pub fn entries_since(
+    log: &[u8],
+    from: usize,
+    found: usize,
+    k: usize,
+    site: usize,
+    round: usize,
+) -> usize
+    requires { ⌜ (k * entrySize ≤ length (now log)) × (from ≤ k) × (found ≡ entries site round (logTo (now log) from)) ⌝ }
+    ensures { λ r. ⌜ r ≡ entries site round (logTo (now (log .entry)) k) ⌝ }
+{
+    let mut all = found;
+    let mut i: usize = from;
+    while i < k {
+        let more = one_of(log, i, site, round);
+        all += more;
+        i += 1;
+    }
+    all
+}
+
 // How many of the first k entries a site has in a round.
 pub fn entries_of(log: &[u8], k: usize, site: usize, round: usize) -> usize
     requires { ⌜ k * entrySize ≤ length (now log) ⌝ }
     ensures { λ r. ⌜ r ≡ entries site round (logTo (now (log .entry)) k) ⌝ }
 {
-    let mut found: usize = 0;
+    entries_since(log, 0, 0, k, site, round)
+}
+
+// The first of the first k entries that is of a round; k where none is.
+pub fn first_of(log: &[u8], k: usize, round: usize) -> usize
+    requires { ⌜ k * entrySize ≤ length (now log) ⌝ }
+    ensures { λ r. ⌜ r ≡ least k (λ (i : ℕ). eqb (entryOf (now (log .entry)) i .round) round) ⌝ }
+{
     let mut i: usize = 0;
     while i < k {
-        let more = one_of(log, i, site, round);
-        found += more;
+        if round_of(log, i) == round {
+            return i;
+        }
         i += 1;
     }
-    found
+    k
+}
+
+// Whether a site and a round are in range.
+fn numbers_in_range(site: usize, round: usize, sites: usize) -> bool
+    ensures { λ r. ⌜ r ≡ numbersOf sites site round ⌝ }
+{
+    if site >= sites {
+        return false;
+    }
+    if round < 1 {
+        return false;
+    }
+    round <= Entry::ROUNDS
 }
 
 // Whether site, round and sets of an entry are in range.
 pub fn in_range(entry: Entry, sites: usize, commands: usize) -> bool
     ensures { λ r. ⌜ r ≡ inRangeOf sites commands entry ⌝ }
 {
-    if entry.site >= sites {
-        return false;
-    }
-    if entry.round < 1 {
-        return false;
-    }
-    if entry.round > Entry::ROUNDS {
+    if !numbers_in_range(entry.site, entry.round, sites) {
         return false;
     }
     let nc = entry.nc;
@@ -146,24 +189,77 @@ pub fn in_range(entry: Entry, sites: usize, commands: usize) -> bool
     c.within(commands)
 }
 
-// Whether a log read would take each of the first k entries: in range, and no third of its site and round.
-pub fn judge_prefix(log: &[u8], k: usize, sites: usize, commands: usize) -> bool
-    requires { ⌜ (k * entrySize ≤ length (now log)) × (sites ≤ maxSites) ⌝ }
-    ensures { λ r. ⌜ r ≡ goodTo (now (log .entry)) sites commands k ⌝ }
+// The bits of a count, with those gathered before.
+fn gathered(bits: Set, count: u8) -> Set
+    ensures { λ r. ⌜ r ≡ unionOf bits (record { bits = count }) ⌝ }
 {
-    let mut counts = [0u8; CELLS];
+    Set {
+        bits: bits.bits | count as u64,
+    }
+}
+
+// Whether a log read would take the numbers of each of the first k entries: in range, and no third of its site and round. The table,
+// where it would, has them counted. An entry is a third where the count before it is 2, the one count that has bit 1.
+fn count_prefix(log: &[u8], k: usize, sites: usize, counts: &mut [u8]) -> bool
+    requires { ⌜ (k * entrySize ≤ length (now log)) × (sites ≤ maxSites) × (now counts ≡ replicate cells 0) ⌝ }
+    ensures { λ r. ⌜ (r ≡ numberedTo (now (log .entry)) sites k) × (r ≡ true → Counting (now (log .entry)) k (now (counts .exit))) ⌝ }
+{
+    let mut found = Set::empty();
     let mut i: usize = 0;
     while i < k {
-        let entry = read_entry(log, i);
-        if !in_range(entry, sites, commands) {
+        let site = site_of(log, i);
+        let round = round_of(log, i);
+        if !numbers_in_range(site, round, sites) {
             return false;
         }
-        let cell = entry.site * Entry::ROUNDS + (entry.round - 1);
-        if counts[cell] > 1 {
-            return false;
-        }
-        counts[cell] = counts[cell] + 1;
+        let cell = site * Entry::ROUNDS + (round - 1);
+        let before = counts[cell];
+        found = gathered(found, before);
+        counts[cell] = std::num::wrapping_add_u8(before, 1);
         i += 1;
     }
-    true
+    !found.has(1)
+}
+
+// Whether the sets of the first k entries have no command from a number on. All are gathered before they are looked at.
+fn sets_within(log: &[u8], k: usize, commands: usize) -> bool
+    requires { ⌜ k * entrySize ≤ length (now log) ⌝ }
+    ensures { λ r. ⌜ r ≡ setsTo (now (log .entry)) commands k ⌝ }
+{
+    if commands >= Set::CAPACITY {
+        return true;
+    }
+    let mut ncs = Set::empty();
+    let mut cs = Set::empty();
+    let mut i: usize = 0;
+    while i < k {
+        let nc = nc_of(log, i);
+        let c = c_of(log, i);
+        ncs = ncs.union(nc);
+        cs = cs.union(c);
+        i += 1;
+    }
+    let both = ncs.union(cs);
+    both.within(commands)
+}
+
+// Whether a log read would take each of the first k entries: in range, and no third of its site and round. The table, where it would,
+// has them counted.
+pub fn judge_prefix(log: &[u8], k: usize, sites: usize, commands: usize, counts: &mut [u8]) -> bool
+    requires { ⌜ (k * entrySize ≤ length (now log)) × (sites ≤ maxSites) × (now counts ≡ replicate cells 0) ⌝ }
+    ensures { λ r. ⌜ (r ≡ goodTo (now (log .entry)) sites commands k) × (r ≡ true → Counting (now (log .entry)) k (now (counts .exit))) ⌝ }
+{
+    if !count_prefix(log, k, sites, counts) {
+        return false;
+    }
+    sets_within(log, k, commands)
+}
+
+// How many entries a site has in a round, by a table of counts.
+pub fn counted(counts: &[u8], site: usize, round: usize) -> usize
+    requires { ⌜ (length (now counts) ≡ cells) × (site < maxSites) × (1 ≤ round) × (round ≤ lastRound) ⌝ }
+    ensures { λ r. ⌜ ((log : List ℕ) (k : ℕ) → Counting log k (now (counts .entry)) → r ≡ entries site round (logTo log k)) ⌝ }
+{
+    let count = wire::get1(counts, site * Entry::ROUNDS + (round - 1));
+    wide(count)
 }

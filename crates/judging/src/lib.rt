@@ -3,10 +3,11 @@ ghost use mathlib.Core.Path.{_≡_};
 ghost use mathlib.Core.Bool.{_&&_};
 ghost use Prim.Native.Nat.{_≤_};
 ghost use lib.Dec.{leb};
-ghost use lib.ListN.{length};
+ghost use lib.ListN.{length, take, replicate};
 ghost use lib.Seq.{sets};
 ghost use Rattle.table.specs.Table.{maxSites};
 ghost use Rattle.commands.specs.Book.{maxCommands, walkedPlaces};
+ghost use Rattle.entries.specs.Entries.{cells, Counting};
 ghost use Rattle.layout.specs.Layout.{siteSize, headOf};
 ghost use Rattle.refusals.specs.Refusals.{codeOf};
 ghost use Rattle.protocol.specs.System.{verdict};
@@ -132,6 +133,7 @@ pub fn judge_site(enough: bool, sites: usize, faults: usize, book: &[u8], site: 
 }
 
 // What a call that is lent a site and the log judges, with the places of the book's commands noted. 0, 9, 2, 1, 3 or 4.
+// The table, where the call is not refused, has the entries counted that the site has read.
 pub fn note_site_and_log(
     enough: bool,
     sites: usize,
@@ -140,10 +142,12 @@ pub fn note_site_and_log(
     site: &[u8],
     log: &[u8],
     places: &mut [u16],
+    counts: &mut [u8],
 ) -> Judgement
-    requires { ⌜ maxCommands ≤ length (now places) ⌝ }
+    requires { ⌜ (maxCommands ≤ length (now places)) × (now counts ≡ replicate cells 0) ⌝ }
     ensures { λ r. ⌜ Judges (verdict (forSiteAndLog sites faults (now (book .entry)) enough (now (site .entry)) (now (log .entry)))) (now (book .entry)) r
-        × (now (places .exit) ≡ placesAfter sites faults (now (book .entry)) (enough && leb siteSize (length (now (site .entry)))) (now (places .entry))) ⌝ }
+        × (now (places .exit) ≡ placesAfter sites faults (now (book .entry)) (enough && leb siteSize (length (now (site .entry)))) (now (places .entry)))
+        × (r .code ≡ 0 → Counting (now (log .entry)) (headOf (take siteSize (now (site .entry))) .position) (now (counts .exit))) ⌝ }
 {
     let sized = enough & (site.len() >= Site::SIZE);
     let first = judge_first(sized, sites, faults);
@@ -157,25 +161,28 @@ pub fn note_site_and_log(
         return judged;
     }
     let position = position_of(&site[..Site::SIZE]);
-    if !entries::judge_prefix(log, position, sites, judged.commands) {
+    if !entries::judge_prefix(log, position, sites, judged.commands, counts) {
         return refused(REFUSED_RANGE);
     }
     judged
 }
 
 // The same without the places.
-pub fn judge_site_and_log(
+pub fn judge_and_count(
     enough: bool,
     sites: usize,
     faults: usize,
     book: &[u8],
     site: &[u8],
     log: &[u8],
+    counts: &mut [u8],
 ) -> Judgement
-    ensures { λ r. ⌜ Judges (verdict (forSiteAndLog sites faults (now (book .entry)) enough (now (site .entry)) (now (log .entry)))) (now (book .entry)) r ⌝ }
+    requires { ⌜ now counts ≡ replicate cells 0 ⌝ }
+    ensures { λ r. ⌜ Judges (verdict (forSiteAndLog sites faults (now (book .entry)) enough (now (site .entry)) (now (log .entry)))) (now (book .entry)) r
+        × (r .code ≡ 0 → Counting (now (log .entry)) (headOf (take siteSize (now (site .entry))) .position) (now (counts .exit))) ⌝ }
 {
     let mut places = [0u16; 64];
-    note_site_and_log(enough, sites, faults, book, site, log, &mut places)
+    note_site_and_log(enough, sites, faults, book, site, log, &mut places, counts)
 }
 
 // The log position of a site.

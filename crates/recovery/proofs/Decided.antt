@@ -23,11 +23,12 @@ use Rattle.protocol.specs.Recovery.{valid, isValid, ncOf, cOf, Tally, Log, deci
 use Rattle.system.specs.Dash.{dash}
 use Rattle.calm.specs.Rows.{rowsSystem}
 use Rattle.calm.proofs.Same.{decide-rows}
-use Rattle.entries.specs.Entries.{entrySize, logTo, logOf}
+use Rattle.entries.specs.Entries.{entrySize, entryOf, logTo, logOf}
 use Rattle.entries.proofs.Logs.{log-of-take}
 use Rattle.standing.specs.declared.Standing.{Standing}
 use Rattle.standing.specs.Standings.{standingOf}
 use Rattle.standing.proofs.Tallies.{tallyTo}
+use Rattle.standing.proofs.Steps.{decided-after}
 use Rattle.standing.proofs.Agreement.{Marks, Agrees, agrees}
 use Rattle.recovery.specs.declared.Sets.{Sets}
 use Rattle.recovery.specs.declared.Decision.{Decision}
@@ -104,6 +105,12 @@ module _ (t : SiteTable) (rows : List ℕ) (r : ℕ) (b : List ℕ) where
     -- The deciding entry is among those read.
     pub decided-place : not (s .decided) ≡ false → s .entries ≤ k
     decided-place h = agreed .place (not-false (s .decided) h)
+
+    -- It does not come before the round's first.
+    pub decided-from : (from : ℕ) → ((i : ℕ) → i < from → entryOf b i .round ≡ r → ⊥) → not (s .decided) ≡ false → from ≤ s .entries
+    decided-from from apart h =
+        subst (λ (x : Standing). from ≤ x .entries) (sym es)
+        (decided-after t rows r b from apart k (sym (ap (λ (x : Standing). x .decided) es) ∙ not-false (s .decided) h))
 
     pub is-decided : {sets : Sets} → not (s .decided) ≡ false → sets ≡ foundSets t b r (s .valid) (s .entries)
         → Decided sets ≡ decisionOf (rowsSystem t rows) (decide (rowsSystem t rows) r (logTo b k))

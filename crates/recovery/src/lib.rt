@@ -154,11 +154,12 @@ pub fn decide(log: &[u8], k: usize, round: usize, table: SiteTable, rows: &[u64]
     ensures { λ r. ⌜ r ≡ decisionOf (rowsSystem table (now (rows .entry)))
         (decide (rowsSystem table (now (rows .entry))) round (logTo (now (log .entry)) k)) ⌝ }
 {
-    let sources = standing::standing_after(log, k, round, table, rows);
+    let first = entries::first_of(log, k, round);
+    let sources = standing::standing_after(log, first, k, round, table, rows);
     if !sources.decided {
         return Decision::Undecided;
     }
     let valid = sources.valid;
-    let sets = decided_sets(log, 0, sources.entries, round, valid, table);
+    let sets = decided_sets(log, first, sources.entries, round, valid, table);
     Decision::Decided(sets)
 }

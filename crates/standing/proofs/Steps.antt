@@ -1,15 +1,16 @@
 -- One law for each answer of the code that adds an entry.
 -- Assumes nothing.
-use mathlib.Core.Path.{_≡_, sym, ap, _∙_}
+use mathlib.Core.Path.{_≡_, refl, sym, ap, _∙_}
 use mathlib.Core.Bool.{Bool, true, false, _&&_, not}
 use mathlib.Core.List.{List}
-use Prim.Native.Nat.{ℕ, suc, _+_, _-_, _≤_, _<_}
+use mathlib.Core.Logic.{_⊎_, inl, inr, ⊎-elim}
+use Prim.Native.Nat.{ℕ, zero, suc, _+_, _≤_, _<_}
 use native.Mathlib.Numerals.{add-one}
 use native.Mathlib.Omega.{arith}
 use lib.Dec.{eqb, ltb}
-use borrow.Author.Tests.{lt-ltb, le-ltb, eq-eqb, ne-eqb}
+use borrow.Author.Tests.{lt-ltb, le-ltb, eq-eqb, eqb-true, ne-eqb}
 use Rattle.theory.specs.Sets.{pick}
-use Rattle.theory.specs.Counting.{not-true, not-false}
+use Rattle.theory.specs.Counting.{left, not-true, not-false, never, lt-or-le, last-or-below}
 use Rattle.sets.specs.declared.Set.{Set}
 use Rattle.sets.specs.Sets.{inSet, emptyOf, withOf, withoutOf, sizeOf}
 use Rattle.table.specs.declared.SiteTable.{SiteTable}
@@ -18,7 +19,7 @@ use Rattle.calm.specs.Rows.{freeBy}
 use Rattle.entries.specs.declared.Entry.{Entry}
 use Rattle.entries.specs.Entries.{entryOf}
 use Rattle.standing.specs.declared.Standing.{Standing}
-use Rattle.standing.specs.Standings.{validAfter, marked, withEntry, standingOf}
+use Rattle.standing.specs.Standings.{nobodyYet, validAfter, marked, withEntry, standingOf}
 
 module _ (rows : List ℕ) (site : ℕ) (nc : Set) (s : Standing) {t : Bool} (et : t ≡ inSet (s .seen) site) where
   pub second-entry : {none source r : Set} → t ≡ true → none ≡ emptyOf → source ≡ withOf none site → r ≡ withoutOf (s .valid) source
@@ -65,25 +66,62 @@ module _ (t : SiteTable) (rows : List ℕ) (r k : ℕ) (e : Entry) (s : Standing
       })
       ∙ (λ i. pick (sym (eq-eqb (e .round) r (sym ex ∙ q)) i && sym (lt-ltb (e .site) (t .sites) (omega arith)) i) (marked t rows k e s) s)
 
-module _ (t : SiteTable) (rows : List ℕ) (r : ℕ) (b : List ℕ) (k : ℕ) where
-  pub standing-none : {none : Set} → k ≡ 0 → none ≡ emptyOf
-      → _≡_ {A = Standing} (record { seen = none; valid = none; decided = false; entries = 0 }) (standingOf t rows r b k)
+pub nobody-told : {none : Set} → none ≡ emptyOf → _≡_ {A = Standing} (record { seen = none; valid = none; decided = false; entries = 0 }) nobodyYet
+nobody-told e = λ i. record { seen = e i; valid = e i; decided = false; entries = 0 }
+
+module _ (t : SiteTable) (rows : List ℕ) (r : ℕ) (b : List ℕ) where
+  -- Entries of other rounds change nothing.
+  nobody-before : (n : ℕ) → ((i : ℕ) → i < n → entryOf b i .round ≡ r → ⊥) → nobodyYet ≡ standingOf t rows r b n
   unfolding standingOf
-  standing-none q en =
-      (λ i. record { seen = en i; valid = en i; decided = false; entries = 0 }) ∙ ap (standingOf t rows r b) (sym q)
+  nobody-before zero h = refl
+  nobody-before (suc n) h =
+      let e = nobody-before n (λ i l. h i (omega arith)) in
+      other-round t rows r (suc n) (entryOf b n) nobodyYet refl (h n (omega arith))
+      ∙ (λ j. pick (e j .decided) (e j) (withEntry t rows r (suc n) (entryOf b n) (e j)))
 
-  standing-more : (k ≡ 0 → ⊥) → {s : Standing} → s ≡ standingOf t rows r b (k - 1)
-      → pick (s .decided) s (withEntry t rows r (k - 1 + 1) (entryOf b (k - 1)) s) ≡ standingOf t rows r b k
+  pub standing-before : (n : ℕ) → ((i : ℕ) → i < n → entryOf b i .round ≡ r → ⊥) → {s : Standing} → s ≡ nobodyYet
+      → (s ≡ standingOf t rows r b n) × (s .decided ≡ false)
+  standing-before n h es = (es ∙ nobody-before n h, ap (λ (x : Standing). x .decided) es)
+
+  pub standing-added : (i : ℕ) (s : Standing) {s′ : Standing} → s ≡ standingOf t rows r b i → s .decided ≡ false
+      → s′ ≡ withEntry t rows r (i + 1) (entryOf b i) s → s′ ≡ standingOf t rows r b (i + 1)
   unfolding standingOf
-  standing-more n es =
-      let q : suc (k - 1) ≡ k = omega arith in
-      (λ i. pick (es i .decided) (es i) (withEntry t rows r (add-one (k - 1) i) (entryOf b (k - 1)) (es i))) ∙ ap (standingOf t rows r b) q
+  standing-added i s es d en =
+      en ∙ ap (λ (x : Bool). pick x s (withEntry t rows r (i + 1) (entryOf b i) s)) (sym d)
+      ∙ (λ j. pick (es j .decided) (es j) (withEntry t rows r (add-one i j) (entryOf b i) (es j)))
+      ∙ ap (standingOf t rows r b) (sym (add-one i))
 
-  pub standing-stays : (k ≡ 0 → ⊥) → (s : Standing) → s ≡ standingOf t rows r b (k - 1) → s .decided ≡ true → s ≡ standingOf t rows r b k
-  standing-stays n s es d =
-      ap (λ (x : Bool). pick x s (withEntry t rows r (k - 1 + 1) (entryOf b (k - 1)) s)) (sym d) ∙ standing-more n es
+  pub standing-stays : (i k : ℕ) → i ≤ k → (s : Standing) → s ≡ standingOf t rows r b i → s .decided ≡ true → s ≡ standingOf t rows r b k
+  unfolding standingOf
+  standing-stays i zero l s es d = let q : i ≡ 0 = omega arith in es ∙ ap (standingOf t rows r b) q
+  standing-stays i (suc k) l s es d = go (last-or-below i (suc k) (omega arith)) (λ g. standing-stays i k g s es d)
+    where
+      go : (i ≡ suc k) ⊎ (i < suc k) → (i ≤ k → s ≡ standingOf t rows r b k) → s ≡ standingOf t rows r b (suc k)
+      go (inl q) f = es ∙ ap (standingOf t rows r b) q
+      go (inr g) f =
+          let e = f (omega arith) in
+          ap (λ (x : Bool). pick x s (withEntry t rows r (suc k) (entryOf b k) s)) (sym d)
+          ∙ (λ j. pick (e j .decided) (e j) (withEntry t rows r (suc k) (entryOf b k) (e j)))
 
-  pub standing-added : (k ≡ 0 → ⊥) → (s : Standing) {s′ : Standing} → s ≡ standingOf t rows r b (k - 1) → s .decided ≡ false
-      → s′ ≡ withEntry t rows r (k - 1 + 1) (entryOf b (k - 1)) s → s′ ≡ standingOf t rows r b k
-  standing-added n s es d en =
-      en ∙ ap (λ (x : Bool). pick x s (withEntry t rows r (k - 1 + 1) (entryOf b (k - 1)) s)) (sym d) ∙ standing-more n es
+  pub standing-end : (i k : ℕ) {s : Standing} → s ≡ standingOf t rows r b i → i ≡ k → s ≡ standingOf t rows r b k
+  standing-end i k es q = es ∙ ap (standingOf t rows r b) q
+
+  -- The entry that decides the round does not come before its first.
+  module _ (from : ℕ) (none : (i : ℕ) → i < from → entryOf b i .round ≡ r → ⊥) where
+    pub decided-after : (k : ℕ) → standingOf t rows r b k .decided ≡ true → from ≤ standingOf t rows r b k .entries
+    unfolding standingOf withEntry
+    decided-after zero d = absurd (never false d refl)
+    decided-after (suc k) d = kept (standingOf t rows r b k) (decided-after k) (standingOf t rows r b k .decided) refl d
+      where
+        counted : (s : Standing) → s .decided ≡ false → (y : Bool) → (eqb (entryOf b k .round) r && ltb (entryOf b k .site) (t .sites)) ≡ y
+            → pick y (marked t rows (suc k) (entryOf b k) s) s .decided ≡ true → from ≤ pick y (marked t rows (suc k) (entryOf b k) s) s .entries
+        counted s e true q d =
+            ⊎-elim (λ l. absurd (none k l (eqb-true (entryOf b k .round) r (left (eqb (entryOf b k .round) r) (ltb (entryOf b k .site) (t .sites)) q)))) (λ l. omega arith)
+            (lt-or-le k from)
+        counted s e false q d = absurd (never (s .decided) d e)
+
+        kept : (s : Standing) → (s .decided ≡ true → from ≤ s .entries) → (x : Bool) → s .decided ≡ x
+            → pick x s (pick (eqb (entryOf b k .round) r && ltb (entryOf b k .site) (t .sites)) (marked t rows (suc k) (entryOf b k) s) s) .decided ≡ true
+            → from ≤ pick x s (pick (eqb (entryOf b k .round) r && ltb (entryOf b k .site) (t .sites)) (marked t rows (suc k) (entryOf b k) s) s) .entries
+        kept s ih true e d = ih d
+        kept s ih false e d = counted s e (eqb (entryOf b k .round) r && ltb (entryOf b k .site) (t .sites)) refl d

@@ -1,12 +1,12 @@
 // The standing of the sources in a round, entry by entry, up to the entry that decides the round.
 ghost use mathlib.Core.Bool.{true};
 ghost use mathlib.Core.Path.{_≡_};
-ghost use Prim.Native.Nat.{_+_, _*_, _≤_, _<_};
+ghost use Prim.Native.Nat.{ℕ, _+_, _*_, _≤_, _<_};
 ghost use lib.ListN.{length};
 ghost use Rattle.sets.specs.Sets.{capacity};
 ghost use Rattle.table.specs.Table.{isGood};
 ghost use Rattle.entries.specs.Entries.{entrySize, entryOf};
-ghost use Rattle.standing.specs.Standings.{validAfter, withEntry, standingOf};
+ghost use Rattle.standing.specs.Standings.{nobodyYet, validAfter, withEntry, standingOf};
 use sets::Set;
 use table::SiteTable;
 
@@ -35,6 +35,19 @@ fn valid_after(before: Standing, rows: &[u64], site: usize, nc: Set) -> Set
         return valid;
     }
     valid.with(site)
+}
+
+// Before any entry.
+fn nobody_yet() -> Standing
+    ensures { λ r. ⌜ r ≡ nobodyYet ⌝ }
+{
+    let nobody = Set::empty();
+    Standing {
+        seen: nobody,
+        valid: nobody,
+        decided: false,
+        entries: 0,
+    }
 }
 
 // The standing with the k-th entry added. An entry of another round, or of a site beyond the table, changes nothing.
@@ -71,29 +84,27 @@ pub fn with_entry(
     }
 }
 
-// The standing after k entries is that after one entry fewer, with one entry added, until the round is decided.
+// The standing after k entries, of which none before `from` is of the round: entry by entry, until the round is decided.
 pub fn standing_after(
     log: &[u8],
+    from: usize,
     k: usize,
     round: usize,
     table: SiteTable,
     rows: &[u64],
 ) -> Standing
-    requires { ⌜ (isGood table ≡ true) × (k * entrySize ≤ length (now log)) × (length (now rows) ≡ capacity) ⌝ }
+    requires { ⌜ (isGood table ≡ true) × (k * entrySize ≤ length (now log)) × (length (now rows) ≡ capacity)
+        × (from ≤ k) × ((i : ℕ) → i < from → entryOf (now log) i .round ≡ round → ⊥) ⌝ }
     ensures { λ r. ⌜ r ≡ standingOf table (now (rows .entry)) round (now (log .entry)) k ⌝ }
 {
-    if k == 0 {
-        let nobody = Set::empty();
-        return Standing {
-            seen: nobody,
-            valid: nobody,
-            decided: false,
-            entries: 0,
-        };
+    let mut sources = nobody_yet();
+    let mut i: usize = from;
+    while i < k {
+        sources = with_entry(sources, log, i, round, table, rows);
+        if sources.decided {
+            return sources;
+        }
+        i += 1;
     }
-    let before = standing_after(log, k - 1, round, table, rows);
-    if before.decided {
-        return before;
-    }
-    with_entry(before, log, k - 1, round, table, rows)
+    sources
 }
