@@ -49,7 +49,7 @@ pub fn get4(s: &[u8], at: usize) -> u32
     let b1 = wide4(s[at + 1]);
     let b2 = wide4(s[at + 2]);
     let b3 = wide4(s[at + 3]);
-    b0 + 256 * (b1 + 256 * (b2 + 256 * b3))
+    b0 + 256 * b1 + 65536 * b2 + 16777216 * b3
 }
 
 // The number of eight bytes at a position.
@@ -65,7 +65,14 @@ pub fn get8(s: &[u8], at: usize) -> u64
     let b5 = wide8(s[at + 5]);
     let b6 = wide8(s[at + 6]);
     let b7 = wide8(s[at + 7]);
-    b0 + 256 * (b1 + 256 * (b2 + 256 * (b3 + 256 * (b4 + 256 * (b5 + 256 * (b6 + 256 * b7))))))
+    b0
+        + 256 * b1
+        + 65536 * b2
+        + 16777216 * b3
+        + 4294967296 * b4
+        + 1099511627776 * b5
+        + 281474976710656 * b6
+        + 72057594037927936 * b7
 }
 
 // A byte is written at a position.
