@@ -1,5 +1,6 @@
 pub mod Laws
 pub mod Walk
 pub mod Places
+pub mod Decoding
 pub mod Writing
 pub mod RoundTrip
