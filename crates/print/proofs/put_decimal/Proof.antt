@@ -8,22 +8,22 @@ use Rattle.print.proofs.put_decimal.Statement.{statement}
 use Rattle.print.proofs.put_decimal.Tie as tie
 
 put-digits-requires : tie.Need-put-digits-requires
-put-digits-requires c κs = omega (arith, length-decimal (c .before .before .before .args .x), width-one (c .before .before .before .args .x) (omega arith))
+put-digits-requires c κs = omega (arith, length-decimal (c .before .before .before .before .args .x), width-one (c .before .before .before .before .args .x) (omega arith))
 
 same-length : tie.Need-same-length
 same-length c = search needs
 
 returns : tie.Need-returns
-returns c = wrote-decimal _ (sym (width-one (c .before .before .before .before .before .before .args .x) (omega arith))) (c .before .before .put-digits .ensures)
+returns c = wrote-decimal _ (sym (width-one (c .before .before .before .before .before .before .before .args .x) (omega arith))) (c .before .before .put-digits .ensures)
 
 put-digits-requires-2 : tie.Need-put-digits-requires-2
-put-digits-requires-2 c κs = omega (arith, length-decimal (c .before .before .before .before .args .x), width-between 1 (c .before .before .before .before .args .x) (omega arith) (omega arith))
+put-digits-requires-2 c κs = omega (arith, length-decimal (c .before .before .before .before .before .args .x), width-between 1 (c .before .before .before .before .before .args .x) (omega arith) (omega arith))
 
 same-length-2 : tie.Need-same-length-2
 same-length-2 c = search needs
 
 returns-2 : tie.Need-returns-2
-returns-2 c = wrote-decimal _ (sym (width-between 1 (c .before .before .before .before .before .before .before .args .x) (omega arith) (omega arith))) (c .before .before .put-digits2 .ensures)
+returns-2 c = wrote-decimal _ (sym (width-between 1 (c .before .before .before .before .before .before .before .before .args .x) (omega arith) (omega arith))) (c .before .before .put-digits2 .ensures)
 
 put-digits-requires-3 : tie.Need-put-digits-requires-3
 put-digits-requires-3 c κs = omega (arith, length-decimal (c .before .before .before .before .before .args .x), width-between 2 (c .before .before .before .before .before .args .x) (omega arith) (omega arith))
@@ -34,35 +34,35 @@ same-length-3 c = search needs
 returns-3 : tie.Need-returns-3
 returns-3 c = wrote-decimal _ (sym (width-between 2 (c .before .before .before .before .before .before .before .before .args .x) (omega arith) (omega arith))) (c .before .before .put-digits3 .ensures)
 
-put-digits-requires-4 : tie.Need-put-digits-requires-4
-put-digits-requires-4 c κs = omega (arith, length-decimal (c .before .before .before .before .before .before .args .x), width-between 3 (c .before .before .before .before .before .before .args .x) (omega arith) (omega arith))
+put-parted-requires : tie.Need-put-parted-requires
+put-parted-requires c κs = omega (arith, length-decimal (c .before .before .before .before .args .x), width-between 3 (c .before .before .before .before .args .x) (omega arith) (omega arith))
 
 same-length-4 : tie.Need-same-length-4
 same-length-4 c = search needs
 
 returns-4 : tie.Need-returns-4
-returns-4 c = wrote-decimal _ (sym (width-between 3 (c .before .before .before .before .before .before .before .before .before .args .x) (omega arith) (omega arith))) (c .before .before .put-digits4 .ensures)
+returns-4 c = wrote-decimal _ (sym (width-between 3 (c .before .before .before .before .before .before .before .args .x) (omega arith) (omega arith))) (c .before .before .put-parted .ensures)
 
-put-digits-requires-5 : tie.Need-put-digits-requires-5
-put-digits-requires-5 c κs = omega (arith, length-decimal (c .before .before .before .before .before .before .before .args .x), width-between 4 (c .before .before .before .before .before .before .before .args .x) (omega arith) (omega arith))
+put-parted-requires-2 : tie.Need-put-parted-requires-2
+put-parted-requires-2 c κs = omega (arith, length-decimal (c .before .before .before .before .before .args .x), width-between 4 (c .before .before .before .before .before .args .x) (omega arith) (omega arith))
 
 same-length-5 : tie.Need-same-length-5
 same-length-5 c = search needs
 
 returns-5 : tie.Need-returns-5
-returns-5 c = wrote-decimal _ (sym (width-between 4 (c .before .before .before .before .before .before .before .before .before .before .args .x) (omega arith) (omega arith))) (c .before .before .put-digits5 .ensures)
+returns-5 c = wrote-decimal _ (sym (width-between 4 (c .before .before .before .before .before .before .before .before .args .x) (omega arith) (omega arith))) (c .before .before .put-parted2 .ensures)
 
 digit-count-requires : tie.Need-digit-count-requires
 digit-count-requires c κs = search needs
 
-put-digits-requires-6 : tie.Need-put-digits-requires-6
-put-digits-requires-6 c κs = omega (arith, length-decimal (c .before .before .before .before .before .before .before .before .args .x), c .before .digit-count .ensures)
+put-digits-requires-4 : tie.Need-put-digits-requires-4
+put-digits-requires-4 c κs = omega (arith, length-decimal (c .before .before .before .before .before .before .args .x), c .before .digit-count .ensures)
 
 same-length-6 : tie.Need-same-length-6
 same-length-6 c = search needs
 
 returns-6 : tie.Need-returns-6
-returns-6 c = wrote-decimal _ (c .before .before .before .before .digit-count .ensures) (c .before .before .put-digits6 .ensures)
+returns-6 c = wrote-decimal _ (c .before .before .before .before .digit-count .ensures) (c .before .before .put-digits4 .ensures)
 
 pub put-decimal-spec : {M : Type 1} → statement M
 put-decimal-spec =
@@ -77,13 +77,13 @@ put-decimal-spec =
     put-digits-requires-3
     same-length-3
     returns-3
-    put-digits-requires-4
+    put-parted-requires
     same-length-4
     returns-4
-    put-digits-requires-5
+    put-parted-requires-2
     same-length-5
     returns-5
     digit-count-requires
-    put-digits-requires-6
+    put-digits-requires-4
     same-length-6
     returns-6)
