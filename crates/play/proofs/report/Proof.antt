@@ -23,8 +23,9 @@ cast-cause c = search needs
 
 put-step-line-requires : tie.Need-put-step-line-requires
 put-step-line-requires c κs =
-    let a = c .before .before .before .before .before .before .args in
-    omega (arith, step-short (a .number) (c .before .number .result) (c .before .before .before .before .before .before .pre .1) (omega (arith, number-small (c .before .before .before .verdict .given .0 .0), c .before .number .ensures)))
+    let s = c .before .before .before .before .before .before in
+    let n : c .before .number .result < 10 = omega (arith, number-small (c .before .before .before .verdict .given .0 .0), c .before .number .ensures) in
+    (omega (arith, step-short (s .args .number) (c .before .number .result) (s .pre .1) n), n)
 
 same-length : tie.Need-same-length
 same-length c = search needs
