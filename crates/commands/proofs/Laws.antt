@@ -153,7 +153,7 @@ module _ (s : List ℕ) (b : getD s 1 0 < bikes) where
             ∙ two-front s (omega arith);
       }
 
-given-true : (t : Bool) (r : Reading) {c : Command} → given t r ≡ Whole c → (t ≡ true) × (r ≡ Whole c)
+pub given-true : (t : Bool) (r : Reading) {c : Command} → given t r ≡ Whole c → (t ≡ true) × (r ≡ Whole c)
 given-true true r h = (refl, h)
 given-true false r h = absurd (let z : _≡_ {A = ℕ} 0 1 = cc in omega arith)
 

@@ -34,8 +34,8 @@ pub index-end : (s p : List ℕ) (k at : ℕ) → length (rest s k at) ≡ 0 →
 index-end s p k at h = ap (λ (cs : List Command). sets p k (placesFrom at cs)) (none-of (rest s k at) h)
 
 placed : (k : ℕ) (s : List ℕ) (j at : ℕ) → at ≤ length s → k < length (rest s j at)
-    → (readCommand (drop (getD (placesFrom at (rest s j at)) k 0) s) ≡ Whole (getD (rest s j at) k (Read 0))) × (getD (placesFrom at (rest s j at)) k 0 ≤ length s)
-placed zero s j at g h = let n = next s j at g h in rw (n .left) (n .read, g)
+    → readCommand (drop (getD (placesFrom at (rest s j at)) k 0) s) ≡ Whole (getD (rest s j at) k (Read 0))
+placed zero s j at g h = let n = next s j at g h in rw (n .left) (n .read)
 placed (suc k) s j at g h =
     let n = next s j at g (omega arith) in
     let i = placed k s (j + 1) (at + sizeOf (n .command)) (n .inside) (omega (arith, ap length (n .left))) in
@@ -72,16 +72,13 @@ module _ (s p : List ℕ) (k : ℕ) (h : k < length (commandsOf s)) (e : take (l
   place-is =
       sym (getD-take (length (commandsOf s)) p k 0 h) ∙ ap (λ (l : List ℕ). getD l k 0) e ∙ ap (λ (cs : List Command). getD (placesFrom 0 cs) k 0) (sym (rest-all s))
 
-  there : (readCommand (drop (getD (placesFrom 0 (rest s 0 0)) k 0) s) ≡ Whole (getD (rest s 0 0) k (Read 0))) × (getD (placesFrom 0 (rest s 0 0)) k 0 ≤ length s)
+  there : readCommand (drop (getD (placesFrom 0 (rest s 0 0)) k 0) s) ≡ Whole (getD (rest s 0 0) k (Read 0))
   there = placed k s 0 0 (omega arith) (omega (arith, ap length (rest-all s)))
-
-  pub place-inside : getD p k 0 ≤ length s
-  place-inside = omega (arith, place-is, there .1)
 
   pub place-read : {at : ℕ} → at ≡ getD p k 0 → readCommand (drop at s) ≡ Whole (commandOf s k)
   unfolding commandOf
   place-read q =
-      ap (λ (n : ℕ). readCommand (drop n s)) (q ∙ place-is) ∙ there .0 ∙ ap (λ (cs : List Command). Whole (getD cs k (Read 0))) (rest-all s)
+      ap (λ (n : ℕ). readCommand (drop n s)) (q ∙ place-is) ∙ there ∙ ap (λ (cs : List Command). Whole (getD cs k (Read 0))) (rest-all s)
 
 -- A walk to the k-th command, j of them passed.
 module _ (s : List ℕ) (k : ℕ) where

@@ -223,17 +223,29 @@ pub fn index(book: &[u8], n: usize, places: &mut [u16])
     }
 }
 
-// The k-th command, from the noted places.
+// The k-th command, from the noted places. The book is taken, so its bytes are not judged again.
 pub fn indexed(book: &[u8], places: &[u16], k: usize) -> Command
     requires { ⌜ (k < length (commandsOf (now book))) × (take (length (commandsOf (now book))) (now places) ≡ placesOf (now book)) ⌝ }
     ensures { λ r. ⌜ r ≡ commandOf (now (book .entry)) k ⌝ }
 {
     let at = wide(places[k]);
-    let reading = read_command(&book[at..]);
-    match reading {
-        Reading::Whole(command) => command,
-        Reading::Bad => Command::Read { bike: 0 },
+    let kind = book[at];
+    let bike = book[at + 1];
+    if kind == 1 {
+        let km = wire::get2(book, at + 2);
+        return Command::Add { bike, km };
     }
+    if kind == 2 {
+        let dash = wire::get4(book, at + 2);
+        let start = wire::get4(book, at + 6);
+        return Command::Fit { bike, dash, start };
+    }
+    if kind == 3 {
+        return Command::Read { bike };
+    }
+    let word = wire::get2(book, at + 2);
+    let km = signed::i16_of(word);
+    Command::Trim { bike, km }
 }
 
 // The kind and the bike of a command, as its first two bytes say.

@@ -38,6 +38,7 @@ use Rattle.deliver.proofs.Order.{order-within}
 use Rattle.deliver.proofs.Ledger.{delivered-append}
 use Rattle.ending.specs.Ending.{dueOf, moreOf, ended, judgedEnd, Told}
 use Rattle.ending.proofs.Verdicts.{end-taken, same-verdict}
+use Rattle.ending.proofs.Next.{head-still}
 
 -- The size of a set is the number of its commands in order.
 pub size-order : (x : Set) {n : ℕ} → n ≡ sizeOf x → n ≡ length (inOrder x)
@@ -180,21 +181,21 @@ module _ (t : SiteTable) (book : List Command) (few : length book ≤ capacity) 
         → Carried t book (verdict (protocol.forRoundEnd (dash t book) (view t book b) log)) (protocol.finish (dash t book) (protocol.tallyOr (protocol.decision (dash t book) (view t book b) log)) (view t book b)) (view t book b) r b
     round-refused z ez = end-refused z verdict-is ez
 
-    pub round-taken : {h : Site} {x y : Set} {k n : ℕ} {b₁ b₂ b₃ : List ℕ} {h′ : Site} → r ≡ Taken → h ≡ headOf b → x ≡ dueOf (headOf b) nc → y ≡ dueOf (headOf b) c
-        → k ≡ h .deliveries + length (inOrder x) → Delivered book (h .deliveries) (inOrder x) b b₁
-        → n ≡ k + length (inOrder y) → Delivered book k (inOrder y) b₁ b₂ → h′ ≡ ended h nc c n → b₃ ≡ splice b₂ 0 (headBytes h′) → ((i : ℕ) → getD b₃ i 0 < 256)
+    pub round-taken : {x y : Set} {k₀ k n : ℕ} {b₁ b₂ b₃ : List ℕ} → r ≡ Taken → k₀ ≡ headOf b .deliveries → x ≡ dueOf (headOf b) nc → y ≡ dueOf (headOf b) c
+        → k ≡ k₀ + length (inOrder x) → Delivered book k₀ (inOrder x) b b₁
+        → n ≡ k + length (inOrder y) → Delivered book k (inOrder y) b₁ b₂ → b₃ ≡ splice b₂ 0 (headBytes (ended (headOf b₂) nc c n)) → ((i : ℕ) → getD b₃ i 0 < 256)
         → Carried t book (verdict (protocol.forRoundEnd (dash t book) (view t book b) log)) (protocol.finish (dash t book) (protocol.tallyOr (protocol.decision (dash t book) (view t book b) log)) (view t book b)) (view t book b) Taken b₃
-    round-taken {h} {x} {y} {k} {n} {b₁} {b₂} {b₃} et eh ex ey ek d₁ em d₂ ea eb small′ =
-        let w = ready (headOf b) commands decided nc c er et (ap (λ (s : Site). s .deliveries) eh) ex ey in
+    round-taken {x} {y} {k₀} {k} {n} {b₁} {b₂} {b₃} et e₀ ex ey ek d₁ em d₂ eb small′ =
+        let w = ready (headOf b) commands decided nc c er et e₀ ex ey in
         let room = w .1 in
         let a = length-append (inOrder x) (inOrder y) in
-        let all : Delivered book (h .deliveries) (inOrder x ++ inOrder y) b b₂ =
-        delivered-append book (h .deliveries) (inOrder x) (inOrder y) d₁ (subst (λ (j : ℕ). Delivered book j (inOrder y) b₁ b₂) ek d₂) in
+        let all : Delivered book k₀ (inOrder x ++ inOrder y) b b₂ =
+        delivered-append book k₀ (inOrder x) (inOrder y) d₁ (subst (λ (j : ℕ). Delivered book j (inOrder y) b₁ b₂) ek d₂) in
         let list : inOrder x ++ inOrder y ≡ inOrder (dueOf (headOf b) nc) ++ inOrder (dueOf (headOf b) c) = λ i. inOrder (ex i) ++ inOrder (ey i) in
-        let total : n ≡ h .deliveries + length (inOrder x ++ inOrder y) = omega arith in
-        let same : h .deliveries + length (inOrder x ++ inOrder y) ≡ headOf b .deliveries + length (inOrder (dueOf (headOf b) nc) ++ inOrder (dueOf (headOf b) c)) =
-        λ i. eh i .deliveries + length (list i) in
+        let total : n ≡ k₀ + length (inOrder x ++ inOrder y) = omega arith in
+        let same : k₀ + length (inOrder x ++ inOrder y) ≡ headOf b .deliveries + length (inOrder (dueOf (headOf b) nc) ++ inOrder (dueOf (headOf b) c)) =
+        λ i. e₀ i + length (list i) in
         taken t book (verdict (protocol.forRoundEnd (dash t book) (view t book b) log)) (sym verdict-is ∙ et)
         (end-holds (w .0) (omega arith) (total ∙ same)
-        (subst (λ (l : List ℕ). Delivered book (headOf b .deliveries) l b b₂) list (subst (λ (s : Site). Delivered book (s .deliveries) (inOrder x ++ inOrder y) b b₂) eh all))
-        (ea ∙ ap (λ (s : Site). ended s nc c n) eh) eb small′)
+        (subst (λ (l : List ℕ). Delivered book (headOf b .deliveries) l b b₂) list (subst (λ (j : ℕ). Delivered book j (inOrder x ++ inOrder y) b b₂) e₀ all))
+        (ap (λ (s : Site). ended s nc c n) (head-still b good small b₂ (d₂ .header ∙ d₁ .header))) eb small′)

@@ -1,3 +1,5 @@
 pub mod Verdicts
 pub mod Closing
 pub mod Telling
+pub mod Next
+pub mod Together

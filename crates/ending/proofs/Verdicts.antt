@@ -35,18 +35,18 @@ module _ (h : Site) (commands : ℕ) (decided : Bool) (nc c : Set) {w : Bool} (e
     unfolding judgedEnd
     end-undecided d = let is : isWaiting (h .phase) ≡ true = sym ew ∙ e in simp (is, d)
 
-    module _ (d : decided ≡ true) {x y : Set} {p q n : ℕ} (ex : x ≡ dueOf h nc) (ep : p ≡ sizeOf x) (ey : y ≡ dueOf h c) (eq : q ≡ sizeOf y) (en : n ≡ h .deliveries) where
-      total : n + (p + q) ≡ h .deliveries + moreOf h nc c
-      total = λ i. en i + ((ep ∙ ap sizeOf ex) i + (eq ∙ ap sizeOf ey) i)
+    module _ (d : decided ≡ true) {x y : Set} {k n : ℕ} (ex : x ≡ dueOf h nc) (ey : y ≡ dueOf h c) (ek : k ≡ sizeOf x + sizeOf y) (en : n ≡ h .deliveries) where
+      total : n + k ≡ h .deliveries + moreOf h nc c
+      total = λ i. en i + (ek ∙ (λ j. sizeOf (ex j) + sizeOf (ey j))) i
 
-      pub end-full : commands < n + (p + q) → Refused Size ≡ judgedEnd h commands decided (moreOf h nc c)
+      pub end-full : commands < n + k → Refused Size ≡ judgedEnd h commands decided (moreOf h nc c)
       unfolding judgedEnd
       end-full l =
           let is : isWaiting (h .phase) ≡ true = sym ew ∙ e in
           let t = total in
           simp (is, d, lt-leb (h .deliveries + moreOf h nc c) commands (omega arith))
 
-      pub end-met : n + (p + q) ≤ commands → Taken ≡ judgedEnd h commands decided (moreOf h nc c)
+      pub end-met : n + k ≤ commands → Taken ≡ judgedEnd h commands decided (moreOf h nc c)
       unfolding judgedEnd
       end-met l =
           let is : isWaiting (h .phase) ≡ true = sym ew ∙ e in

@@ -1,16 +1,15 @@
 // The end of a round: the commands that the log decided are delivered, and the site acknowledges again, in the next round.
 ghost use mathlib.Core.Bool.{true};
 ghost use mathlib.Core.Path.{_≡_};
-ghost use Prim.Native.Nat.{ℕ, _≤_};
+ghost use Prim.Native.Nat.{ℕ, _+_, _≤_};
 ghost use lib.ListN.{length};
-ghost use Rattle.sets.specs.Sets.{withinOf};
+ghost use Rattle.wire.specs.Wire.{splice};
+ghost use Rattle.sets.specs.Sets.{withinOf, sizeOf};
 ghost use Rattle.commands.specs.Book.{commandsOf};
-ghost use Rattle.layout.specs.Layout.{siteSize, siteRounds, headOf};
+ghost use Rattle.layout.specs.Layout.{siteSize, siteRounds, headOf, headBytes, Headed};
 ghost use Rattle.layout.specs.Good.{Good};
 ghost use Rattle.deliver.specs.Delivering.{Noted};
 ghost use Rattle.ending.specs.Ending.{dueOf, moreOf, ended, judgedEnd, RoundEnded};
-use layout::Phase;
-use layout::Site;
 use refusals::Refusal;
 use refusals::Verdict;
 use sets::Set;
@@ -21,6 +20,17 @@ fn due(site: &[u8], set: Set) -> Set
     ensures { λ r. ⌜ r ≡ dueOf (headOf (now (site .entry))) set ⌝ }
 {
     set.without(layout::delivered(site).union(layout::fast(site)))
+}
+
+// The sizes of two sets together: counted once where they have no command in common.
+fn sizes(a: Set, b: Set) -> usize
+    ensures { λ r. ⌜ r ≡ sizeOf a + sizeOf b ⌝ }
+{
+    if a.common(b).is_empty() {
+        a.union(b).size()
+    } else {
+        a.size() + b.size()
+    }
 }
 
 // Whether the round ends with the decided sets, and else the refusal.
@@ -34,7 +44,7 @@ fn judge(site: &[u8], commands: usize, decided: bool, nc: Set, c: Set) -> Verdic
     if !decided {
         return Verdict::Refused(Refusal::Disabled);
     }
-    let more = due(site, nc).size() + due(site, c).size();
+    let more = sizes(due(site, nc), due(site, c));
     let recorded = layout::count(site) as usize;
     if recorded + more > commands {
         return Verdict::Refused(Refusal::Size);
@@ -42,23 +52,20 @@ fn judge(site: &[u8], commands: usize, decided: bool, nc: Set, c: Set) -> Verdic
     Verdict::Taken
 }
 
-// The header in the next round.
-fn next_round(header: Site, nc: Set, c: Set, deliveries: u8) -> Site
-    requires { ⌜ header .round ≤ siteRounds ⌝ }
-    ensures { λ r. ⌜ r ≡ ended header nc c deliveries ⌝ }
+// The site acknowledges in the next round, with the decided sets delivered and nothing pending.
+fn next_round(site: &mut [u8], nc: Set, c: Set, deliveries: u8)
+    requires { ⌜ (length (now site) ≡ siteSize) × (headOf (now site) .round ≤ siteRounds) × Headed (now site) ⌝ }
+    ensures { λ _. ⌜ now (site .exit) ≡ splice (now (site .entry)) 0 (headBytes (ended (headOf (now (site .entry))) nc c deliveries)) ⌝ }
 {
-    let received = header.received;
-    let delivered = header.delivered.union(nc.union(c));
-    Site {
-        round: header.round + 1,
-        phase: Phase::Acknowledging,
-        position: header.position,
-        deliveries,
-        received,
-        delivered,
-        pending: Set { bits: 0 },
-        fast: Set { bits: 0 },
-    }
+    let none = Set { bits: 0 };
+    let round = layout::round(&site[..]);
+    let delivered = layout::delivered(&site[..]);
+    layout::set_round(site, round + 1);
+    layout::set_count(site, deliveries);
+    layout::set_delivered(site, delivered.union(nc.union(c)));
+    layout::set_pending(site, none);
+    layout::set_fast(site, none);
+    layout::acknowledge(site);
 }
 
 // The round ends with the decided sets, or the step is refused: NC in number order, then C, without what was delivered.
@@ -79,12 +86,11 @@ pub fn round_end(
     if let Verdict::Refused(_) = judged {
         return judged;
     }
-    let header = Site::read(&site[..]);
     let first = due(&site[..], nc);
     let second = due(&site[..], c);
-    let recorded = header.deliveries as usize;
+    let recorded = layout::count(&site[..]) as usize;
     let between = deliver::deliver_all(site, book, places, recorded, first);
     let total = deliver::deliver_all(site, book, places, between, second);
-    next_round(header, nc, c, total as u8).write(site);
+    next_round(site, nc, c, total as u8);
     Verdict::Taken
 }

@@ -3,7 +3,7 @@
 use mathlib.Core.Path.{_≡_, refl, sym, ap, _∙_}
 use mathlib.Core.Bool.{Bool, true, false, _&&_, not}
 use mathlib.Core.List.{List}
-use Prim.Native.Nat.{ℕ, _+_, _≤_, _<_}
+use Prim.Native.Nat.{ℕ, zero, suc, _+_, _*_, _-_, _≤_, _<_}
 use native.Mathlib.Omega.{arith}
 use lib.Dec.{leb}
 use lib.ListN.{length}
@@ -12,10 +12,11 @@ use Rattle.refusals.specs.declared.Refusal.the-variants.{Disabled, Size}
 use Rattle.refusals.specs.declared.Verdict.{Verdict}
 use Rattle.refusals.specs.declared.Verdict.the-variants.{Taken, Refused}
 use Rattle.theory.specs.Sets.{one, count}
-use Rattle.theory.specs.Counting.{count-more, count-le}
+use Rattle.theory.specs.Counting.{left, right, not-true, never, count-more, count-no, count-le}
 use Rattle.wire.specs.Wire.{readLe}
 use Rattle.sets.specs.declared.Set.{Set}
-use Rattle.sets.specs.Sets.{has, inSet, readSet}
+use Rattle.sets.specs.Sets.{has, inSet, withoutOf, readSet}
+use Rattle.sets.proofs.Laws.{in-empty, in-without}
 use Rattle.table.specs.declared.SiteTable.{SiteTable}
 use Rattle.table.specs.Table.{maxSites, nAckOf}
 use Rattle.register.specs.declared.Command.{Command}
@@ -23,6 +24,7 @@ use Rattle.protocol.specs.System.{granted, _else_⨾_, verdict}
 use Rattle.protocol.specs.Site as protocol
 use Rattle.system.specs.Dash.{dash}
 use Rattle.layout.specs.Layout.{siteRounds, countPlace, cell, headOf, heardOf, deliveriesOf, view}
+use Rattle.layout.specs.Good.{Good}
 use Rattle.layout.proofs.Senders.{in-table}
 use Rattle.layout.proofs.Deliveries.{length-deliveries}
 
@@ -41,6 +43,24 @@ sender-more b r m j hj h1 h33 en es et eo =
 pub sender-few : (b : List ℕ) (r m j : ℕ) {n : ℕ} → n ≡ count j (λ k. heardOf b k r m) → n ≤ j
 sender-few b r m j e = let l = count-le j (λ k. heardOf b k r m) in omega arith
 
+count-beyond : (n k : ℕ) (p : ℕ → Bool) → ((j : ℕ) → n ≤ j → j < n + k → p j ≡ false) → count (n + k) p ≡ count n p
+count-beyond n zero p h = let e : n + 0 ≡ n = omega arith in ap (λ (j : ℕ). count j p) e
+count-beyond n (suc k) p h =
+    let e : n + suc k ≡ n + k + 1 = omega arith in
+    ap (λ (j : ℕ). count j p) e ∙ count-no (n + k) p (h (n + k) (omega arith) (omega arith)) ∙ count-beyond n k p (λ j l g. h j l (omega arith))
+
+-- Of senders that there are not nothing was heard.
+pub silent-senders : {sites commands : ℕ} (b : List ℕ) (r m : ℕ) → Good sites commands b → sites ≤ maxSites → 1 ≤ r → r ≤ siteRounds
+    → count maxSites (λ j. heardOf b j r m) ≡ count sites (λ j. heardOf b j r m)
+unfolding readSet
+silent-senders {sites} b r m good few h1 h33 =
+    let e : sites + (maxSites - sites) ≡ maxSites = omega arith in
+    ap (λ (n : ℕ). count n (λ j. heardOf b j r m)) (sym e) ∙ count-beyond sites (maxSites - sites) (λ j. heardOf b j r m) (λ j l g. nothing j l (omega arith))
+  where
+    nothing : (j : ℕ) → sites ≤ j → j < maxSites → heardOf b j r m ≡ false
+    nothing j l g =
+        heard-at b j r m g h1 h33 ∙ ap (λ (x : ℕ). has x m) (good .tables .silent (siteRounds * j + (r - 1)) (omega arith) (omega arith)) ∙ in-empty m
+
 -- ---- the verdict, by its tests
 
 abbrev fastVerdict : Bool → Bool → Bool → Bool → Verdict
@@ -48,6 +68,12 @@ fastVerdict pending fast enough room = verdict (pending else Disabled ⨾ not fa
 
 never-taken : {r : Verdict} → r ≡ Refused Size → r ≡ Taken → ⊥
 never-taken e h = let z : _≡_ {A = ℕ} 0 1 = cc (sym e ∙ h) in omega arith
+
+-- A command that is not pending, or that was delivered fast, is not delivered.
+closed : (p f n r : Bool) → (p && not f) ≡ false → Refused Disabled ≡ fastVerdict p f n r
+closed true true n r h = refl
+closed true false n r h = absurd (never true refl h)
+closed false f n r h = refl
 
 -- A delivery that is taken has room.
 has-room : (a f n r : Bool) → fastVerdict a f n r ≡ Taken → r ≡ true
@@ -90,39 +116,39 @@ module _ (t : SiteTable) (book : List Command) (b : List ℕ) (m : ℕ) where
       omega arith
 
   -- What the code reads and tests, in its order.
-  module _ {p : Set} {x : Bool} (ep : p ≡ headOf b .pending) (ex : x ≡ inSet p m) where
-    is-pending : {v : Bool} → x ≡ v → v ≡ pending
-    unfolding pending
-    is-pending hx = sym hx ∙ ex ∙ ap (λ (s : Set). inSet s m) ep
+  module _ {p f o : Set} {x : Bool} (ep : p ≡ headOf b .pending) (ef : f ≡ headOf b .fast) (eo : o ≡ withoutOf p f) (ex : x ≡ inSet o m) where
+    is-open : {v : Bool} → x ≡ v → (pending && not fast) ≡ v
+    unfolding pending fast
+    is-open hx =
+        sym (in-without (headOf b .pending) (headOf b .fast) m)
+        ∙ sym (ex ∙ ap (λ (s : Set). inSet s m) (eo ∙ (λ i. withoutOf (ep i) (ef i)))) ∙ hx
 
-    pub not-pending : x ≡ false → Refused Disabled ≡ verdict (protocol.forFastDelivery (dash t book) m (view t book b))
-    not-pending hx = (λ i. fastVerdict (is-pending hx i) fast enough room) ∙ same-verdict
+    pub not-open : x ≡ false → Refused Disabled ≡ verdict (protocol.forFastDelivery (dash t book) m (view t book b))
+    not-open hx = closed pending fast enough room (is-open hx) ∙ same-verdict
 
-    module _ (hx : x ≡ true) {f : Set} {y : Bool} (ef : f ≡ headOf b .fast) (ey : y ≡ inSet f m) where
-      is-fast : {v : Bool} → y ≡ v → v ≡ fast
-      unfolding fast
-      is-fast hy = sym hy ∙ ey ∙ ap (λ (s : Set). inSet s m) ef
+    module _ (hx : x ≡ true) {r n k : ℕ} (er : r ≡ headOf b .round) (en : n ≡ count (t .sites) (λ j. heardOf b j r m)) (ek : k ≡ nAckOf t) where
+      is-pending : true ≡ pending
+      is-pending = sym (left pending (not fast) (is-open hx))
 
-      pub already-fast : y ≡ true → Refused Disabled ≡ verdict (protocol.forFastDelivery (dash t book) m (view t book b))
-      already-fast hy = (λ i. fastVerdict (is-pending hx i) (is-fast hy i) enough room) ∙ same-verdict
+      is-fast : false ≡ fast
+      is-fast = sym (not-true fast (right pending (not fast) (is-open hx)))
 
-      module _ (hy : y ≡ false) {r n k : ℕ} (er : r ≡ headOf b .round) (en : n ≡ count (t .sites) (λ j. heardOf b j r m)) (ek : k ≡ nAckOf t) where
-        is-enough : {v : Bool} → leb k n ≡ v → v ≡ enough
-        unfolding enough
-        is-enough e = sym e ∙ (λ i. leb (ek i) ((en ∙ ap (λ (q : ℕ). count (t .sites) (λ j. heardOf b j q m)) er) i))
+      is-enough : {v : Bool} → leb k n ≡ v → v ≡ enough
+      unfolding enough
+      is-enough e = sym e ∙ (λ i. leb (ek i) ((en ∙ ap (λ (q : ℕ). count (t .sites) (λ j. heardOf b j q m)) er) i))
 
-        pub too-few : n < k → Refused Disabled ≡ verdict (protocol.forFastDelivery (dash t book) m (view t book b))
-        too-few l = (λ i. fastVerdict (is-pending hx i) (is-fast hy i) (is-enough (lt-leb k n l) i) room) ∙ same-verdict
+      pub too-few : n < k → Refused Disabled ≡ verdict (protocol.forFastDelivery (dash t book) m (view t book b))
+      too-few l = (λ i. fastVerdict (is-pending i) (is-fast i) (is-enough (lt-leb k n l) i) room) ∙ same-verdict
 
-        module _ (l : k ≤ n) {c : ℕ} (ec : c ≡ headOf b .deliveries) where
-          is-room : {v : Bool} → leb (c + 1) (length book) ≡ v → v ≡ room
-          unfolding room
-          is-room e = sym e ∙ (λ i. leb ((ec ∙ sym recorded) i + 1) (length book))
+      module _ (l : k ≤ n) {c : ℕ} (ec : c ≡ headOf b .deliveries) where
+        is-room : {v : Bool} → leb (c + 1) (length book) ≡ v → v ≡ room
+        unfolding room
+        is-room e = sym e ∙ (λ i. leb ((ec ∙ sym recorded) i + 1) (length book))
 
-          pub no-room : length book ≤ c → Refused Size ≡ verdict (protocol.forFastDelivery (dash t book) m (view t book b))
-          no-room o =
-              (λ i. fastVerdict (is-pending hx i) (is-fast hy i) (is-enough (le-leb k n l) i) (is-room (lt-leb (c + 1) (length book) (omega arith)) i)) ∙ same-verdict
+        pub no-room : length book ≤ c → Refused Size ≡ verdict (protocol.forFastDelivery (dash t book) m (view t book b))
+        no-room o =
+            (λ i. fastVerdict (is-pending i) (is-fast i) (is-enough (le-leb k n l) i) (is-room (lt-leb (c + 1) (length book) (omega arith)) i)) ∙ same-verdict
 
-          pub all-met : c < length book → Taken ≡ verdict (protocol.forFastDelivery (dash t book) m (view t book b))
-          all-met o =
-              (λ i. fastVerdict (is-pending hx i) (is-fast hy i) (is-enough (le-leb k n l) i) (is-room (le-leb (c + 1) (length book) (omega arith)) i)) ∙ same-verdict
+        pub all-met : c < length book → Taken ≡ verdict (protocol.forFastDelivery (dash t book) m (view t book b))
+        all-met o =
+            (λ i. fastVerdict (is-pending i) (is-fast i) (is-enough (le-leb k n l) i) (is-room (le-leb (c + 1) (length book) (omega arith)) i)) ∙ same-verdict

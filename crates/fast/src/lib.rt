@@ -5,6 +5,7 @@ ghost use mathlib.Core.Path.{_≡_};
 ghost use Prim.Native.Nat.{_≤_, _<_};
 ghost use lib.ListN.{length};
 ghost use Rattle.theory.specs.Sets.{one, count};
+ghost use Rattle.sets.specs.Sets.{capacity};
 ghost use Rattle.table.specs.Table.{maxSites, isGood};
 ghost use Rattle.register.specs.declared.Command.{Command};
 ghost use Rattle.commands.specs.Book.{commandsOf};
@@ -25,16 +26,16 @@ fn one(test: bool) -> usize
     if test { 1 } else { 0 }
 }
 
-// How many sites have acknowledged a command in a round.
-fn senders(site: &[u8], sites: usize, round: usize, m: usize) -> usize
-    requires { ⌜ (length (now site) ≡ siteSize) × (sites ≤ maxSites) × (1 ≤ round) × (round ≤ siteRounds) ⌝ }
-    ensures { λ r. ⌜ r ≡ count sites (λ j. heardOf (now (site .entry)) j round m) ⌝ }
+// How many senders have acknowledged a command in a round. Of those that there are not nothing was heard.
+fn senders(site: &[u8], round: usize, m: usize) -> usize
+    requires { ⌜ (length (now site) ≡ siteSize) × (1 ≤ round) × (round ≤ siteRounds) × (m < capacity) ⌝ }
+    ensures { λ r. ⌜ r ≡ count maxSites (λ j. heardOf (now (site .entry)) j round m) ⌝ }
 {
     let mut n = 0;
     let mut sender = 0;
-    while sender < sites {
+    while sender < SiteTable::MAX_SITES {
         let set = layout::heard(site, sender, round);
-        n += one(set.has(m));
+        n += one(set.holds(m));
         sender += 1;
     }
     n
@@ -42,17 +43,15 @@ fn senders(site: &[u8], sites: usize, round: usize, m: usize) -> usize
 
 // Whether a command may be delivered fast, and else the refusal.
 fn judge(site: &[u8], table: SiteTable, commands: usize, m: usize) -> Verdict
-    requires { ⌜ Good (table .sites) commands (now site) × (isGood table ≡ true) ⌝ }
+    requires { ⌜ Good (table .sites) commands (now site) × (isGood table ≡ true) × (m < capacity) ⌝ }
     ensures { λ r. ⌜ ((book : List Command) → length book ≡ commands → r ≡ verdict (protocol.forFastDelivery (dash table book) m (view table book (now (site .entry))))) ⌝ }
 {
-    if !layout::pending(site).has(m) {
-        return Verdict::Refused(Refusal::Disabled);
-    }
-    if layout::fast(site).has(m) {
+    let open = layout::pending(site).without(layout::fast(site));
+    if !open.holds(m) {
         return Verdict::Refused(Refusal::Disabled);
     }
     let round = layout::round(site) as usize;
-    let n = senders(site, table.sites, round, m);
+    let n = senders(site, round, m);
     if n < table.n_ack() {
         return Verdict::Refused(Refusal::Disabled);
     }

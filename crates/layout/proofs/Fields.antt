@@ -12,13 +12,13 @@ use borrow.Author.Tests.{ne-eqb}
 use Rattle.wire.specs.Wire.{bytes, readLe, splice}
 use Rattle.wire.proofs.Laws.{part-before}
 use Rattle.sets.specs.declared.Set.{Set}
-use Rattle.sets.specs.Sets.{readSet, writeSet}
+use Rattle.sets.specs.Sets.{emptyOf, readSet, writeSet}
 use Rattle.layout.specs.declared.Phase.{Phase}
 use Rattle.layout.specs.declared.Phase.the-variants.{Waiting}
 use Rattle.layout.specs.declared.Site.{Site}
-use Rattle.layout.specs.Layout.{phasePlace, countPlace, positionPlace, receivedPlace, pendingPlace, fastPlace, ncPlace, cPlace, heardPlace, headOf, phaseFrom, isWaiting, numbersBytes, setsBytes, headBytes, waitsWith}
-use Rattle.layout.specs.Good.{Good}
-use Rattle.layout.proofs.Header.{length-head, head-bytes}
+use Rattle.layout.specs.Layout.{phasePlace, countPlace, positionPlace, receivedPlace, pendingPlace, fastPlace, ncPlace, cPlace, heardPlace, headOf, phaseFrom, isWaiting, numbersBytes, setsBytes, headBytes, waitsWith, acknowledges}
+use Rattle.layout.specs.Good.{Fit, Good}
+use Rattle.layout.proofs.Header.{length-head, head-back, head-bytes}
 
 -- ---- what the code of layout does
 
@@ -33,6 +33,10 @@ waiting-tag b e = ap (λ (k : ℕ). not (eqb k 0)) e ∙ by-tag (readLe 1 b phas
 pub waits : (b : List ℕ) (nc c : Set) {l₁ l₂ l₃ : List ℕ} → l₁ ≡ splice b phasePlace (bytes 1 1) → l₂ ≡ writeSet l₁ ncPlace nc → l₃ ≡ writeSet l₂ cPlace c
     → l₃ ≡ waitsWith b nc c
 waits b nc c e₁ e₂ e₃ = e₃ ∙ ap (λ (l : List ℕ). writeSet l cPlace c) (e₂ ∙ ap (λ (l : List ℕ). writeSet l ncPlace nc) e₁)
+
+pub acknowledged : (b : List ℕ) {l₁ l₂ l₃ : List ℕ} → l₁ ≡ splice b phasePlace (bytes 1 0) → l₂ ≡ writeSet l₁ ncPlace emptyOf → l₃ ≡ writeSet l₂ cPlace emptyOf
+    → l₃ ≡ acknowledges b
+acknowledged b e₁ e₂ e₃ = e₃ ∙ ap (λ (l : List ℕ). writeSet l cPlace emptyOf) (e₂ ∙ ap (λ (l : List ℕ). writeSet l ncPlace emptyOf) e₁)
 
 -- ---- the header in front of the bytes
 
@@ -59,6 +63,10 @@ pub in-head : (write : List ℕ → List ℕ) (h₀ h : Site) (b : List ℕ) →
     → write b ≡ splice b 0 (headBytes h)
 in-head write h₀ h b law e =
     ap write (sym (take-append-drop heardPlace b) ∙ ap (λ (l : List ℕ). l ++ drop heardPlace b) e) ∙ law (drop heardPlace b) ∙ sym (over b h)
+
+-- The header that is read of bytes is the one that they begin with.
+pub begins-head : (b : List ℕ) (h : Site) → Fit h → Begins h b → headOf b ≡ h
+begins-head b h f e = ap headOf (in-head (λ l. l) h h b (λ rest. refl) e) ∙ head-back b h f
 
 -- ---- one field another
 

@@ -1,11 +1,12 @@
 -- One site in lent bytes: where each field stands, the site that the bytes are seen as, and the bytes of a site.
 -- Assumes nothing.
+use mathlib.Core.Path.{_≡_}
 use mathlib.Core.Bool.{Bool, true, false, _&&_}
 use mathlib.Core.List.{List, [], _∷_, _++_}
 use Prim.Native.Nat.{ℕ, zero, suc, _+_, _*_, _-_, _/_, _%_}
 use lib.Dec.{leb, ltb}
 use lib.IntN.{ℤ}
-use lib.ListN.{length, replicate}
+use lib.ListN.{length, take, replicate}
 use Rattle.theory.specs.Machine.{Delivery}
 use Rattle.wire.specs.Wire.{bytes, readLe, splice}
 use Rattle.signed.specs.Signed.{signed32, word32}
@@ -169,9 +170,17 @@ setsBytes h =
 abbrev pub headBytes : Site → List ℕ
 headBytes h = numbersBytes h ++ setsBytes h
 
+-- The bytes begin with those of the header that is read of them.
+abbrev pub Headed : List ℕ → Type 0
+Headed b = take heardPlace b ≡ headBytes (headOf b)
+
 -- The bytes with the site waiting with two sets.
 abbrev pub waitsWith : List ℕ → Set → Set → List ℕ
 waitsWith b nc c = writeSet (writeSet (splice b phasePlace (bytes 1 1)) ncPlace nc) cPlace c
+
+-- The bytes with the site acknowledging, and nothing proposed.
+abbrev pub acknowledges : List ℕ → List ℕ
+acknowledges b = writeSet (writeSet (splice b phasePlace (bytes 1 0)) ncPlace emptyOf) cPlace emptyOf
 
 -- The first n of the sets heard: that of sender 0 and round 1 first.
 unfoldable pub heardBytes : ℕ → (ℕ → ℕ → ℕ → Bool) → List ℕ

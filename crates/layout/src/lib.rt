@@ -6,7 +6,7 @@ ghost use Rattle.wire.specs.Wire.{bytes, splice};
 ghost use Rattle.sets.specs.Sets.{capacity, readSet, writeSet};
 ghost use Rattle.table.specs.Table.{maxSites};
 ghost use Rattle.layout.specs.Layout.{siteSize, siteRounds, registerPlace, cell, slot, headOf, phaseFrom, tagOf, proposalOf, numbersBytes, setsBytes, headBytes, deliveryOf, deliveryBytes, deliverySeen, heardMore};
-ghost use Rattle.layout.specs.Layout.{countPlace, positionPlace, receivedPlace, pendingPlace, fastPlace, isWaiting, waitsWith};
+ghost use Rattle.layout.specs.Layout.{roundPlace, countPlace, positionPlace, receivedPlace, deliveredPlace, pendingPlace, fastPlace, isWaiting, waitsWith, acknowledges};
 use sets::Set;
 
 // What a site proposed.
@@ -230,6 +230,13 @@ pub fn fast(site: &[u8]) -> Set
     Set::read(site, Site::FAST)
 }
 
+pub fn set_round(site: &mut [u8], round: u8)
+    requires { ⌜ length (now site) ≡ siteSize ⌝ }
+    ensures { λ _. ⌜ now (site .exit) ≡ splice (now (site .entry)) roundPlace (bytes 1 round) ⌝ }
+{
+    wire::put1(site, Site::ROUND, round);
+}
+
 pub fn set_count(site: &mut [u8], count: u8)
     requires { ⌜ length (now site) ≡ siteSize ⌝ }
     ensures { λ _. ⌜ now (site .exit) ≡ splice (now (site .entry)) countPlace (bytes 1 count) ⌝ }
@@ -249,6 +256,13 @@ pub fn set_received(site: &mut [u8], set: Set)
     ensures { λ _. ⌜ now (site .exit) ≡ writeSet (now (site .entry)) receivedPlace set ⌝ }
 {
     set.write(site, Site::RECEIVED);
+}
+
+pub fn set_delivered(site: &mut [u8], set: Set)
+    requires { ⌜ length (now site) ≡ siteSize ⌝ }
+    ensures { λ _. ⌜ now (site .exit) ≡ writeSet (now (site .entry)) deliveredPlace set ⌝ }
+{
+    set.write(site, Site::DELIVERED);
 }
 
 pub fn set_pending(site: &mut [u8], set: Set)
@@ -273,6 +287,17 @@ pub fn wait_with(site: &mut [u8], nc: Set, c: Set)
     wire::put1(site, Site::PHASE, 1);
     nc.write(site, Site::NC);
     c.write(site, Site::C);
+}
+
+// The site acknowledges again, and proposes nothing.
+pub fn acknowledge(site: &mut [u8])
+    requires { ⌜ length (now site) ≡ siteSize ⌝ }
+    ensures { λ _. ⌜ now (site .exit) ≡ acknowledges (now (site .entry)) ⌝ }
+{
+    let none = Set { bits: 0 };
+    wire::put1(site, Site::PHASE, 0);
+    none.write(site, Site::NC);
+    none.write(site, Site::C);
 }
 
 // The place of what a sender acknowledged in a round.

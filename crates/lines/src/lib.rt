@@ -1,6 +1,6 @@
 // The lines of a run's print, written into a lent buffer. Each function answers the position after what it wrote.
 ghost use mathlib.Core.Path.{_≡_};
-ghost use Prim.Native.Nat.{_+_, _≤_};
+ghost use Prim.Native.Nat.{_+_, _≤_, _<_};
 ghost use lib.ListN.{length};
 ghost use Rattle.print.specs.Print.{Wrote};
 ghost use Rattle.lines.specs.Lines.{counted, numbered, lineEnd, runLine, stepLine, refusedLine, siteHead, deliveryText};
@@ -40,14 +40,15 @@ pub fn put_run_line(
     put_counted(out, p3, commands, b" commands\n")
 }
 
-// The line of a refused step.
+// The line of a refused step. The number of a refusal has one digit.
 pub fn put_step_line(out: &mut [u8], at: usize, step: usize, refusal: usize) -> usize
-    requires { ⌜ at + length (stepLine step refusal) ≤ length (now out) ⌝ }
+    requires { ⌜ (at + length (stepLine step refusal) ≤ length (now out)) × (refusal < 10) ⌝ }
     ensures { λ r. ⌜ Wrote (now (out .exit)) r (now (out .entry)) at (stepLine step refusal) ⌝ }
 {
     let p1 = print::put_text(out, at, b"step ");
     let p2 = put_counted(out, p1, step, b" refused ");
-    put_counted(out, p2, refusal, b"\n")
+    let p3 = print::put_digits(out, p2, 1, refusal);
+    print::put_text(out, p3, b"\n")
 }
 
 // The line of a refused header, book or size.

@@ -116,6 +116,18 @@ unfolding digits
 digits-none s at zero x h = splice-none s at
 digits-none s at (suc i) x h = absurd (omega arith)
 
+-- The last two digits apart from those before them.
+pub digits-parted : (n x : ℕ) → digits n (x / 100) ++ digits 2 (x % 100) ≡ digits (n + 2) x
+unfolding digits
+digits-parted n x =
+    let e : n + 2 ≡ suc (suc n) = omega arith in
+    let high : x / 100 ≡ x / 10 / 10 = omega arith in
+    let tens : x % 100 / 10 % 10 ≡ x / 10 % 10 = omega arith in
+    let ones : x % 100 % 10 ≡ x % 10 = omega arith in
+    (λ i. digits n (high i) ++ ((48 + tens i) ∷ (48 + ones i) ∷ []))
+    ∙ sym (append-assoc (digits n (x / 10 / 10)) ((48 + x / 10 % 10) ∷ []) ((48 + x % 10) ∷ []))
+    ∙ ap (λ (k : ℕ). digits k x) (sym e)
+
 -- ---- the copy of a text
 
 pub copy-more : (d : List ℕ) (at : ℕ) (t : List ℕ) (i : ℕ) {s : List ℕ} → at + i < length d → i < length t → s ≡ paste d at t i
@@ -135,6 +147,10 @@ both {s} {s₁} {s₂} {at} {r₁} {r₂} {a} {b} h p q =
       end = omega (arith, length-append a b, p .end, q .end);
       bytes = q .bytes ∙ (λ i. splice (p .bytes i) (p .end i) b) ∙ splice-two s at a b h;
     }
+
+pub wrote-parted : {s₁ s₂ s : List ℕ} {r₁ r₂ at : ℕ} (n x : ℕ) → at ≤ length s → Wrote s₁ r₁ s at (digits n (x / 100)) → Wrote s₂ r₂ s₁ r₁ (digits 2 (x % 100))
+    → Wrote s₂ r₂ s at (digits (n + 2) x)
+wrote-parted {s₁} {s₂} {s} {r₁} {r₂} {at} n x h v w = subst (Wrote s₂ r₂ s at) (digits-parted n x) (both h v w)
 
 pub wrote-decimal : {s₁ s : List ℕ} {r at n : ℕ} (x : ℕ) → n ≡ width x → Wrote s₁ r s at (digits n x) → Wrote s₁ r s at (decimal x)
 unfolding decimal

@@ -32,25 +32,28 @@ pub fn put_digits(out: &mut [u8], at: usize, n: usize, x: usize) -> usize
     at + n
 }
 
-// A number is written without leading zeros. A number of up to five digits is written by a count that the compiler knows.
+// A number is written without leading zeros. A number of up to five digits is written by a count that the compiler knows,
+// and the last two of four or five digits apart from the others, so that neither waits for the other.
 pub fn put_decimal(out: &mut [u8], at: usize, x: usize) -> usize
     requires { ⌜ at + length (decimal x) ≤ length (now out) ⌝ }
     ensures { λ r. ⌜ Wrote (now (out .exit)) r (now (out .entry)) at (decimal x) ⌝ }
 {
-    if x < 10 {
-        return put_digits(out, at, 1, x);
-    }
-    if x < 100 {
-        return put_digits(out, at, 2, x);
-    }
     if x < 1000 {
+        if x < 10 {
+            return put_digits(out, at, 1, x);
+        }
+        if x < 100 {
+            return put_digits(out, at, 2, x);
+        }
         return put_digits(out, at, 3, x);
     }
     if x < 10000 {
-        return put_digits(out, at, 4, x);
+        let middle = put_digits(out, at, 2, x / 100);
+        return put_digits(out, middle, 2, x % 100);
     }
     if x < 100000 {
-        return put_digits(out, at, 5, x);
+        let middle = put_digits(out, at, 3, x / 100);
+        return put_digits(out, middle, 2, x % 100);
     }
     let n = digit_count(x);
     put_digits(out, at, n, x)

@@ -3,7 +3,7 @@
 use mathlib.Core.Bool.{Bool, not, _||_}
 use mathlib.Core.List.{List}
 use Prim.Native.Nat.{ℕ, zero, suc, _+_, _*_, _/_, _%_, _^_}
-use lib.Dec.{eqb, ltb}
+use lib.Dec.{eqb, leb, ltb}
 use lib.Bits.{bitAnd, bitOr, bitXor}
 use lib.ListN.{getD, set}
 use Rattle.theory.specs.Sets.{pick, one, all, any, count}
@@ -55,6 +55,10 @@ withoutOf a b = record { bits = bitXor (a .bits) (bitAnd (a .bits) (b .bits)) }
 -- The commands of both sets.
 unfoldable pub commonOf : Set → Set → Set
 commonOf a b = record { bits = bitAnd (a .bits) (b .bits) }
+
+-- The commands from n on.
+abbrev pub beyondOf : ℕ → Set
+beyondOf n = setOf capacity (leb n)
 
 -- No command is in the set.
 abbrev pub isEmptyOf : Set → Bool

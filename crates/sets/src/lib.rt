@@ -3,7 +3,7 @@ ghost use mathlib.Core.Path.{_≡_};
 ghost use Prim.Native.Nat.{_+_, _≤_, _<_};
 ghost use lib.ListN.{length};
 ghost use Rattle.sets.specs.Sets.{capacity, inSet, emptyOf, withOf, unionOf, withoutOf, commonOf};
-ghost use Rattle.sets.specs.Sets.{isEmptyOf, withinOf, equalOf, sizeOf, firstOf, setBytes, readSet, writeSet, loadSet, storeSet};
+ghost use Rattle.sets.specs.Sets.{beyondOf, isEmptyOf, withinOf, equalOf, sizeOf, firstOf, setBytes, readSet, writeSet, loadSet, storeSet};
 
 // A set of command numbers below 64.
 pub struct Set {
@@ -23,12 +23,20 @@ impl Set {
         Set { bits: 0 }
     }
 
+    // Whether command m, of those that a set can hold, is in the set.
+    pub fn holds(self, m: usize) -> bool
+        requires { ⌜ m < capacity ⌝ }
+        ensures { λ r. ⌜ r ≡ inSet self m ⌝ }
+    {
+        (self.bits >> m) % 2 == 1
+    }
+
     // Whether command m is in the set.
     pub fn has(self, m: usize) -> bool
         ensures { λ r. ⌜ r ≡ inSet self m ⌝ }
     {
         if m < Set::CAPACITY {
-            (self.bits >> m) % 2 == 1
+            self.holds(m)
         } else {
             false
         }
@@ -79,15 +87,23 @@ impl Set {
         self.bits == 0
     }
 
+    // The commands from n on.
+    fn beyond(n: usize) -> Set
+        ensures { λ r. ⌜ r ≡ beyondOf n ⌝ }
+    {
+        if n < Set::CAPACITY {
+            let bits = (u64::MAX >> n) << n;
+            Set { bits: bits }
+        } else {
+            Set { bits: 0 }
+        }
+    }
+
     // Whether every command of the set is below n.
     pub fn within(self, n: usize) -> bool
         ensures { λ r. ⌜ r ≡ withinOf self n ⌝ }
     {
-        if n < Set::CAPACITY {
-            self.bits >> n == 0
-        } else {
-            true
-        }
+        self.common(Set::beyond(n)).is_empty()
     }
 
     // Whether two sets have the same commands.

@@ -1,5 +1,6 @@
 -- `ending::judge`: each test of the code is one of the definition, in its order.
 -- Assumes nothing.
+use mathlib.Core.Path.{refl}
 use native.Mathlib.Omega.{arith}
 use borrow.Author.Tests.{not-true, not-false}
 use borrow.Author.Needs.{needs}
@@ -22,20 +23,11 @@ returns-2 c =
 due-requires : tie.Need-due-requires
 due-requires c κs = search needs
 
-size-requires : tie.Need-size-requires
-size-requires c κs = search needs
-
 due-requires-2 : tie.Need-due-requires-2
 due-requires-2 c κs = search needs
 
-size-requires-2 : tie.Need-size-requires-2
-size-requires-2 c κs = search needs
-
-add-more : tie.Need-add-more
-add-more c =
-    let p = size-small (c .before .before .before .due .result) (c .before .before .size .ensures) in
-    let q = size-small (c .before .due2 .result) (c .size2 .ensures) in
-    record { fits = omega arith }
+sizes-requires : tie.Need-sizes-requires
+sizes-requires c κs = search needs
 
 count-requires : tie.Need-count-requires
 count-requires c κs = search needs
@@ -45,21 +37,20 @@ cast-recorded c = search needs
 
 add-if3 : tie.Need-add-if3
 add-if3 c =
-    let p = size-small (c .before .before .before .before .due .result) (c .before .before .before .size .ensures) in
-    let q = size-small (c .before .before .due2 .result) (c .before .size2 .ensures) in
+    let p = size-small (c .before .before .before .due .result) refl in
+    let q = size-small (c .before .before .due2 .result) refl in
+    let e = c .before .sizes .ensures in
     record { fits = omega arith }
 
 returns-3 : tie.Need-returns-3
 returns-3 c =
-    let a = c .before .before .before .before .before .before .before .before .before .before .args in
-    end-full _ _ _ (a .nc) (a .c) (c .before .before .before .before .before .before .before .before .is-waiting .ensures) (not-false _ (c .before .before .before .before .before .before .before .if1 .left)) (not-false _ (c .before .before .before .before .before .before .if2 .left))
-    (c .before .before .before .before .before .due .ensures) (c .before .before .before .before .size .ensures) (c .before .before .before .due2 .ensures) (c .before .before .size2 .ensures) (c .before .count .ensures) (c .if3 .taken)
+    let a = c .before .before .before .before .before .before .before .before .before .args in
+    end-full _ _ _ (a .nc) (a .c) (c .before .before .before .before .before .before .before .is-waiting .ensures) (not-false _ (c .before .before .before .before .before .before .if1 .left)) (not-false _ (c .before .before .before .before .before .if2 .left)) (c .before .before .before .before .due .ensures) (c .before .before .before .due2 .ensures) (c .before .before .sizes .ensures) (c .before .count .ensures) (c .if3 .taken)
 
 returns-4 : tie.Need-returns-4
 returns-4 c =
-    let a = c .before .before .before .before .before .before .before .before .before .before .args in
-    end-met _ _ _ (a .nc) (a .c) (c .before .before .before .before .before .before .before .before .is-waiting .ensures) (not-false _ (c .before .before .before .before .before .before .before .if1 .left)) (not-false _ (c .before .before .before .before .before .before .if2 .left))
-    (c .before .before .before .before .before .due .ensures) (c .before .before .before .before .size .ensures) (c .before .before .before .due2 .ensures) (c .before .before .size2 .ensures) (c .before .count .ensures) (c .if3 .left)
+    let a = c .before .before .before .before .before .before .before .before .before .args in
+    end-met _ _ _ (a .nc) (a .c) (c .before .before .before .before .before .before .before .is-waiting .ensures) (not-false _ (c .before .before .before .before .before .before .if1 .left)) (not-false _ (c .before .before .before .before .before .if2 .left)) (c .before .before .before .before .due .ensures) (c .before .before .before .due2 .ensures) (c .before .before .sizes .ensures) (c .before .count .ensures) (c .if3 .left)
 
 pub judge-spec : {M : Type 1} → statement M
 judge-spec =
@@ -69,10 +60,8 @@ judge-spec =
     returns
     returns-2
     due-requires
-    size-requires
     due-requires-2
-    size-requires-2
-    add-more
+    sizes-requires
     count-requires
     cast-recorded
     add-if3

@@ -1,8 +1,25 @@
--- `ending::next_round`: each field is that of the definition.
--- Assumes nothing.
+-- `ending::next_round`: each field of the header is that of the definition.
+-- Rests on Next.
 use borrow.Author.Needs.{needs}
+use denote.Ref.{now}
+use Rattle.ending.proofs.Next.{next-is}
 use Rattle.ending.proofs.next_round.Statement.{statement}
 use Rattle.ending.proofs.next_round.Tie as tie
+
+round-requires : tie.Need-round-requires
+round-requires c κs = search needs
+
+delivered-requires : tie.Need-delivered-requires
+delivered-requires c κs = search needs
+
+add-set-round : tie.Need-add-set-round
+add-set-round c = search needs
+
+set-round-requires : tie.Need-set-round-requires
+set-round-requires c κs = search needs
+
+set-count-requires : tie.Need-set-count-requires
+set-count-requires c κs = search needs
 
 union-requires : tie.Need-union-requires
 union-requires c κs = search needs
@@ -10,11 +27,42 @@ union-requires c κs = search needs
 union-requires-2 : tie.Need-union-requires-2
 union-requires-2 c κs = search needs
 
-add-t8 : tie.Need-add-t8
-add-t8 c = search needs
+set-delivered-requires : tie.Need-set-delivered-requires
+set-delivered-requires c κs = search needs
+
+set-pending-requires : tie.Need-set-pending-requires
+set-pending-requires c κs = search needs
+
+set-fast-requires : tie.Need-set-fast-requires
+set-fast-requires c κs = search needs
+
+acknowledge-requires : tie.Need-acknowledge-requires
+acknowledge-requires c κs = search needs
+
+same-length : tie.Need-same-length
+same-length c = search needs
 
 returns : tie.Need-returns
-returns c = cc
+returns c =
+    let s = c .before .before .before .before .before .before .before .before .before .before .before .before .before .before .before .before .before .before .before .before .before .before .before .before .before .before .before .before .before .before .before in
+    next-is (now (s .args .site)) (s .args .nc) (s .args .c) (s .args .deliveries) (s .pre .2) (c .before .before .before .before .before .before .before .before .before .before .before .before .before .before .before .before .before .before .before .before .before .before .before .before .before .before .before .before .round .ensures) (c .before .before .before .before .before .before .before .before .before .before .before .before .before .before .before .before .before .before .before .before .before .before .before .before .before .before .delivered .ensures)
+    (c .before .before .before .before .before .before .before .before .before .before .before .before .before .before .before .before .before .before .before .before .before .before .before .before .set-round .ensures) (c .before .before .before .before .before .before .before .before .before .before .before .before .before .before .before .before .before .before .before .before .set-count .ensures) (c .before .before .before .before .before .before .before .before .before .before .before .before .before .before .before .before .union .ensures) (c .before .before .before .before .before .before .before .before .before .before .before .before .before .before .before .union2 .ensures) (c .before .before .before .before .before .before .before .before .before .before .before .before .before .before .set-delivered .ensures)
+    (c .before .before .before .before .before .before .before .before .before .before .set-pending .ensures) (c .before .before .before .before .before .before .set-fast .ensures) (c .before .before .acknowledge .ensures)
 
 pub next-round-spec : {M : Type 1} → statement M
-next-round-spec = tie.close (tie.spec union-requires union-requires-2 add-t8 returns)
+next-round-spec =
+    tie.close
+    (tie.spec
+    round-requires
+    delivered-requires
+    add-set-round
+    set-round-requires
+    set-count-requires
+    union-requires
+    union-requires-2
+    set-delivered-requires
+    set-pending-requires
+    set-fast-requires
+    acknowledge-requires
+    same-length
+    returns)

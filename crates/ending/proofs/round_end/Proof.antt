@@ -1,17 +1,17 @@
 -- `ending::round_end`: the protocol's verdict, then what is due of both sets and the header of the next round.
 -- Assumes nothing.
-use mathlib.Core.Path.{_≡_, sym, ap, subst}
+use mathlib.Core.Path.{_≡_, sym, subst, _∙_}
 use mathlib.Core.Bool.{true}
-use Prim.Native.Nat.{ℕ, _≤_}
+use Prim.Native.Nat.{ℕ, _<_}
 use native.Mathlib.Omega.{arith}
 use borrow.Author.Needs.{needs}
 use denote.Ref.{now}
-use lib.ListN.{length}
-use Rattle.layout.specs.declared.Site.{Site}
-use Rattle.layout.specs.Layout.{siteRounds, headOf}
+use lib.ListN.{length, getD}
+use Rattle.layout.specs.Layout.{headOf}
 use Rattle.sets.specs.Sets.{withinOf}
 use Rattle.commands.specs.Book.{commandsOf}
 use Rattle.commands.proofs.Walk.{few-commands}
+use Rattle.ending.proofs.Next.{headed-still, round-still}
 use Rattle.ending.proofs.Closing.{ready, within-due, round-refused, round-taken}
 use Rattle.ending.proofs.round_end.Statement.{statement}
 use Rattle.ending.proofs.round_end.Tie as tie
@@ -38,50 +38,48 @@ returns c =
 enum-told-2 : tie.Need-enum-told-2
 enum-told-2 c = search needs
 
-read-requires : tie.Need-read-requires
-read-requires c κs = search needs
-
 due-requires : tie.Need-due-requires
 due-requires c κs = search needs
 
 due-requires-2 : tie.Need-due-requires-2
 due-requires-2 c κs = search needs
 
+count-requires : tie.Need-count-requires
+count-requires c κs = search needs
+
 cast-recorded : tie.Need-cast-recorded
 cast-recorded c = search needs
 
 deliver-all-requires : tie.Need-deliver-all-requires
 deliver-all-requires c κs =
-    let s = c .before .before .before .before .before .before .before .before .before .before .before .before .before .before .before in
+    let s = c .before .before .before .before .before .before .before .before .before .before .before .before .before .before in
     let a = s .args in
     let few = few-commands (now (a .book)) in
     let g = s .pre .0 .1 in
     let en = s .pre .2 in
-    let w = ready (headOf (now (a .site))) (a .commands) (a .decided) (a .nc) (a .c) (c .before .before .before .before .before .before .before .before .before .before .judge .ensures) (c .before .before .before .before .before .before .before .before .enum-told2 .given .1)
-    (ap (λ (h : Site). h .deliveries) (c .before .before .before .before .before .before .read .ensures)) (c .before .before .before .before .due .ensures) (c .before .before .due2 .ensures) in
+    let w = ready (headOf (now (a .site))) (a .commands) (a .decided) (a .nc) (a .c) (c .before .before .before .before .before .before .before .before .before .judge .ensures) (c .before .before .before .before .before .before .before .enum-told2 .given .1) (c .before .count .ensures) (c .before .before .before .before .before .due .ensures) (c .before .before .before .due2 .ensures) in
     let room = w .1 in (
       g .size,
       g .tables .readings,
       s .pre .1,
-      within-due (headOf (now (a .site))) (a .nc) (length (commandsOf (now (a .book)))) (c .before .before .before .before .due .ensures) (subst (λ (n : ℕ). withinOf (a .nc) n ≡ true) (sym en) (s .pre .3)),
+      within-due (headOf (now (a .site))) (a .nc) (length (commandsOf (now (a .book)))) (c .before .before .before .before .before .due .ensures) (subst (λ (n : ℕ). withinOf (a .nc) n ≡ true) (sym en) (s .pre .3)),
       omega arith,
     )
 
 deliver-all-requires-2 : tie.Need-deliver-all-requires-2
 deliver-all-requires-2 c κs =
-    let s = c .before .before .before .before .before .before .before .before .before .before .before .before .before .before .before .before .before .before .before in
+    let s = c .before .before .before .before .before .before .before .before .before .before .before .before .before .before .before .before .before .before in
     let a = s .args in
     let few = few-commands (now (a .book)) in
     let en = s .pre .2 in
-    let w = ready (headOf (now (a .site))) (a .commands) (a .decided) (a .nc) (a .c) (c .before .before .before .before .before .before .before .before .before .before .before .before .before .before .judge .ensures) (c .before .before .before .before .before .before .before .before .before .before .before .before .enum-told2 .given .1)
-    (ap (λ (h : Site). h .deliveries) (c .before .before .before .before .before .before .before .before .before .before .read .ensures)) (c .before .before .before .before .before .before .before .before .due .ensures) (c .before .before .before .before .before .before .due2 .ensures) in
+    let w = ready (headOf (now (a .site))) (a .commands) (a .decided) (a .nc) (a .c) (c .before .before .before .before .before .before .before .before .before .before .before .before .before .judge .ensures) (c .before .before .before .before .before .before .before .before .before .before .before .enum-told2 .given .1) (c .before .before .before .before .before .count .ensures) (c .before .before .before .before .before .before .before .before .before .due .ensures) (c .before .before .before .before .before .before .before .due2 .ensures) in
     let room = w .1 in
     let d = c .before .before .before .deliver-all .ensures in
     let e = d .0 in (
       d .1 .size,
       d .1 .readings,
       s .pre .1,
-      within-due (headOf (now (a .site))) (a .c) (length (commandsOf (now (a .book)))) (c .before .before .before .before .before .before .due2 .ensures) (subst (λ (n : ℕ). withinOf (a .c) n ≡ true) (sym en) (s .pre .4)),
+      within-due (headOf (now (a .site))) (a .c) (length (commandsOf (now (a .book)))) (c .before .before .before .before .before .before .before .due2 .ensures) (subst (λ (n : ℕ). withinOf (a .c) n ≡ true) (sym en) (s .pre .4)),
       omega arith,
     )
 
@@ -91,34 +89,36 @@ cast-next-round c =
     let a = s .args in
     let few = few-commands (now (a .book)) in
     let en = s .pre .2 in
-    let w = ready (headOf (now (a .site))) (a .commands) (a .decided) (a .nc) (a .c) (c .before .before .before .before .before .before .before .before .before .before .before .before .before .before .before .before .before .judge .ensures) (c .before .before .before .before .before .before .before .before .before .before .before .before .before .before .before .enum-told2 .given .1)
-    (ap (λ (h : Site). h .deliveries) (c .before .before .before .before .before .before .before .before .before .before .before .before .before .read .ensures)) (c .before .before .before .before .before .before .before .before .before .before .before .due .ensures) (c .before .before .before .before .before .before .before .before .before .due2 .ensures) in
+    let w = ready (headOf (now (a .site))) (a .commands) (a .decided) (a .nc) (a .c) (c .before .before .before .before .before .before .before .before .before .before .before .before .before .before .before .before .before .judge .ensures) (c .before .before .before .before .before .before .before .before .before .before .before .before .before .before .before .enum-told2 .given .1) (c .before .before .before .before .before .before .before .before .before .count .ensures) (c .before .before .before .before .before .before .before .before .before .before .before .before .before .due .ensures) (c .before .before .before .before .before .before .before .before .before .before .before .due2 .ensures) in
     let room = w .1 in
-    let d = c .before .before .before .before .before .before .deliver-all .ensures .0 in
-    let e = c .before .before .deliver-all2 .ensures .0 in
+    let d = c .before .before .before .before .before .before .before .deliver-all .ensures .0 in
+    let e = c .before .before .before .deliver-all2 .ensures .0 in
     record { fits = omega arith }
 
 next-round-requires : tie.Need-next-round-requires
-next-round-requires c κs = subst (λ (h : Site). h .round ≤ siteRounds) (sym (c .before .before .before .before .before .before .before .before .before .before .before .before .before .read .ensures)) (c .before .before .before .before .before .before .before .before .before .before .before .before .before .before .before .before .before .before .before .before .before .before .pre .0 .1 .head .last)
-
-write-requires : tie.Need-write-requires
-write-requires c κs = search needs
+next-round-requires c κs =
+    let s = c .before .before .before .before .before .before .before .before .before .before .before .before .before .before .before .before .before .before .before .before .before .before in
+    let g = s .pre .0 .1 in
+    let small : (i : ℕ) → getD (now (s .args .site)) i 0 < 256 = λ i. c .before .before .before .before .before .before .before .before .before .before .before .before .before .before .before .before .before .before .before .before .before .slice-known .given i .fits in
+    let d = c .before .before .before .deliver-all2 .ensures .1 in
+    let e = d .header ∙ c .before .before .before .before .before .before .before .deliver-all .ensures .1 .header in
+    (d .size, round-still (now (s .args .site)) g small _ e, headed-still (now (s .args .site)) g small _ e)
 
 same-length-2 : tie.Need-same-length-2
 same-length-2 c = search needs
 
 returns-2 : tie.Need-returns-2
 returns-2 c =
-    let s = c .before .before .before .before .before .before .before .before .before .before .before .before .before .before .before .before .before .before .before .before .before .before .before .before .before .before .before in
+    let s = c .before .before .before .before .before .before .before .before .before .before .before .before .before .before .before .before .before .before .before .before .before .before .before .before .before in
     let a = s .args in
     let en = s .pre .2 in
     λ t log g told.
-    round-taken t (commandsOf (now (a .book))) (few-commands (now (a .book))) (now (a .site)) (λ i. c .before .before .before .before .before .before .before .before .before .before .before .before .before .before .before .before .before .before .before .before .before .before .before .before .before .before .slice-known .given i .fits) g (a .decided) (a .nc) (a .c)
+    round-taken t (commandsOf (now (a .book))) (few-commands (now (a .book))) (now (a .site)) (λ i. c .before .before .before .before .before .before .before .before .before .before .before .before .before .before .before .before .before .before .before .before .before .before .before .before .slice-known .given i .fits) g (a .decided) (a .nc) (a .c)
     (s .good .1 .1 .1 .1 .1 .0 .1 .1 .0 .1) (s .good .1 .1 .1 .1 .1 .1 .0 .1 .1 .0 .1) (subst (λ (n : ℕ). withinOf (a .nc) n ≡ true) (sym en) (s .pre .3))
     (subst (λ (n : ℕ). withinOf (a .c) n ≡ true) (sym en) (s .pre .4)) log told en
-    (c .before .before .before .before .before .before .before .before .before .before .before .before .before .before .before .before .before .before .before .before .before .before .judge .ensures) (c .before .before .before .before .before .before .before .before .before .before .before .before .before .before .before .before .before .before .before .before .enum-told2 .given .1) (c .before .before .before .before .before .before .before .before .before .before .before .before .before .before .before .before .before .before .read .ensures) (c .before .before .before .before .before .before .before .before .before .before .before .before .before .before .before .before .due .ensures) (c .before .before .before .before .before .before .before .before .before .before .before .before .before .before .due2 .ensures)
-    (c .before .before .before .before .before .before .before .before .before .before .before .deliver-all .ensures .0) (c .before .before .before .before .before .before .before .before .before .before .before .deliver-all .ensures .1) (c .before .before .before .before .before .before .before .deliver-all2 .ensures .0) (c .before .before .before .before .before .before .before .deliver-all2 .ensures .1)
-    (c .before .before .before .before .next-round .ensures) (c .before .before .write .ensures) (λ i. c .slice-known4 .given i .fits)
+    (c .before .before .before .before .before .before .before .before .before .before .before .before .before .before .before .before .before .before .before .before .judge .ensures) (c .before .before .before .before .before .before .before .before .before .before .before .before .before .before .before .before .before .before .enum-told2 .given .1) (c .before .before .before .before .before .before .before .before .before .before .before .before .count .ensures) (c .before .before .before .before .before .before .before .before .before .before .before .before .before .before .before .before .due .ensures) (c .before .before .before .before .before .before .before .before .before .before .before .before .before .before .due2 .ensures)
+    (c .before .before .before .before .before .before .before .before .before .before .deliver-all .ensures .0) (c .before .before .before .before .before .before .before .before .before .before .deliver-all .ensures .1) (c .before .before .before .before .before .before .deliver-all2 .ensures .0) (c .before .before .before .before .before .before .deliver-all2 .ensures .1)
+    (c .before .before .next-round .ensures) (λ i. c .slice-known4 .given i .fits)
 
 pub round-end-spec : {M : Type 1} → statement M
 round-end-spec =
@@ -129,14 +129,13 @@ round-end-spec =
     same-length
     returns
     enum-told-2
-    read-requires
     due-requires
     due-requires-2
+    count-requires
     cast-recorded
     deliver-all-requires
     deliver-all-requires-2
     cast-next-round
     next-round-requires
-    write-requires
     same-length-2
     returns-2)

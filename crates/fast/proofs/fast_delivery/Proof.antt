@@ -13,7 +13,10 @@ use Rattle.fast.proofs.fast_delivery.Statement.{statement}
 use Rattle.fast.proofs.fast_delivery.Tie as tie
 
 judge-requires : tie.Need-judge-requires
-judge-requires c κs = search needs
+judge-requires c κs =
+    let s = c .before .before .before .before in
+    let few = few-commands (now (s .args .book)) in
+    (s .pre .0, s .pre .1, omega (arith, s .pre .3, s .pre .4))
 
 enum-told : tie.Need-enum-told
 enum-told c = search needs

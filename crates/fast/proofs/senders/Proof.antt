@@ -7,16 +7,17 @@ use borrow.Author.Needs.{needs}
 use denote.Ref.{now}
 use Rattle.theory.specs.Sets.{count}
 use Rattle.theory.specs.Counting.{count-none}
+use Rattle.table.specs.Table.{maxSites}
 use Rattle.layout.specs.Layout.{heardOf}
 use Rattle.fast.proofs.Judging.{sender-more, sender-few}
 use Rattle.fast.proofs.senders.Statement.{statement}
 use Rattle.fast.proofs.senders.Tie as tie
 
 abbrev Inv-loop : tie.InvT-loop
-Inv-loop site sites round m n₀ sender₀ n sender = (sender ≤ sites) × (n ≡ count sender (λ j. heardOf site j round m))
+Inv-loop site round m n₀ sender₀ n sender = (sender ≤ maxSites) × (n ≡ count sender (λ j. heardOf site j round m))
 
 abbrev μ-loop : tie.MeasureT-loop
-μ-loop site sites round m n₀ sender₀ n sender = sites - sender
+μ-loop site round m n₀ sender₀ n sender = maxSites - sender
 
 loop-holds : tie.Need-loop-holds Inv-loop μ-loop
 loop-holds c = (search needs, sym (count-none _))
@@ -24,8 +25,8 @@ loop-holds c = (search needs, sym (count-none _))
 heard-requires : tie.Need-heard-requires Inv-loop μ-loop
 heard-requires c κs = search needs
 
-has-requires : tie.Need-has-requires Inv-loop μ-loop
-has-requires c κs = search needs
+holds-requires : tie.Need-holds-requires Inv-loop μ-loop
+holds-requires c κs = search needs
 
 one-requires : tie.Need-one-requires Inv-loop μ-loop
 one-requires c κs = search needs
@@ -44,14 +45,14 @@ loop-again c =
     let l = c .before .before .before .before .loop in
     let a = c .before .before .before .before .before .before .args in (
       omega arith,
-      sender-more (now (a .site)) (a .round) (a .m) (l .sender) (omega arith) (omega arith) (omega arith) (l .inv .1) (c .before .before .heard .ensures) (c .before .has .ensures) (c .one .ensures .0),
+      sender-more (now (a .site)) (a .round) (a .m) (l .sender) (omega arith) (omega arith) (omega arith) (l .inv .1) (c .before .before .heard .ensures) (c .before .holds .ensures) (c .one .ensures .0),
     )
 
 returns : tie.Need-returns Inv-loop μ-loop
 returns c =
     let l = c .before .loop in
     let a = c .before .before .before .args in
-    let e : l .sender ≡ a .sites = omega arith in
+    let e : l .sender ≡ maxSites = omega arith in
     l .inv .1 ∙ ap (λ (n : ℕ). count n (λ j. heardOf (now (a .site)) j (a .round) (a .m))) e
 
 pub senders-spec : {M : Type 1} → statement M
@@ -62,7 +63,7 @@ senders-spec =
     μ-loop
     loop-holds
     heard-requires
-    has-requires
+    holds-requires
     one-requires
     add-n
     add-sender

@@ -1,29 +1,32 @@
 -- `print::put_decimal`: as many digits as the number has.
 -- Assumes nothing.
 use borrow.Author.Needs.{needs}
+use denote.Ref.{now}
+use Prim.Native.Nat.{_/_, _≤_}
 use native.Mathlib.Omega.{arith}
 use mathlib.Core.Path.{sym}
-use Rattle.print.proofs.Laws.{width-one, width-between, length-decimal, wrote-decimal}
+use lib.ListN.{length}
+use Rattle.print.proofs.Laws.{width-one, width-between, length-digits, length-decimal, wrote-decimal, wrote-parted}
 use Rattle.print.proofs.put_decimal.Statement.{statement}
 use Rattle.print.proofs.put_decimal.Tie as tie
 
 put-digits-requires : tie.Need-put-digits-requires
-put-digits-requires c κs = omega (arith, length-decimal (c .before .before .before .args .x), width-one (c .before .before .before .args .x) (omega arith))
+put-digits-requires c κs = omega (arith, length-decimal (c .before .before .before .before .args .x), width-one (c .before .before .before .before .args .x) (omega arith))
 
 same-length : tie.Need-same-length
 same-length c = search needs
 
 returns : tie.Need-returns
-returns c = wrote-decimal _ (sym (width-one (c .before .before .before .before .before .before .args .x) (omega arith))) (c .before .before .put-digits .ensures)
+returns c = wrote-decimal _ (sym (width-one (c .before .before .before .before .before .before .before .args .x) (omega arith))) (c .before .before .put-digits .ensures)
 
 put-digits-requires-2 : tie.Need-put-digits-requires-2
-put-digits-requires-2 c κs = omega (arith, length-decimal (c .before .before .before .before .args .x), width-between 1 (c .before .before .before .before .args .x) (omega arith) (omega arith))
+put-digits-requires-2 c κs = omega (arith, length-decimal (c .before .before .before .before .before .args .x), width-between 1 (c .before .before .before .before .before .args .x) (omega arith) (omega arith))
 
 same-length-2 : tie.Need-same-length-2
 same-length-2 c = search needs
 
 returns-2 : tie.Need-returns-2
-returns-2 c = wrote-decimal _ (sym (width-between 1 (c .before .before .before .before .before .before .before .args .x) (omega arith) (omega arith))) (c .before .before .put-digits2 .ensures)
+returns-2 c = wrote-decimal _ (sym (width-between 1 (c .before .before .before .before .before .before .before .before .args .x) (omega arith) (omega arith))) (c .before .before .put-digits2 .ensures)
 
 put-digits-requires-3 : tie.Need-put-digits-requires-3
 put-digits-requires-3 c κs = omega (arith, length-decimal (c .before .before .before .before .before .args .x), width-between 2 (c .before .before .before .before .before .args .x) (omega arith) (omega arith))
@@ -35,34 +38,48 @@ returns-3 : tie.Need-returns-3
 returns-3 c = wrote-decimal _ (sym (width-between 2 (c .before .before .before .before .before .before .before .before .args .x) (omega arith) (omega arith))) (c .before .before .put-digits3 .ensures)
 
 put-digits-requires-4 : tie.Need-put-digits-requires-4
-put-digits-requires-4 c κs = omega (arith, length-decimal (c .before .before .before .before .before .before .args .x), width-between 3 (c .before .before .before .before .before .before .args .x) (omega arith) (omega arith))
+put-digits-requires-4 c κs = omega (arith, length-decimal (c .before .before .before .before .args .x), width-between 3 (c .before .before .before .before .args .x) (omega arith) (omega arith))
+
+put-digits-requires-5 : tie.Need-put-digits-requires-5
+put-digits-requires-5 c κs = let a = c .before .before .before .before .before .before .before .before .args in omega (arith, length-decimal (a .x), width-between 3 (a .x) (omega arith) (omega arith), c .before .before .before .put-digits4 .ensures .end, length-digits 2 (a .x / 100))
 
 same-length-4 : tie.Need-same-length-4
 same-length-4 c = search needs
 
 returns-4 : tie.Need-returns-4
-returns-4 c = wrote-decimal _ (sym (width-between 3 (c .before .before .before .before .before .before .before .before .before .args .x) (omega arith) (omega arith))) (c .before .before .put-digits4 .ensures)
+returns-4 c =
+    let a = c .before .before .before .before .before .before .before .before .before .before .before .args in
+    let e = width-between 3 (a .x) (omega arith) (omega arith) in
+    let h : a .at ≤ length (now (a .out)) = omega (arith, length-decimal (a .x)) in
+    wrote-decimal (a .x) (sym e) (wrote-parted 2 (a .x) h (c .before .before .before .before .before .before .put-digits4 .ensures) (c .before .before .put-digits5 .ensures))
 
-put-digits-requires-5 : tie.Need-put-digits-requires-5
-put-digits-requires-5 c κs = omega (arith, length-decimal (c .before .before .before .before .before .before .before .args .x), width-between 4 (c .before .before .before .before .before .before .before .args .x) (omega arith) (omega arith))
+put-digits-requires-6 : tie.Need-put-digits-requires-6
+put-digits-requires-6 c κs = omega (arith, length-decimal (c .before .before .before .before .before .args .x), width-between 4 (c .before .before .before .before .before .args .x) (omega arith) (omega arith))
+
+put-digits-requires-7 : tie.Need-put-digits-requires-7
+put-digits-requires-7 c κs = let a = c .before .before .before .before .before .before .before .before .before .args in omega (arith, length-decimal (a .x), width-between 4 (a .x) (omega arith) (omega arith), c .before .before .before .put-digits6 .ensures .end, length-digits 3 (a .x / 100))
 
 same-length-5 : tie.Need-same-length-5
 same-length-5 c = search needs
 
 returns-5 : tie.Need-returns-5
-returns-5 c = wrote-decimal _ (sym (width-between 4 (c .before .before .before .before .before .before .before .before .before .before .args .x) (omega arith) (omega arith))) (c .before .before .put-digits5 .ensures)
+returns-5 c =
+    let a = c .before .before .before .before .before .before .before .before .before .before .before .before .args in
+    let e = width-between 4 (a .x) (omega arith) (omega arith) in
+    let h : a .at ≤ length (now (a .out)) = omega (arith, length-decimal (a .x)) in
+    wrote-decimal (a .x) (sym e) (wrote-parted 3 (a .x) h (c .before .before .before .before .before .before .put-digits6 .ensures) (c .before .before .put-digits7 .ensures))
 
 digit-count-requires : tie.Need-digit-count-requires
 digit-count-requires c κs = search needs
 
-put-digits-requires-6 : tie.Need-put-digits-requires-6
-put-digits-requires-6 c κs = omega (arith, length-decimal (c .before .before .before .before .before .before .before .before .args .x), c .before .digit-count .ensures)
+put-digits-requires-8 : tie.Need-put-digits-requires-8
+put-digits-requires-8 c κs = omega (arith, length-decimal (c .before .before .before .before .before .before .args .x), c .before .digit-count .ensures)
 
 same-length-6 : tie.Need-same-length-6
 same-length-6 c = search needs
 
 returns-6 : tie.Need-returns-6
-returns-6 c = wrote-decimal _ (c .before .before .before .before .digit-count .ensures) (c .before .before .put-digits6 .ensures)
+returns-6 c = wrote-decimal _ (c .before .before .before .before .digit-count .ensures) (c .before .before .put-digits8 .ensures)
 
 pub put-decimal-spec : {M : Type 1} → statement M
 put-decimal-spec =
@@ -78,12 +95,14 @@ put-decimal-spec =
     same-length-3
     returns-3
     put-digits-requires-4
+    put-digits-requires-5
     same-length-4
     returns-4
-    put-digits-requires-5
+    put-digits-requires-6
+    put-digits-requires-7
     same-length-5
     returns-5
     digit-count-requires
-    put-digits-requires-6
+    put-digits-requires-8
     same-length-6
     returns-6)

@@ -62,8 +62,7 @@ returns : tie.Need-returns
 returns c =
     let a = c .before .before .before .before .before .before .before .before .before .args in
     let h : a .at + 4 ≤ length (now (a .s)) = omega arith in
-    let e = read-four (now (a .s)) (a .at) h in
-    omega arith
+    omega (arith, read-four (now (a .s)) (a .at) h)
 
 pub get4-spec : {M : Type 1} → statement M
 get4-spec =

@@ -122,8 +122,7 @@ returns : tie.Need-returns
 returns c =
     let a = c .before .before .before .before .before .before .before .before .before .before .before .before .before .before .before .before .before .args in
     let h : a .at + 8 ≤ length (now (a .s)) = omega arith in
-    let e = read-eight (now (a .s)) (a .at) h in
-    omega arith
+    omega (arith, read-eight (now (a .s)) (a .at) h)
 
 pub get8-spec : {M : Type 1} → statement M
 get8-spec =
