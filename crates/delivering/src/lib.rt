@@ -121,17 +121,7 @@ pub fn round_end(sites: usize, faults: usize, book: &[u8], site: &mut [u8], log:
     ensures { λ r. ⌜ outcome r (now (site .exit)) ≡ roundEndCall sites faults (now (book .entry)) (now (site .entry)) (now (log .entry)) ⌝ }
 {
     let mut places = [0u16; 64];
-    let mut counts = [0u8; entries::CELLS];
-    let judged = judging::note_site_and_log(
-        true,
-        sites,
-        faults,
-        book,
-        &site[..],
-        log,
-        &mut places,
-        &mut counts,
-    );
+    let judged = judging::note_site_and_log(true, sites, faults, book, &site[..], log, &mut places);
     if judged.code != 0 {
         return judged.code;
     }

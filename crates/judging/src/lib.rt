@@ -134,7 +134,7 @@ pub fn judge_site(enough: bool, sites: usize, faults: usize, book: &[u8], site: 
 
 // What a call that is lent a site and the log judges, with the places of the book's commands noted. 0, 9, 2, 1, 3 or 4.
 // The table, where the call is not refused, has the entries counted that the site has read.
-pub fn note_site_and_log(
+pub fn note_and_count(
     enough: bool,
     sites: usize,
     faults: usize,
@@ -182,7 +182,25 @@ pub fn judge_and_count(
         × (r .code ≡ 0 → Counting (now (log .entry)) (headOf (take siteSize (now (site .entry))) .position) (now (counts .exit))) ⌝ }
 {
     let mut places = [0u16; 64];
-    note_site_and_log(enough, sites, faults, book, site, log, &mut places, counts)
+    note_and_count(enough, sites, faults, book, site, log, &mut places, counts)
+}
+
+// The same without the counts.
+pub fn note_site_and_log(
+    enough: bool,
+    sites: usize,
+    faults: usize,
+    book: &[u8],
+    site: &[u8],
+    log: &[u8],
+    places: &mut [u16],
+) -> Judgement
+    requires { ⌜ maxCommands ≤ length (now places) ⌝ }
+    ensures { λ r. ⌜ Judges (verdict (forSiteAndLog sites faults (now (book .entry)) enough (now (site .entry)) (now (log .entry)))) (now (book .entry)) r
+        × (now (places .exit) ≡ placesAfter sites faults (now (book .entry)) (enough && leb siteSize (length (now (site .entry)))) (now (places .entry))) ⌝ }
+{
+    let mut counts = [0u8; entries::CELLS];
+    note_and_count(enough, sites, faults, book, site, log, places, &mut counts)
 }
 
 // The log position of a site.

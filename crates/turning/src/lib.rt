@@ -133,7 +133,6 @@ pub fn turn(
 {
     let enough = out.len() >= TURN_BYTES;
     let mut places = [0u16; 64];
-    let mut counts = [0u8; entries::CELLS];
     let judged = judging::note_site_and_log(
         enough,
         sites,
@@ -142,7 +141,6 @@ pub fn turn(
         &site[..],
         log,
         &mut places,
-        &mut counts,
     );
     if judged.code != 0 {
         return judged.code;

@@ -181,11 +181,16 @@ fn look(call: &Call, lent: &mut Lent) -> u32 {
 
 impl Engine for Host {
     fn call(&mut self, call: &Call, lent: &mut Lent) -> u32 {
-        let ((book, book_length), (site, length)) = (lend(&mut lent.book), lend(&mut lent.site));
         match *call {
             Call::JudgeTable { mask } => unsafe { header::dash_register_judge_table(lent.sites, lent.faults, mask) },
-            Call::JudgeBook => unsafe { header::dash_register_judge_book(book, book_length) },
-            Call::Fresh => unsafe { header::dash_register_fresh(site, length) },
+            Call::JudgeBook => {
+                let (book, length) = lend(&mut lent.book);
+                unsafe { header::dash_register_judge_book(book, length) }
+            }
+            Call::Fresh => {
+                let (site, length) = lend(&mut lent.site);
+                unsafe { header::dash_register_fresh(site, length) }
+            }
             Call::ReceiveCommand { .. } | Call::ReceiveAcknowledgment { .. } | Call::ReceiveCheck { .. } => {
                 receive(call, lent)
             }

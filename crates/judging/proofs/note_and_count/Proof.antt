@@ -1,4 +1,4 @@
--- `judging::note_site_and_log`: a law for each answer.
+-- `judging::note_and_count`: a law for each answer.
 -- Assumes nothing.
 use mathlib.Core.Path.{sym, subst, _∙_}
 use Prim.Native.Nat.{ℕ}
@@ -12,8 +12,8 @@ use denote.Ref.{now}
 use Rattle.layout.specs.Layout.{siteSize}
 use Rattle.judging.proofs.Laws.{first-length, places-kept, places-noted, first-few, first-sized, log-first, log-refused, log-position, log-entries, log-taken}
 use borrow.Author.Needs.{needs}
-use Rattle.judging.proofs.note_site_and_log.Statement.{statement}
-use Rattle.judging.proofs.note_site_and_log.Tie as tie
+use Rattle.judging.proofs.note_and_count.Statement.{statement}
+use Rattle.judging.proofs.note_and_count.Tie as tie
 
 judge-first-requires : tie.Need-judge-first-requires
 judge-first-requires c κs = search needs
@@ -24,8 +24,7 @@ refused-requires c κs = search needs
 returns : tie.Need-returns
 returns c =
     let a = c .before .before .before .before .before .before .before .before .args in
-    let q = c .before .before .judge-first .ensures in
-    (
+    let q = c .before .before .judge-first .ensures in (
       log-first (a .sites) (a .faults) (now (a .book)) (a .enough) (now (a .site)) q (now (a .log)) (c .refused .ensures) (c .before .if1 .taken),
       places-kept (a .sites) (a .faults) (a .enough && leb siteSize (length (now (a .site)))) (now (a .book)) (now (a .places)) q (c .before .if1 .taken),
       λ e. absurd (c .before .if1 .taken (sym (c .refused .ensures .0) ∙ e)),
@@ -101,8 +100,8 @@ returns-4 c =
     let j = c .before .before .before .before .before .before .before .before .before .before .before .note-lent .ensures in
     (log-taken (a .sites) (a .faults) (now (a .book)) (a .enough) (now (a .site)) q z (now (a .log)) (j .0) (c .before .before .before .before .before .before .before .if2 .left) (c .before .before .before .before .before .position-of .ensures) (c .before .before .before .judge-prefix .ensures .0) (c .if3 .left), j .1 ∙ places-noted (a .sites) (a .faults) (a .enough && leb siteSize (length (now (a .site)))) (now (a .book)) (now (a .places)) q z, λ _. subst (λ (x : ℕ). Counting (now (a .log)) x (c .before .before .before .judge-prefix .last .1 .1 .1 .1 .0)) (c .before .before .before .before .before .position-of .ensures) (c .before .before .before .judge-prefix .ensures .1 (not-false _ (c .if3 .left))))
 
-pub note-site-and-log-spec : {M : Type 1} → statement M
-note-site-and-log-spec =
+pub note-and-count-spec : {M : Type 1} → statement M
+note-and-count-spec =
     tie.close
     (tie.spec
     judge-first-requires
