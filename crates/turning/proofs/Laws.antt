@@ -22,6 +22,7 @@ use Rattle.sets.specs.declared.Set.{Set}
 use Rattle.sets.specs.Sets.{capacity, inSet, setOf, setBytes, withoutOf, withinOf, readSet, writeSet}
 use Rattle.sets.proofs.Laws.{in-without}
 use Rattle.table.specs.declared.SiteTable.{SiteTable}
+use Rattle.table.specs.Table.{maxSites}
 use Rattle.register.specs.declared.Command.{Command}
 use Rattle.commands.specs.Book.{maxCommands, commandsOf, placesOf}
 use Rattle.conflicts.specs.Conflicts.{conflictRows}
@@ -32,7 +33,7 @@ use Rattle.system.specs.Dash.{dash, lastRound}
 use Rattle.calm.specs.Rows.{freeBy}
 use Rattle.calm.proofs.Same.{free-rows}
 use Rattle.entries.specs.declared.Entry.{Entry}
-use Rattle.entries.specs.Entries.{entrySize, entryBytes, writeEntry, logTo, logOf}
+use Rattle.entries.specs.Entries.{entrySize, entryBytes, writeEntry, logTo, logOf, Counting}
 use Rattle.entries.proofs.Bytes.{length-entry}
 use Rattle.layout.specs.declared.Proposal.{Proposal}
 use Rattle.layout.specs.Layout.{siteSize, receivedPlace, deliveredPlace, headOf, view}
@@ -173,6 +174,15 @@ module _ (n f : ℕ) (book site log : List ℕ) (own : ℕ) (o : List ℕ) {k : 
 
     pub turn-received : withinOf (headOf (take siteSize site) .received) (length (commandsOf book)) ≡ true
     turn-received = judged .good .head .received
+
+    -- The counts are of the entries that the site has read.
+    pub turn-counts : own < n → {position round : ℕ} → position ≡ headOf (take siteSize site) .position → round ≡ headOf (take siteSize site) .round → {counts : List ℕ}
+        → Counting log (headOf (take siteSize site) .position) counts → Counting log position counts × (own < maxSites) × (1 ≤ round) × (position ≤ length log / entrySize)
+    turn-counts l ep er {counts} h =
+        let few = judged .few in
+        let first = judged .good .head .first in
+        let there = log-judged n f book (leb turnSize (length o)) site log q z .2 .position in
+        (subst (λ (x : ℕ). Counting log x counts) (sym ep) h, omega arith, omega arith, omega arith)
 
     pub turn-noted : (places : List ℕ) {after : List ℕ} → maxCommands ≤ length places
         → after ≡ placesAfter n f book (leb turnSize (length o) && leb siteSize (length site)) places → take (length (commandsOf book)) after ≡ placesOf book

@@ -1,17 +1,18 @@
 // The call of a turn: the site acknowledges what it received, or proposes where that has a conflict, and what it sends is written.
 ghost use mathlib.Core.Bool.{true, not, _&&_};
 ghost use mathlib.Core.Path.{_≡_};
-ghost use Prim.Native.Nat.{_≤_, _<_};
+ghost use Prim.Native.Nat.{_/_, _≤_, _<_};
 ghost use lib.Dec.{leb};
 ghost use lib.ListN.{length, take};
 ghost use Rattle.wire.specs.Wire.{splice};
 ghost use Rattle.sets.specs.Sets.{withinOf};
 ghost use Rattle.table.specs.declared.SiteTable.{SiteTable};
+ghost use Rattle.table.specs.Table.{maxSites};
 ghost use Rattle.commands.specs.Book.{commandsOf, placesOf};
 ghost use Rattle.protocol.specs.Recovery as recovery;
 ghost use Rattle.protocol.specs.Site as protocol;
 ghost use Rattle.system.specs.Dash.{dash};
-ghost use Rattle.entries.specs.Entries.{logOf};
+ghost use Rattle.entries.specs.Entries.{entrySize, logTo, logOf, Counting};
 ghost use Rattle.layout.specs.Layout.{siteSize, headOf, view};
 ghost use Rattle.judging.specs.Outcomes.{outcome};
 ghost use Rattle.turning.specs.Turning.{turnSize, buffers, acknowledgmentBytes, proposalBytes, entryOf, sent, turnCall};
@@ -56,14 +57,35 @@ fn round_of(site: &[u8]) -> usize
     round as usize
 }
 
+// How many entries of its round a site has in the log: those that it has read are counted, the others are looked at. The log takes no round past 32.
+fn own_entries(log: &[u8], own: usize, round: usize, position: usize, counts: &[u8]) -> usize
+    requires { ⌜ Counting (now log) position (now counts) × (own < maxSites) × (1 ≤ round) × (position ≤ length (now log) / entrySize) ⌝ }
+    ensures { λ r. ⌜ r ≡ recovery.entries own round (logTo (now (log .entry)) (length (now (log .entry)) / entrySize)) ⌝ }
+{
+    let n = log.len() / Entry::BYTES;
+    if round > Entry::ROUNDS {
+        return entries::entries_of(log, n, own, round);
+    }
+    let read = entries::counted(counts, own, round);
+    entries::entries_since(log, position, read, n, own, round)
+}
+
 // Whether a site that proposes has two entries of its round in the log. They are not looked for where it acknowledges.
-fn is_third(free: bool, log: &[u8], own: usize, round: usize) -> bool
+fn is_third(
+    free: bool,
+    log: &[u8],
+    own: usize,
+    round: usize,
+    position: usize,
+    counts: &[u8],
+) -> bool
+    requires { ⌜ Counting (now log) position (now counts) × (own < maxSites) × (1 ≤ round) × (position ≤ length (now log) / entrySize) ⌝ }
     ensures { λ r. ⌜ r ≡ (not free && leb 2 (recovery.entries own round (logOf (now (log .entry))))) ⌝ }
 {
     if free {
         return false;
     }
-    entries::entries_of(log, log.len() / Entry::BYTES, own, round) >= 2
+    own_entries(log, own, round, position, counts) >= 2
 }
 
 // An acknowledgment is written.
@@ -133,7 +155,8 @@ pub fn turn(
 {
     let enough = out.len() >= TURN_BYTES;
     let mut places = [0u16; 64];
-    let judged = judging::note_site_and_log(
+    let mut counts = [0u8; entries::CELLS];
+    let judged = judging::note_and_count(
         enough,
         sites,
         faults,
@@ -141,6 +164,7 @@ pub fn turn(
         &site[..],
         log,
         &mut places,
+        &mut counts,
     );
     if judged.code != 0 {
         return judged.code;
@@ -153,7 +177,8 @@ pub fn turn(
     }
     let free = is_calm(book, &places, &site[..Site::SIZE]);
     let round = round_of(&site[..Site::SIZE]);
-    let third = is_third(free, log, own, round);
+    let position = judging::position_of(&site[..Site::SIZE]);
+    let third = is_third(free, log, own, round, position, &counts);
     let answer = site::take_turn(&mut site[..Site::SIZE], free, third);
     send(out, own, round, answer)
 }

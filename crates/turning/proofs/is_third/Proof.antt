@@ -9,11 +9,11 @@ use Rattle.turning.proofs.is_third.Tie as tie
 returns : tie.Need-returns
 returns c = search needs
 
-entries-of-requires : tie.Need-entries-of-requires
-entries-of-requires c κs = search needs
+own-entries-requires : tie.Need-own-entries-requires
+own-entries-requires c κs = search needs
 
 returns-2 : tie.Need-returns-2
-returns-2 c = let a = c .before .before .before .args in third-told (now (a .log)) (a .own) (a .round) (c .before .if1 .left) (c .entries-of .ensures)
+returns-2 c = let a = c .before .before .before .before .args in third-told (now (a .log)) (a .own) (a .round) (c .before .if1 .left) (c .own-entries .ensures)
 
 pub is-third-spec : {M : Type 1} → statement M
-is-third-spec = tie.close (tie.spec returns entries-of-requires returns-2)
+is-third-spec = tie.close (tie.spec returns own-entries-requires returns-2)
