@@ -16,23 +16,6 @@ use Rattle.commands.specs.Book.{sizeOf, readCommand, commandsOf, command
 use Rattle.commands.proofs.Laws.{Front, front}
 use Rattle.commands.proofs.Walk.{rest, rest-all, next, Took}
 
-pub index-all : (s p : List ℕ) → sets p 0 (placesFrom 0 (rest s 0 0)) ≡ sets p 0 (placesOf s)
-unfolding placesOf
-index-all s p = ap (λ (cs : List Command). sets p 0 (placesFrom 0 cs)) (rest-all s)
-
-pub index-more : (s p : List ℕ) (k at : ℕ) {c : Command} {z : ℕ} → Took s k at c z → sets (set p k at) (k + 1) (placesFrom (at + z) (rest s (k + 1) (at + z))) ≡ sets p k (placesFrom at (rest s k at))
-index-more s p k at {c} {z} t =
-    ap (λ (n : ℕ). sets (set p k at) n (placesFrom (at + z) (rest s (k + 1) (at + z)))) (add-one k)
-    ∙ ap (λ (n : ℕ). sets (set p k at) (suc k) (placesFrom (at + n) (rest s (k + 1) (at + z)))) (t .size)
-    ∙ ap (λ (cs : List Command). sets p k (placesFrom at cs)) (sym (t .left))
-
-none-of : (cs : List Command) → length cs ≡ 0 → cs ≡ []
-none-of [] h = refl
-none-of (c ∷ cs) h = absurd (omega arith)
-
-pub index-end : (s p : List ℕ) (k at : ℕ) → length (rest s k at) ≡ 0 → sets p k (placesFrom at (rest s k at)) ≡ p
-index-end s p k at h = ap (λ (cs : List Command). sets p k (placesFrom at cs)) (none-of (rest s k at) h)
-
 placed : (k : ℕ) (s : List ℕ) (j at : ℕ) → at ≤ length s → k < length (rest s j at)
     → readCommand (drop (getD (placesFrom at (rest s j at)) k 0) s) ≡ Whole (getD (rest s j at) k (Read 0))
 placed zero s j at g h = let n = next s j at g h in rw (n .left) (n .read)

@@ -88,10 +88,6 @@ module _ (s : List ℕ) (k at : ℕ) where
       ∙ ap (λ (n : ℕ). countFrom k (readUpTo n (drop at s))) (sym q)
       ∙ e
 
-pub read-inside : (s : List ℕ) (at : ℕ) {c : Command} {z : ℕ} → at < length s → readCommand (drop at s) ≡ Whole c → z ≡ sizeOf c → (at + z ≤ length s) × (2 ≤ z)
-read-inside s at {c} h r e =
-    (omega (arith, front (drop at s) r .size, length-drop at s), omega (arith, size-small c))
-
 counted : (o : Option (List Command)) {n : ℕ} → countFrom 0 o ≡ Commands n → (Taken ≡ verdictOf o) × (n ≡ length (orNone o))
 counted none h = absurd (let z : _≡_ {A = ℕ} 0 1 = cc in omega arith)
 counted (some cs) {n} h = (refl, let q : 0 + length cs ≡ n = cc in omega arith)

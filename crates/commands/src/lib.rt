@@ -205,24 +205,6 @@ fn wide(x: u16) -> usize
     x as usize
 }
 
-// The place of each of the n commands is noted.
-pub fn index(book: &[u8], n: usize, places: &mut [u16])
-    requires { ⌜ (n ≡ length (commandsOf (now book))) × (length (commandsOf (now book)) ≤ length (now places)) ⌝ }
-    ensures { λ _. ⌜ now (places .exit) ≡ sets (now (places .entry)) 0 (placesOf (now (book .entry))) ⌝ }
-{
-    let mut at: usize = 0;
-    let mut k: usize = 0;
-    while k < n {
-        let reading = read_command(&book[at..]);
-        let Reading::Whole(command) = reading else {
-            return;
-        };
-        places[k] = at as u16;
-        at += size(command);
-        k += 1;
-    }
-}
-
 // The k-th command, from the noted places. The book is taken, so its bytes are not judged again.
 pub fn indexed(book: &[u8], places: &[u16], k: usize) -> Command
     requires { ⌜ (k < length (commandsOf (now book))) × (take (length (commandsOf (now book))) (now places) ≡ placesOf (now book)) ⌝ }
