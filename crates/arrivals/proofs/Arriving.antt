@@ -3,8 +3,8 @@
 use mathlib.Core.Path.{_≡_, refl, sym, ap, _∙_}
 use mathlib.Core.Bool.{Bool, true, false, _&&_, not}
 use mathlib.Core.List.{List}
-use mathlib.Core.Option.{Option, none, some}
-use Prim.Native.Nat.{ℕ, pred, _*_, _≤_, _<_}
+use mathlib.Core.Option.{some}
+use Prim.Native.Nat.{ℕ, pred, _<_}
 use native.Mathlib.Omega.{arith}
 use lib.Dec.{leb, ltb}
 use lib.ListN.{length, getD}
@@ -13,7 +13,7 @@ use Rattle.refusals.specs.declared.Verdict.{Verdict}
 use Rattle.refusals.specs.declared.Verdict.the-variants.{Taken, Refused}
 use Rattle.refusals.specs.declared.Refusal.the-variants.{Disabled}
 use Rattle.theory.specs.Sets as theory
-use Rattle.theory.specs.Sets.{only, pick}
+use Rattle.theory.specs.Sets.{only}
 use Rattle.theory.specs.Counting.{not-true}
 use Rattle.theory.specs.Lists.{nth}
 use Rattle.sets.specs.declared.Set.{Set}
@@ -22,14 +22,14 @@ use Rattle.table.specs.declared.SiteTable.{SiteTable}
 use Rattle.table.specs.Table.{faultyOf}
 use Rattle.roles.specs.Roles.{isCorrectSite, isFaultySite, refusalOf}
 use Rattle.register.specs.declared.Command.{Command}
-use Rattle.protocol.specs.Site.{Site, receive, hear, isSome}
-use Rattle.protocol.specs.World.{World, Step, command, acknowledgment, check, falseAcknowledgment, falseCheck, orEmpty, put, judge, sentAcknowledgment}
+use Rattle.protocol.specs.Site.{receive, hear, isSome}
+use Rattle.protocol.specs.World.{Step, command, acknowledgment, check, falseAcknowledgment, falseCheck, orEmpty, put, judge}
 use Rattle.system.specs.Dash.{dash}
 use Rattle.site.specs.Steps.{Received, Commanded, Heard}
 use Rattle.sent.specs.declared.Message.{Message}
 use Rattle.sent.specs.declared.Message.the-variants.{Sent, Never}
 use Rattle.sent.specs.Sent.{acksOf, checksOf, said, Read}
-use Rattle.world.specs.World.{GoodWorld, knownTo, worldOf}
+use Rattle.world.specs.World.{knownTo, worldOf}
 use Rattle.world.specs.Parts.{lent, AtSite, Arrived}
 use Rattle.world.proofs.Hold.{refused, one-site}
 use Rattle.arrivals.specs.Messages.{messageVerdict}

@@ -1,6 +1,6 @@
 -- The verdicts on steps 01 to 06, as the code finds them.
 -- Assumes nothing.
-use mathlib.Core.Path.{_≡_, refl, sym, ap, _∙_}
+use mathlib.Core.Path.{_≡_, refl, sym, _∙_}
 use mathlib.Core.Bool.{Bool, true, false, _&&_, not}
 use mathlib.Core.List.{List}
 use Prim.Native.Nat.{ℕ, _≤_, _<_}
@@ -25,7 +25,6 @@ use Rattle.protocol.specs.Site.{isSome}
 use Rattle.protocol.specs.World.{World, command, acknowledgment, check, falseAcknowledgment, falseCheck, falseEntry, judge, sentAcknowledgment}
 use Rattle.system.specs.Dash.{dash, lastRound}
 use Rattle.layout.specs.Layout.{siteRounds}
-use Rattle.entries.specs.declared.Entry.{Entry}
 use Rattle.entries.specs.Entries.{inRangeOf}
 use Rattle.arrivals.specs.Messages.{inRanges, messageVerdict}
 

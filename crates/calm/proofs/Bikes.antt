@@ -17,13 +17,13 @@ use Rattle.sets.specs.Sets.{capacity, inSet, emptyOf, withOf, withoutOf, isEmpt
 use Rattle.sets.proofs.Laws.{in-empty, in-with, in-without, empty-at, within-at}
 use Rattle.register.specs.declared.Command.{Command}
 use Rattle.register.specs.declared.Command.the-variants.{Add, Fit, Read, Trim}
-use Rattle.register.specs.Register.{bikeOf, isAdd, isRead, alike, conflictAt}
+use Rattle.register.specs.Register.{bikeOf, isAdd, isRead, alike}
 use Rattle.commands.specs.declared.Head.{Head}
 use Rattle.commands.specs.Book.{commandsOf, commandOf, headOf}
 use Rattle.conflicts.specs.Conflicts.{anyKind, conflictIn, conflictRows, unopposed}
 use Rattle.conflicts.proofs.Gathering.{bike-below}
 use Rattle.conflicts.proofs.Laws.{and-false, in-book, conflict-in-sym, conflict-in-same}
-use Rattle.calm.specs.Rows.{conflictBy, freeBy}
+use Rattle.calm.specs.Rows.{freeBy}
 use Rattle.calm.proofs.Laws.{less-same, less-other, between-pair, between-of, member-in}
 use Rattle.calm.proofs.Same.{conflict-by-rows}
 

@@ -10,7 +10,7 @@ use lib.ListN.{length, take, drop, getD}
 use borrow.Author.Tests.{lt-ltb}
 use Rattle.refusals.specs.declared.Refusal.{Refusal}
 use Rattle.refusals.specs.declared.Verdict.{Verdict}
-use Rattle.refusals.specs.declared.Verdict.the-variants.{Taken, Refused}
+use Rattle.refusals.specs.declared.Verdict.the-variants.{Refused}
 use Rattle.refusals.specs.declared.Refusal.the-variants.{Range, Role}
 use Rattle.theory.specs.Counting.{not-true}
 use Rattle.sets.specs.declared.Set.{Set}
@@ -27,7 +27,7 @@ use Rattle.protocol.specs.System.{_else_⨾_, verdict, correct}
 use Rattle.protocol.specs.Recovery.{decide}
 use Rattle.protocol.specs.Site as protocol
 use Rattle.protocol.specs.Site.{deliverFast, finish, decision, tallyOr, forFastDelivery, forRoundEnd}
-use Rattle.protocol.specs.World.{fastDelivery, roundEnd, judge, put}
+use Rattle.protocol.specs.World.{fastDelivery, roundEnd}
 use Rattle.system.specs.Dash.{dash}
 use Rattle.layout.specs.Layout.{siteSize, headOf, view}
 use Rattle.layout.specs.Good.{Good}
@@ -41,7 +41,7 @@ use Rattle.recovery.proofs.Within.{sets-within}
 use Rattle.ending.specs.Ending.{Told, RoundEnded}
 use Rattle.ending.proofs.Telling.{told-none, told-decided}
 use Rattle.rounds.specs.Rounds.{keptRounds, Kept}
-use Rattle.world.specs.World.{siteAt, GoodWorld, worldOf}
+use Rattle.world.specs.World.{siteAt, worldOf}
 use Rattle.world.specs.Parts.{lent, AtSite}
 use Rattle.world.proofs.Sites.{lent-part}
 use Rattle.world.proofs.Hold.{seen, refused, carried-site}

@@ -14,8 +14,7 @@ use Rattle.signed.specs.Signed.{signed16}
 use Rattle.register.specs.Register.{bikes, maxReading}
 use Rattle.register.specs.declared.Command.{Command}
 use Rattle.register.specs.declared.Command.the-variants.{Add, Fit, Read, Trim}
-use Rattle.commands.specs.declared.Reading.{Reading}
-use Rattle.commands.specs.declared.Reading.the-variants.{Whole, Bad}
+use Rattle.commands.specs.declared.Reading.the-variants.{Whole}
 use Rattle.commands.specs.Book.{readKind, readCommand, commandsOf, commandOf, placesOf}
 use Rattle.commands.proofs.Laws.{given-true}
 use Rattle.commands.proofs.Walk.{whole-is, not-whole}

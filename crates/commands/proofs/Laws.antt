@@ -3,18 +3,17 @@
 use mathlib.Core.Bool.{Bool, true, false}
 use mathlib.Core.Path.{_≡_, refl, sym, ap, subst, _∙_}
 use mathlib.Core.List.{List, [], _∷_, _++_, append-assoc}
-use Prim.Native.Nat.{ℕ, zero, suc, _+_, _-_, _^_, _≤_, _<_}
+use Prim.Native.Nat.{ℕ, zero, suc, _+_, _-_, _≤_, _<_}
 use native.Mathlib.Omega.{arith}
 use borrow.Author.Tests.{le-leb, lt-leb, leb-true, lt-ltb, le-ltb, ltb-true}
 use lib.Dec.{eqb, leb, ltb}
 use lib.ListN.{length, getD, drop}
 use mir.Syntax.{w16}
-use mir.Val.{SFits}
 use lib.IntN.{ℤ}
 use mir.Facts.{sfits-toZ}
 use Rattle.wire.specs.Wire.{readLe, bytes}
 use Rattle.wire.proofs.Laws.{read-lt, peel}
-use Rattle.signed.specs.Signed.{signed16, word16}
+use Rattle.signed.specs.Signed.{signed16}
 use Rattle.signed.proofs.Laws.{word-signed}
 use Rattle.register.specs.Register.{bikes, maxReading, Valid}
 use Rattle.register.specs.declared.Command.{Command}

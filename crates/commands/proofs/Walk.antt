@@ -3,22 +3,20 @@
 use mathlib.Core.Path.{_≡_, refl, sym, ap, _∙_}
 use mathlib.Core.List.{List, [], _∷_}
 use mathlib.Core.Option.{Option, none, some}
-use Prim.Native.Nat.{ℕ, zero, suc, _+_, _-_, _*_, _≤_, _<_}
+use Prim.Native.Nat.{ℕ, zero, suc, _+_, _-_, _≤_, _<_}
 use native.Mathlib.Decide.{ℕ-discrete}
-use native.Mathlib.Numerals.{add-one}
 use native.Mathlib.Omega.{arith}
-use lib.ListN.{length, getD, take, drop, set, length-drop}
-use lib.Seq.{drop-drop, sets, getD-take}
+use lib.ListN.{length, take, drop, length-drop}
+use lib.Seq.{drop-drop}
 use Rattle.refusals.specs.declared.Verdict.the-variants.{Taken, Refused}
 use Rattle.refusals.specs.declared.Refusal.the-variants.{Book}
 use Rattle.wire.proofs.Laws.{part-all}
-use Rattle.register.specs.Register.{Valid}
 use Rattle.register.specs.declared.Command.{Command}
 use Rattle.register.specs.declared.Command.the-variants.{Add, Fit, Read, Trim}
 use Rattle.commands.specs.declared.Reading.{Reading}
 use Rattle.commands.specs.declared.Reading.the-variants.{Whole, Bad}
 use Rattle.commands.specs.declared.Measured.the-variants.{Commands, Unreadable}
-use Rattle.commands.specs.Book.{maxCommands, sizeOf, readCommand, also, andThen, readUpTo, orNone, commandsOf, commandOf, verdictOf, judgeBook, countFrom, measureBook, placesFrom, placesOf}
+use Rattle.commands.specs.Book.{maxCommands, sizeOf, readCommand, also, andThen, readUpTo, orNone, commandsOf, verdictOf, judgeBook, countFrom, measureBook}
 use Rattle.commands.proofs.Laws.{front}
 
 -- The code reads the front of the part from a position on.

@@ -5,9 +5,9 @@ use mathlib.Core.Bool.{Bool, true, false, cond, not, _&&_}
 use mathlib.Core.List.{List}
 use Prim.Native.Nat.{ℕ, _*_, _/_, _%_, _≤_}
 use native.Mathlib.Omega.{arith}
-use lib.Dec.{eqb, leb}
+use lib.Dec.{leb}
 use lib.ListN.{length, take, length-take}
-use borrow.Author.Tests.{leb-true, eqb-true, eq-eqb, ne-eqb}
+use borrow.Author.Tests.{leb-true, eqb-true}
 use lib.Seq.{sets}
 use Rattle.theory.specs.Sets.{pick}
 use Rattle.theory.specs.Counting.{left, right, not-true, not-false, never}
@@ -27,14 +27,14 @@ use Rattle.commands.proofs.Noting.{note-noted}
 use Rattle.commands.proofs.Walk.{is-counted, not-counted}
 use Rattle.protocol.specs.System.{Demands, granted, _else_⨾_, verdict}
 use Rattle.entries.specs.Entries.{entrySize, goodTo}
-use Rattle.layout.specs.Layout.{siteSize, positionPlace, headOf}
+use Rattle.layout.specs.Layout.{siteSize, headOf}
 use Rattle.layout.specs.Good as layout
 use Rattle.layout.specs.Good.{goodSite}
 use Rattle.lent.proofs.Judged.{site-good}
 use Rattle.judging.specs.Outcomes.{isTaken, _then_}
 use Rattle.judging.specs.declared.Judgement.{Judgement}
 use Rattle.judging.specs.Judging.{anyPosition, entriesIn, isWhole, forTable, forBook, forFirst, forLent, forSite, forSiteAndLog, placesAfter, Judges}
-use Rattle.judging.proofs.Demands.{Met, met, taken-zero, then-taken, then-code}
+use Rattle.judging.proofs.Demands.{met, taken-zero, then-taken, then-code}
 
 -- The first bytes of a buffer that is long enough.
 pub first-length : (n : ℕ) (s : List ℕ) → n ≤ length s → n ≡ length (take n s)

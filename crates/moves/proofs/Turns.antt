@@ -5,7 +5,7 @@ use mathlib.Core.Bool.{Bool, true, false, _&&_, _||_, not}
 use mathlib.Core.List.{List, [], _∷_, _++_}
 use mathlib.Core.Logic.{_⊎_, inl, inr, ⊎-map}
 use mathlib.Core.Option.{some}
-use Prim.Native.Nat.{ℕ, _+_, _*_, _≤_, _<_}
+use Prim.Native.Nat.{ℕ, _+_, _≤_, _<_}
 use native.Mathlib.Omega.{arith}
 use lib.Dec.{eqb, leb, ltb}
 use lib.ListN.{length, getD, length-append}
@@ -47,7 +47,7 @@ use Rattle.site.specs.declared.Turn.the-variants as turns
 use Rattle.site.specs.Steps.{undeliveredOf, TookTurn, Turned, answerTo}
 use Rattle.rounds.specs.Rounds.{Kept}
 use Rattle.entries.specs.declared.Entry.{Entry}
-use Rattle.entries.specs.Entries.{entrySize, logTo, writeEntry, viewEntry, inRangeOf}
+use Rattle.entries.specs.Entries.{logTo, writeEntry, viewEntry, inRangeOf}
 use Rattle.entries.proofs.Bytes.{Fits}
 use Rattle.sent.specs.Sent as sent
 use Rattle.sent.specs.Sent.{maxAcknowledgments, cellOf, acksOf, checksOf, acknowledgedIn, checkedIn, oneMore, checked}

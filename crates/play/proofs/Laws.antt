@@ -25,7 +25,6 @@ use Rattle.steps.specs.Steps.{sizeOf, readStep, stepsOf}
 use Rattle.steps.specs.Meaning.{meaning}
 use Rattle.steps.proofs.Walk.{more-at, bad-at, end-at, inside}
 use Rattle.lines.specs.Lines.{stepLine}
-use Rattle.lines.proofs.Laws.{step-short}
 use Rattle.runs.specs.Run.{report, stepLines, worldAfter}
 use Rattle.world.specs.World.{Buffers, worldOf, HoldsWorld, Outcome, Answered}
 use Rattle.play.specs.Played.{linesRoom, extentOf, CarriedOut, PlayedAll}

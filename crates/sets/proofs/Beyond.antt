@@ -12,7 +12,7 @@ use borrow.Author.Tests.{le-leb, lt-leb}
 use Rattle.theory.specs.Sets.{any}
 use Rattle.theory.specs.Counting.{any-some, both, left, right, never, same-test, lt-or-le}
 use Rattle.sets.specs.declared.Set.{Set}
-use Rattle.sets.specs.Sets.{has, word, inSet, setOf, commonOf, isEmptyOf, withinOf, beyondOf}
+use Rattle.sets.specs.Sets.{has, word, inSet, commonOf, isEmptyOf, withinOf, beyondOf}
 use Rattle.sets.proofs.Laws.{has-shr, has-word, word-lt, set-ext, in-empty, in-setOf, in-common, empty-at, within-at, within-of}
 
 -- ---- the word

@@ -1,6 +1,6 @@
 -- How a step is told by its kind, and what each kind's function asks for.
 -- Assumes nothing.
-use mathlib.Core.Path.{_≡_, refl, sym, ap, subst, _∙_}
+use mathlib.Core.Path.{_≡_, refl, sym, subst}
 use mathlib.Core.Bool.{true, false}
 use mathlib.Core.List.{List, [], _∷_}
 use Prim.Native.Nat.{ℕ, _≤_, _<_}
@@ -22,7 +22,6 @@ use Rattle.steps.specs.declared.Step.{Step}
 use Rattle.steps.specs.declared.Step.the-variants as kinds
 use Rattle.steps.specs.Meaning.{meaning}
 use Rattle.steps.proofs.Step as declared
-use Rattle.world.specs.declared.Stepped.{Stepped}
 use Rattle.protocol.specs.World as protocol
 use Rattle.world.specs.World.{Buffers, GoodWorld, Outcome, Answered}
 use Rattle.world.specs.Parts.{lent, Arrived}

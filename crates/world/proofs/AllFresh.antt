@@ -24,11 +24,10 @@ use Rattle.protocol.specs.World.{start}
 use Rattle.system.specs.Dash.{dash}
 use Rattle.layout.specs.Layout.{siteSize, view}
 use Rattle.layout.specs.Good.{Holds}
-use Rattle.entries.specs.Entries.{logTo}
 use Rattle.entries.proofs.Logs.{log-none}
 use Rattle.sent.specs.Sent as sent
 use Rattle.sent.specs.Sent.{cleared}
-use Rattle.world.specs.World.{Buffers, maxLog, siteAt, knownTo, HoldsWorld}
+use Rattle.world.specs.World.{siteAt, knownTo}
 use Rattle.world.specs.Started.{Started}
 use Rattle.world.proofs.Sites.{site-same, site-other, lent-part, given-back}
 

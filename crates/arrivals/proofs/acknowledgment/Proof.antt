@@ -4,7 +4,7 @@ use borrow.Author.Needs.{needs}
 use denote.Ref.{now}
 use native.Mathlib.Omega.{arith}
 use mathlib.Core.Path.{refl}
-use mathlib.Core.Bool.{_&&_, not}
+use mathlib.Core.Bool.{_&&_}
 use Rattle.table.proofs.Laws.{good-limits}
 use Rattle.roles.proofs.Laws.{sent-by-correct}
 use lib.Dec.{leb}

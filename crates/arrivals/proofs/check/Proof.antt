@@ -3,7 +3,7 @@
 use borrow.Author.Needs.{needs}
 use denote.Ref.{now}
 use native.Mathlib.Omega.{arith}
-use mathlib.Core.Bool.{true, not}
+use mathlib.Core.Bool.{true}
 use Rattle.table.proofs.Laws.{good-limits}
 use Rattle.roles.proofs.Laws.{sent-by-correct}
 use Rattle.arrivals.proofs.Arriving.{check-refused, check-never, checked}

@@ -2,7 +2,6 @@
 -- Assumes nothing.
 use borrow.Author.Needs.{needs}
 use denote.Ref.{now}
-use native.Mathlib.Omega.{arith}
 use Rattle.sets.specs.Sets.{sizeOf}
 use Rattle.calm.proofs.Laws.{looked-less}
 use Rattle.calm.proofs.Bikes.{Looking, looking-none, bike-wide, member, turn-below, turn-found, turn-more, looking-end}

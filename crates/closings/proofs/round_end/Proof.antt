@@ -1,12 +1,10 @@
 -- `closings::round_end`: one law for each answer.
 -- Assumes nothing.
 use borrow.Author.Needs.{needs}
-use native.Mathlib.Omega.{arith}
 use denote.Ref.{now}
 use Rattle.commands.specs.Book.{commandsOf}
 use Rattle.roles.proofs.Laws.{correct-site}
 use mathlib.Core.Path.{ap, _∙_}
-use Prim.Native.Nat.{_<_}
 use Rattle.sets.specs.declared.Set.{Set}
 use Rattle.sets.specs.Sets.{withinOf}
 use Rattle.layout.proofs.Tables.{within-empty}

@@ -1,6 +1,6 @@
 -- `engine::log_read`: a law for each answer.
 -- Assumes nothing.
-use mathlib.Core.Path.{refl, sym}
+use mathlib.Core.Path.{sym}
 use lib.Seq.{length-front}
 use denote.Ref.{now}
 use Rattle.layout.specs.Layout.{siteSize}

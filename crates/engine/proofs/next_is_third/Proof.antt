@@ -3,7 +3,6 @@
 use native.Mathlib.Omega.{arith}
 use denote.Ref.{now}
 use Rattle.engine.proofs.Reading.{third-none, third-some}
-use borrow.Author.Needs.{needs}
 use Rattle.engine.proofs.next_is_third.Statement.{statement}
 use Rattle.engine.proofs.next_is_third.Tie as tie
 

@@ -1,6 +1,5 @@
 -- `entries_of` meets its contract: before the first entry there is none.
 -- Assumes nothing.
-use borrow.Author.Needs.{needs}
 use denote.Ref.{now}
 use native.Mathlib.Omega.{arith}
 use Rattle.entries.proofs.Judging.{entries-none}

@@ -1,8 +1,7 @@
 -- `lent::sender_union`: the invariant is that the sets so far are united.
 -- Rests on Tables.
 use borrow.Author.Needs.{needs}
-use denote.Ref.{now}
-use Prim.Native.Nat.{ℕ, _-_, _*_, _≤_}
+use Prim.Native.Nat.{_-_, _*_, _≤_}
 use mathlib.Core.Path.{_≡_, _∙_, ap}
 use native.Mathlib.Omega.{arith}
 use Rattle.layout.specs.Layout.{siteRounds, heardAt}

@@ -1,10 +1,10 @@
 -- `roles::note`: the invariant is that the sites so far are noted.
 -- Assumes nothing.
 use mathlib.Core.Path.{_≡_, sym, ap, _∙_}
-use Prim.Native.Nat.{ℕ, _+_, _-_, _≤_, _<_}
+use Prim.Native.Nat.{ℕ, _-_, _≤_, _<_}
 use native.Mathlib.Omega.{arith}
 use borrow.Author.Needs.{needs}
-use lib.ListN.{length, length-set, getD, set}
+use lib.ListN.{length-set, getD, set}
 use Rattle.table.proofs.Laws.{good-limits}
 use Rattle.roles.specs.Roles.{roleBytes}
 use Rattle.roles.proofs.Laws.{NotedTo, none-noted, one-noted, all-noted}

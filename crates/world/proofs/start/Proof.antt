@@ -4,7 +4,6 @@ use mathlib.Core.Path.{_≡_, _∙_}
 use Prim.Native.Nat.{_*_, _-_, _+_, _≤_}
 use native.Mathlib.Omega.{arith}
 use borrow.Author.Needs.{needs}
-use denote.Ref.{now}
 use lib.ListN.{length}
 use Rattle.layout.specs.Layout.{siteSize}
 use Rattle.world.proofs.AllFresh.{FreshTo, BlankFrom, fresh-none, fresh-more, blank-all, blank-part, blank-more, started}
