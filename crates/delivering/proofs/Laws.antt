@@ -1,14 +1,14 @@
 -- What the calls that deliver answer: one law an answer.
 -- Assumes nothing.
 use mathlib.Core.Path.{_≡_, refl, sym, ap, subst, _∙_}
-use mathlib.Core.Bool.{Bool, true, false, not}
+use mathlib.Core.Bool.{Bool, true, false, _&&_, not}
 use mathlib.Core.List.{List, _++_}
 use Prim.Native.Nat.{ℕ, _*_, _/_, _≤_, _<_}
 use native.Mathlib.Omega.{arith}
 use lib.Dec.{leb, ltb}
 use lib.ListN.{length, take, drop, getD}
 use borrow.Author.Tests.{lt-ltb, le-ltb}
-use Rattle.theory.specs.Counting.{left, never, not-true, all-at}
+use Rattle.theory.specs.Counting.{left, right, never, not-true, all-at}
 use Rattle.refusals.specs.declared.Refusal.the-variants.{Range, Disabled, Size}
 use Rattle.refusals.specs.declared.Verdict.{Verdict}
 use Rattle.refusals.specs.Refusals.{codeOf}
@@ -24,7 +24,7 @@ use Rattle.protocol.specs.Recovery as recovery
 use Rattle.protocol.specs.Site as protocol
 use Rattle.system.specs.Dash.{dash}
 use Rattle.calm.specs.Rows.{rowsSystem}
-use Rattle.entries.specs.Entries.{entrySize, entryOf, inRangeOf, goodAt, goodTo, logTo, logOf}
+use Rattle.entries.specs.Entries.{entrySize, entryOf, numbersOf, inRangeOf, goodAt, goodTo, logTo, logOf}
 use Rattle.protocol.specs.Recovery.{entries}
 use Rattle.entries.proofs.Logs.{log-of-take}
 use Rattle.recovery.specs.declared.Sets.{Sets}
@@ -94,11 +94,26 @@ module _ (n f : ℕ) (book site : List ℕ) (m : ℕ) {k : ℕ} (q : k ≡ codeO
 pub empty-within : (n : ℕ) → withinOf emptyOf n ≡ true
 empty-within n = within-of emptyOf n (λ m l h. absurd (never (inSet emptyOf m) h (in-empty m)))
 
--- The decision by the rows of the book that were written.
-pub decided-by : (t : SiteTable) (book rows log : List ℕ) {p r : ℕ} (b : List ℕ) {d : Decision} → rows ≡ conflictRows book → p ≡ headOf b .position → r ≡ headOf b .round
+-- The decision of the site's round at the site's position.
+pub decided-by : (t : SiteTable) (rows log : List ℕ) {p r : ℕ} (b : List ℕ) {d : Decision} → p ≡ headOf b .position → r ≡ headOf b .round
     → d ≡ decisionOf (rowsSystem t rows) (recovery.decide (rowsSystem t rows) r (logTo log p))
-    → d ≡ decisionOf (rowsSystem t (conflictRows book)) (recovery.decide (rowsSystem t (conflictRows book)) (headOf b .round) (logTo log (headOf b .position)))
-decided-by t book rows log b e ep er ed = ed ∙ (λ i. decisionOf (rowsSystem t (e i)) (recovery.decide (rowsSystem t (e i)) (er i) (logTo log (ep i))))
+    → d ≡ decisionOf (rowsSystem t rows) (recovery.decide (rowsSystem t rows) (headOf b .round) (logTo log (headOf b .position)))
+decided-by t rows log b ep er ed = ed ∙ (λ i. decisionOf (rowsSystem t rows) (recovery.decide (rowsSystem t rows) (er i) (logTo log (ep i))))
+
+-- The entries of a good log are in range, and their NC sets within the book.
+module _ (t : SiteTable) (book log : List ℕ) {commands : ℕ} (count : length (commandsOf book) ≡ commands) (k : ℕ) (good : goodTo log (t .sites) commands k ≡ true) where
+  good-range : (p : ℕ) → p < k → inRangeOf (t .sites) (length (commandsOf book)) (entryOf log p) ≡ true
+  good-range p l =
+      ap (λ (n : ℕ). inRangeOf (t .sites) n (entryOf log p)) count
+      ∙ left (inRangeOf (t .sites) commands (entryOf log p)) (ltb (entries (entryOf log p .site) (entryOf log p .round) (logTo log p)) 2)
+      (all-at k (goodAt log (t .sites) commands) good p l)
+
+  pub good-nc : (p : ℕ) → p < k → withinOf (entryOf log p .nc) (length (commandsOf book)) ≡ true
+  good-nc p l =
+      let e = entryOf log p in
+      let n = length (commandsOf book) in
+      right (numbersOf (t .sites) (e .site) (e .round)) (withinOf (e .nc) n)
+      (left (numbersOf (t .sites) (e .site) (e .round) && withinOf (e .nc) n) (withinOf (e .c) n) (good-range p l))
 
 module _ (t : SiteTable) (table : isGood t ≡ true) (book log b : List ℕ) {commands : ℕ} (count : length (commandsOf book) ≡ commands)
     (small : (i : ℕ) → getD log i 0 < 256)
@@ -109,10 +124,7 @@ module _ (t : SiteTable) (table : isGood t ≡ true) (book log b : List ℕ) {co
   room = omega arith
 
   logged : (p : ℕ) → p < headOf b .position → inRangeOf (t .sites) (length (commandsOf book)) (entryOf log p) ≡ true
-  logged p l =
-      ap (λ (k : ℕ). inRangeOf (t .sites) k (entryOf log p)) count
-      ∙ left (inRangeOf (t .sites) commands (entryOf log p)) (ltb (entries (entryOf log p .site) (entryOf log p .round) (logTo log p)) 2)
-      (all-at (headOf b .position) (goodAt log (t .sites) commands) before p l)
+  logged = good-range t book log count (headOf b .position) before
 
   read : protocol.decision (dash t (commandsOf book)) (view t (commandsOf book) b) (logOf log) ≡ recovery.decide (dash t (commandsOf book)) (headOf b .round) (logTo log (headOf b .position))
   read = ap (recovery.decide (dash t (commandsOf book)) (headOf b .round)) (log-of-take log (headOf b .position) position)

@@ -1,14 +1,15 @@
 // The calls that deliver at a lent site: a command fast, and the end of a round.
 ghost use mathlib.Core.Path.{_≡_};
 ghost use mathlib.Core.Bool.{true};
-ghost use Prim.Native.Nat.{_*_, _/_, _≤_, _<_};
+ghost use Prim.Native.Nat.{ℕ, _*_, _/_, _≤_, _<_};
 ghost use lib.ListN.{length};
+ghost use Rattle.sets.specs.Sets.{withinOf};
 ghost use Rattle.table.specs.Table.{isGood};
 ghost use Rattle.commands.specs.Book.{commandsOf};
 ghost use Rattle.conflicts.specs.Conflicts.{conflictRows};
 ghost use Rattle.protocol.specs.Recovery as recovery;
 ghost use Rattle.calm.specs.Rows.{rowsSystem};
-ghost use Rattle.entries.specs.Entries.{entrySize, logTo, logOf, goodTo};
+ghost use Rattle.entries.specs.Entries.{entrySize, entryOf, logTo, logOf, goodTo};
 ghost use Rattle.recovery.specs.Decisions.{decisionOf};
 ghost use Rattle.layout.specs.Layout.{siteSize, headOf};
 ghost use Rattle.layout.specs.Good.{Good};
@@ -68,24 +69,16 @@ fn round_of(site: &[u8]) -> usize
 }
 
 // What the entries that a site has read decide of its round.
-fn decide(
-    site: &[u8],
-    table: SiteTable,
-    book: &[u8],
-    places: &[u16],
-    commands: usize,
-    log: &[u8],
-) -> Decision
+fn decide(site: &[u8], table: SiteTable, book: &[u8], places: &[u16], log: &[u8]) -> Decision
     requires { ⌜ (length (now site) ≡ siteSize) × (isGood table ≡ true) × (headOf (now site) .position * entrySize ≤ length (now log))
-        × Noted (now book) (now places) × (length (commandsOf (now book)) ≡ commands) ⌝ }
+        × Noted (now book) (now places)
+        × ((i : ℕ) → i < headOf (now site) .position → withinOf (entryOf (now log) i .nc) (length (commandsOf (now book))) ≡ true) ⌝ }
     ensures { λ r. ⌜ r ≡ decisionOf (rowsSystem table (conflictRows (now (book .entry))))
         (recovery.decide (rowsSystem table (conflictRows (now (book .entry)))) (headOf (now (site .entry)) .round) (logTo (now (log .entry)) (headOf (now (site .entry)) .position))) ⌝ }
 {
-    let mut rows = [0u64; 64];
-    conflicts::conflict_rows(book, places, commands, &mut rows);
     let position = judging::position_of(site);
     let round = round_of(site);
-    recovery::decide(log, position, round, table, &rows)
+    recovery::decide(log, position, round, table, book, places)
 }
 
 // The round ends as the log decides, or the step is refused.
@@ -102,7 +95,7 @@ fn end_round(
         × (goodTo (now log) (table .sites) commands (headOf (now site) .position) ≡ true) ⌝ }
     ensures { λ r. ⌜ Ended table (commandsOf (now (book .entry))) (logOf (now (log .entry))) (now (site .entry)) r (now (site .exit)) ⌝ }
 {
-    let decision = decide(&site[..], table, book, places, commands, log);
+    let decision = decide(&site[..], table, book, places, log);
     match decision {
         Decision::Undecided => {
             let none = Set::empty();

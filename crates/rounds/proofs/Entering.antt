@@ -1,14 +1,16 @@
 -- The round of an entry that is taken in: one law for each answer of the code.
 -- Assumes nothing.
 use mathlib.Core.Path.{_≡_, sym, ap, _∙_, subst}
-use mathlib.Core.Bool.{true, false, not}
+use mathlib.Core.Bool.{Bool, true, false, not}
 use mathlib.Core.List.{List}
 use Prim.Native.Nat.{ℕ, _+_, _-_, _≤_, _<_}
 use native.Mathlib.Omega.{arith}
-use Rattle.sets.specs.Sets.{withOf}
+use Rattle.sets.specs.declared.Set.{Set}
+use Rattle.sets.specs.Sets.{inSet, withOf}
 use Rattle.table.specs.declared.SiteTable.{SiteTable}
 use Rattle.table.specs.Table.{isGood}
 use Rattle.table.proofs.Laws.{good-limits}
+use Rattle.calm.specs.Rows.{freeBy}
 use Rattle.entries.specs.Entries.{entryOf}
 use Rattle.standing.specs.declared.Standing.{Standing}
 use Rattle.standing.specs.Standings.{withEntry}
@@ -48,14 +50,19 @@ module _ (t : SiteTable) (rows log : List ℕ) (k r : ℕ) (x : Round) (good : i
             (decided-stays t rows log k r x hd (omega arith) (c .once) (c .twice) (c .first)),
       )
 
-  module _ (z : x .decided ≡ 0) {s : Standing}
-      (ew : s ≡ withEntry t rows r (k + 1) (entryOf log k) (record { seen = x .once; valid = x .valid; decided = false; entries = k })) where
+  -- A round that waits, with the entry whose NC was tested.
+  module _ (z : x .decided ≡ 0) {nc : Set} (en : nc ≡ entryOf log k .nc) {f : Bool} (ef : f ≡ freeBy rows (inSet nc)) {s : Standing}
+      (ew : (rows : List ℕ) → f ≡ freeBy rows (inSet (entryOf log k .nc))
+      → s ≡ withEntry t rows r (k + 1) (entryOf log k) (record { seen = x .once; valid = x .valid; decided = false; entries = k })) where
+    added : s ≡ withEntry t rows r (k + 1) (entryOf log k) (record { seen = x .once; valid = x .valid; decided = false; entries = k })
+    added = ew rows (ef ∙ ap (λ (y : Set). freeBy rows (inSet y)) en)
+
     -- One that the entry leaves undecided.
     pub entered-waiting : not (s .decided) ≡ true
         → Counts log (k + 1) r (record { once = y .once; twice = y .twice; valid = s .valid; decided = y .decided; nc = y .nc; c = y .c; first = y .first })
         × Decides log (k + 1) r t rows (record { once = y .once; twice = y .twice; valid = s .valid; decided = y .decided; nc = y .nc; c = y .c; first = y .first })
     entered-waiting d =
-        let own = standing-own t rows log k r x hd z er ls ew in
+        let own = standing-own t rows log k r x hd z er ls added in
         let seen : s .seen ≡ y .once = own .1 ∙ ap (withOf (x .once)) (sym es) ∙ ap (λ (w : Round). w .once) (sym ey) in
         let same : _≡_ {A = Round} (record { once = s .seen; twice = y .twice; valid = s .valid; decided = x .decided; nc = x .nc; c = x .c; first = y .first })
         (record { once = y .once; twice = y .twice; valid = s .valid; decided = y .decided; nc = y .nc; c = y .c; first = y .first }) =
@@ -78,7 +85,7 @@ module _ (t : SiteTable) (rows log : List ℕ) (k r : ℕ) (x : Round) (good : i
         → Counts log (k + 1) r (record { once = y .once; twice = y .twice; valid = s .valid; decided = k + 1; nc = found .nc; c = found .c; first = y .first })
         × Decides log (k + 1) r t rows (record { once = y .once; twice = y .twice; valid = s .valid; decided = k + 1; nc = found .nc; c = found .c; first = y .first })
     entered-deciding d {found} ef =
-        let own = standing-own t rows log k r x hd z er ls ew in (
+        let own = standing-own t rows log k r x hd z er ls added in (
           record { once = noted .once; twice = noted .twice; first = noted .first; within = noted .within },
           now-decided t rows log k r x hd good z (own .0) d (own .2) found ef (y .once) (y .twice) (s .valid) (y .first),
         )

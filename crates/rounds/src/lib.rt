@@ -135,7 +135,8 @@ fn round_with(
         decided: false,
         entries: k,
     };
-    let sources = standing::with_entry(waiting, log, k, round, table, rows);
+    let free = calm::is_free(rows, entries::nc_of(log, k));
+    let sources = standing::with_entry(waiting, log, k, round, table, free);
     let valid_after = sources.valid;
     after.valid = valid_after;
     if !sources.decided {

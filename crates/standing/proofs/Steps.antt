@@ -52,12 +52,12 @@ module _ (t : SiteTable) (rows : List ℕ) (r k : ℕ) (e : Entry) (s : Standing
   no-site ex q ey l =
       λ i. pick (sym (eq-eqb (e .round) r (sym ex ∙ q)) i && sym (le-ltb (e .site) (t .sites) (omega arith)) i) (marked t rows k e s) s
 
-  pub entry-marked : {x y z n : ℕ} {nc v w : Set} → x ≡ e .round → x ≡ r → y ≡ e .site → y < t .sites → nc ≡ e .nc
-      → v ≡ validAfter rows y nc s → w ≡ withOf (s .seen) y → z ≡ sizeOf v → n ≡ nChkOf t
+  pub entry-marked : {x y z n : ℕ} {v w : Set} → x ≡ e .round → x ≡ r → y ≡ e .site → y < t .sites
+      → v ≡ validAfter rows y (e .nc) s → w ≡ withOf (s .seen) y → z ≡ sizeOf v → n ≡ nChkOf t
       → _≡_ {A = Standing} (record { seen = w; valid = v; decided = eqb z n; entries = k }) (withEntry t rows r k e s)
   unfolding withEntry
-  entry-marked ex q ey l en ev ew ez ec =
-      let v′ = ev ∙ (λ i. validAfter rows (ey i) (en i) s) in
+  entry-marked ex q ey l ev ew ez ec =
+      let v′ = ev ∙ (λ i. validAfter rows (ey i) (e .nc) s) in
       (λ i. record {
         seen = (ew ∙ ap (withOf (s .seen)) ey) i;
         valid = v′ i;
@@ -83,13 +83,27 @@ module _ (t : SiteTable) (rows : List ℕ) (r : ℕ) (b : List ℕ) where
       → (s ≡ standingOf t rows r b n) × (s .decided ≡ false)
   standing-before n h es = (es ∙ nobody-before n h, ap (λ (x : Standing). x .decided) es)
 
-  pub standing-added : (i : ℕ) (s : Standing) {s′ : Standing} → s ≡ standingOf t rows r b i → s .decided ≡ false
+  standing-added : (i : ℕ) (s : Standing) {s′ : Standing} → s ≡ standingOf t rows r b i → s .decided ≡ false
       → s′ ≡ withEntry t rows r (i + 1) (entryOf b i) s → s′ ≡ standingOf t rows r b (i + 1)
   unfolding standingOf
   standing-added i s es d en =
       en ∙ ap (λ (x : Bool). pick x s (withEntry t rows r (i + 1) (entryOf b i) s)) (sym d)
       ∙ (λ j. pick (es j .decided) (es j) (withEntry t rows r (add-one i j) (entryOf b i) (es j)))
       ∙ ap (standingOf t rows r b) (sym (add-one i))
+
+  -- With one entry more: one of the round whose NC was tested, which may decide the round or leave it, and one of another round.
+  module _ (i : ℕ) (s : Standing) (es : s ≡ standingOf t rows r b i) (d : s .decided ≡ false) where
+    module _ {nc : Set} (en : nc ≡ entryOf b i .nc) {f : Bool} (ef : f ≡ freeBy rows (inSet nc)) {s′ : Standing}
+        (ew : (rows : List ℕ) → f ≡ freeBy rows (inSet (entryOf b i .nc)) → s′ ≡ withEntry t rows r (i + 1) (entryOf b i) s) where
+      pub standing-told : s′ ≡ standingOf t rows r b (i + 1)
+      standing-told = standing-added i s es d (ew rows (ef ∙ ap (λ (x : Set). freeBy rows (inSet x)) en))
+
+      pub standing-counted : s′ .decided ≡ false → {s″ : Standing} → s″ ≡ s′ → (s″ ≡ standingOf t rows r b (i + 1)) × (s″ .decided ≡ false)
+      standing-counted w q = (q ∙ standing-told, ap (λ (x : Standing). x .decided) q ∙ w)
+
+    pub standing-passed : {x : ℕ} → x ≡ entryOf b i .round → (x ≡ r → ⊥) → {s′ : Standing} → s′ ≡ s → (s′ ≡ standingOf t rows r b (i + 1)) × (s′ .decided ≡ false)
+    standing-passed ex n q =
+        (q ∙ standing-added i s es d (other-round t rows r (i + 1) (entryOf b i) s ex n), ap (λ (x : Standing). x .decided) q ∙ d)
 
   pub standing-stays : (i k : ℕ) → i ≤ k → (s : Standing) → s ≡ standingOf t rows r b i → s .decided ≡ true → s ≡ standingOf t rows r b k
   unfolding standingOf

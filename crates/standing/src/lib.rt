@@ -1,10 +1,15 @@
 // The standing of the sources in a round, entry by entry, up to the entry that decides the round.
 ghost use mathlib.Core.Bool.{true};
+ghost use mathlib.Core.List.{List};
 ghost use mathlib.Core.Path.{_≡_};
 ghost use Prim.Native.Nat.{ℕ, _+_, _*_, _≤_, _<_};
-ghost use lib.ListN.{length};
-ghost use Rattle.sets.specs.Sets.{capacity};
+ghost use lib.ListN.{length, take};
+ghost use Rattle.sets.specs.declared.Set.{Set};
+ghost use Rattle.sets.specs.Sets.{capacity, inSet, withinOf};
 ghost use Rattle.table.specs.Table.{isGood};
+ghost use Rattle.commands.specs.Book.{commandsOf, placesOf};
+ghost use Rattle.conflicts.specs.Conflicts.{conflictRows};
+ghost use Rattle.calm.specs.Rows.{freeBy};
 ghost use Rattle.entries.specs.Entries.{entrySize, entryOf};
 ghost use Rattle.standing.specs.Standings.{nobodyYet, validAfter, withEntry, standingOf};
 use sets::Set;
@@ -19,11 +24,11 @@ pub struct Standing {
     pub entries: usize,
 }
 
-// The valid sources with one entry more: a source's first is valid if no two commands of its NC conflict, a second
-// excludes the source.
-fn valid_after(before: Standing, rows: &[u64], site: usize, nc: Set) -> Set
-    requires { ⌜ (site < capacity) × (length (now rows) ≡ capacity) ⌝ }
-    ensures { λ r. ⌜ r ≡ validAfter (now (rows .entry)) site nc before ⌝ }
+// The valid sources with one entry more: a source's first is valid if its NC is free of conflicts, a second excludes
+// the source.
+fn valid_after(before: Standing, free: bool, site: usize) -> Set
+    requires { ⌜ site < capacity ⌝ }
+    ensures { λ r. ⌜ ((rows : List ℕ) (nc : Set) → free ≡ freeBy rows (inSet nc) → r ≡ validAfter rows site nc before) ⌝ }
 {
     let seen = before.seen;
     let valid = before.valid;
@@ -31,7 +36,7 @@ fn valid_after(before: Standing, rows: &[u64], site: usize, nc: Set) -> Set
         let source = Set::empty().with(site);
         return valid.without(source);
     }
-    if !calm::is_free(rows, nc) {
+    if !free {
         return valid;
     }
     valid.with(site)
@@ -50,17 +55,19 @@ fn nobody_yet() -> Standing
     }
 }
 
-// The standing with the k-th entry added. An entry of another round, or of a site beyond the table, changes nothing.
+// The standing with the k-th entry added, of which is told whether its NC is free of conflicts. An entry of another
+// round, or of a site beyond the table, changes nothing.
 pub fn with_entry(
     before: Standing,
     log: &[u8],
     k: usize,
     round: usize,
     table: SiteTable,
-    rows: &[u64],
+    free: bool,
 ) -> Standing
-    requires { ⌜ (isGood table ≡ true) × (k * entrySize + entrySize ≤ length (now log)) × (length (now rows) ≡ capacity) ⌝ }
-    ensures { λ r. ⌜ r ≡ withEntry table (now (rows .entry)) round (k + 1) (entryOf (now (log .entry)) k) before ⌝ }
+    requires { ⌜ (isGood table ≡ true) × (k * entrySize + entrySize ≤ length (now log)) ⌝ }
+    ensures { λ r. ⌜ ((rows : List ℕ) → free ≡ freeBy rows (inSet (entryOf (now (log .entry)) k .nc))
+        → r ≡ withEntry table rows round (k + 1) (entryOf (now (log .entry)) k) before) ⌝ }
 {
     if entries::round_of(log, k) != round {
         return before;
@@ -69,8 +76,7 @@ pub fn with_entry(
     if site >= table.sites {
         return before;
     }
-    let nc = entries::nc_of(log, k);
-    let valid = valid_after(before, rows, site, nc);
+    let valid = valid_after(before, free, site);
     let seen = before.seen;
     let seen_after = seen.with(site);
     let size = valid.size();
@@ -85,24 +91,31 @@ pub fn with_entry(
 }
 
 // The standing after k entries, of which none before `from` is of the round: entry by entry, until the round is decided.
+// Only of the round's entries it is asked whether their NC is free of conflicts.
 pub fn standing_after(
     log: &[u8],
     from: usize,
     k: usize,
     round: usize,
     table: SiteTable,
-    rows: &[u64],
+    book: &[u8],
+    places: &[u16],
 ) -> Standing
-    requires { ⌜ (isGood table ≡ true) × (k * entrySize ≤ length (now log)) × (length (now rows) ≡ capacity)
+    requires { ⌜ (isGood table ≡ true) × (k * entrySize ≤ length (now log))
+        × (take (length (commandsOf (now book))) (now places) ≡ placesOf (now book))
+        × ((i : ℕ) → i < k → withinOf (entryOf (now log) i .nc) (length (commandsOf (now book))) ≡ true)
         × (from ≤ k) × ((i : ℕ) → i < from → entryOf (now log) i .round ≡ round → ⊥) ⌝ }
-    ensures { λ r. ⌜ r ≡ standingOf table (now (rows .entry)) round (now (log .entry)) k ⌝ }
+    ensures { λ r. ⌜ r ≡ standingOf table (conflictRows (now (book .entry))) round (now (log .entry)) k ⌝ }
 {
     let mut sources = nobody_yet();
     let mut i: usize = from;
     while i < k {
-        sources = with_entry(sources, log, i, round, table, rows);
-        if sources.decided {
-            return sources;
+        if entries::round_of(log, i) == round {
+            let free = calm::is_free_in(book, places, entries::nc_of(log, i));
+            sources = with_entry(sources, log, i, round, table, free);
+            if sources.decided {
+                return sources;
+            }
         }
         i += 1;
     }

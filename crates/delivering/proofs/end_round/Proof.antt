@@ -2,16 +2,19 @@
 -- Assumes nothing.
 use mathlib.Core.Path.{_≡_, sym, subst}
 use mathlib.Core.Bool.{true}
+use native.Mathlib.Omega.{arith}
 use denote.Ref.{now}
 use Rattle.sets.specs.declared.Set.{Set}
 use Rattle.sets.specs.Sets.{withinOf}
-use Rattle.delivering.proofs.Laws.{empty-within, within-sets, ended-undecided, ended-decided}
+use Rattle.delivering.proofs.Laws.{good-nc, empty-within, within-sets, ended-undecided, ended-decided}
 use borrow.Author.Needs.{needs}
 use Rattle.delivering.proofs.end_round.Statement.{statement}
 use Rattle.delivering.proofs.end_round.Tie as tie
 
 decide-requires : tie.Need-decide-requires
-decide-requires c κs = search needs
+decide-requires c κs =
+    let s = c .before .before .before .before .before in
+    (search needs, s .pre .1, omega (arith, s .pre .4), s .pre .2, good-nc (s .args .table) (now (s .args .book)) (now (s .args .log)) (s .pre .3) _ (s .pre .5))
 
 enum-told : tie.Need-enum-told
 enum-told c = search needs

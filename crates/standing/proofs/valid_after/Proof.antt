@@ -1,7 +1,6 @@
 -- `valid_after` meets its contract, one law for each answer.
 -- Assumes nothing.
 use borrow.Author.Needs.{needs}
-use denote.Ref.{now}
 use Rattle.standing.proofs.Steps.{second-entry, first-conflicting, first-valid}
 use Rattle.standing.proofs.valid_after.Statement.{statement}
 use Rattle.standing.proofs.valid_after.Tie as tie
@@ -19,19 +18,22 @@ without-requires : tie.Need-without-requires
 without-requires c κs = search needs
 
 returns : tie.Need-returns
-returns c = second-entry (now (c .before .before .before .before .before .before .before .before .args .rows)) (c .before .before .before .before .before .before .before .before .args .site) (c .before .before .before .before .before .before .before .before .args .nc) (c .before .before .before .before .before .before .before .before .args .before) (c .before .before .before .before .has .ensures) (c .before .before .before .if1 .taken) (c .before .before .empty .ensures) (c .before .with .ensures) (c .without .ensures)
-
-is-free-requires : tie.Need-is-free-requires
-is-free-requires c κs = search needs
+returns c =
+    let a = c .before .before .before .before .before .before .before .args in
+    λ rows nc f. second-entry rows (a .site) nc (a .before) (c .before .before .before .before .has .ensures) (c .before .before .before .if1 .taken) (c .before .before .empty .ensures) (c .before .with .ensures) (c .without .ensures)
 
 returns-2 : tie.Need-returns-2
-returns-2 c = first-conflicting (now (c .before .before .before .before .before .before .before .args .rows)) (c .before .before .before .before .before .before .before .args .site) (c .before .before .before .before .before .before .before .args .nc) (c .before .before .before .before .before .before .before .args .before) (c .before .before .before .has .ensures) (c .before .before .if1 .left) (c .before .is-free .ensures) (c .if2 .taken)
+returns-2 c =
+    let a = c .before .before .before .before .before .args in
+    λ rows nc f. first-conflicting rows (a .site) nc (a .before) (c .before .before .has .ensures) (c .before .if1 .left) f (c .if2 .taken)
 
 with-requires-2 : tie.Need-with-requires-2
 with-requires-2 c κs = search needs
 
 returns-3 : tie.Need-returns-3
-returns-3 c = first-valid (now (c .before .before .before .before .before .before .before .before .args .rows)) (c .before .before .before .before .before .before .before .before .args .site) (c .before .before .before .before .before .before .before .before .args .nc) (c .before .before .before .before .before .before .before .before .args .before) (c .before .before .before .before .has .ensures) (c .before .before .before .if1 .left) (c .before .before .is-free .ensures) (c .before .if2 .left) (c .with2 .ensures)
+returns-3 c =
+    let a = c .before .before .before .before .before .before .args in
+    λ rows nc f. first-valid rows (a .site) nc (a .before) (c .before .before .before .has .ensures) (c .before .before .if1 .left) f (c .before .if2 .left) (c .with2 .ensures)
 
 pub valid-after-spec : {M : Type 1} → statement M
 valid-after-spec =
@@ -42,7 +44,6 @@ valid-after-spec =
     with-requires
     without-requires
     returns
-    is-free-requires
     returns-2
     with-requires-2
     returns-3)

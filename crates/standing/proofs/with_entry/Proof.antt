@@ -14,22 +14,23 @@ round-of-requires : tie.Need-round-of-requires
 round-of-requires c κs = search needs
 
 returns : tie.Need-returns
-returns c = let a = c .before .before .before .before .args in other-round (a .table) (now (a .rows)) (a .round) (a .k + 1) (entryOf (now (a .log)) (a .k)) (a .before) (c .before .round-of .ensures) (c .if1 .taken)
+returns c =
+    let a = c .before .before .before .args in
+    λ rows f. other-round (a .table) rows (a .round) (a .k + 1) (entryOf (now (a .log)) (a .k)) (a .before) (c .before .round-of .ensures) (c .if1 .taken)
 
 site-of-requires : tie.Need-site-of-requires
 site-of-requires c κs = search needs
 
 returns-2 : tie.Need-returns-2
-returns-2 c = let a = c .before .before .before .before .before .before .before .args in no-site (a .table) (now (a .rows)) (a .round) (a .k + 1) (entryOf (now (a .log)) (a .k)) (a .before) (c .before .before .before .before .round-of .ensures) (c .before .before .before .if1 .left) (c .before .before .site-of .ensures) (omega arith)
-
-nc-of-requires : tie.Need-nc-of-requires
-nc-of-requires c κs = search needs
+returns-2 c =
+    let a = c .before .before .before .before .before .before .args in
+    λ rows f. no-site (a .table) rows (a .round) (a .k + 1) (entryOf (now (a .log)) (a .k)) (a .before) (c .before .before .before .before .round-of .ensures) (c .before .before .before .if1 .left) (c .before .before .site-of .ensures) (omega arith)
 
 valid-after-requires : tie.Need-valid-after-requires
-valid-after-requires c κs = (omega (arith, good-limits (c .before .before .before .before .before .before .before .before .args .table) (c .before .before .before .before .before .before .before .before .pre .0)), c .before .before .before .before .before .before .before .before .pre .2)
+valid-after-requires c κs = let s = c .before .before .before .before .before .before in omega (arith, good-limits (s .args .table) (s .pre .0))
 
 with-requires : tie.Need-with-requires
-with-requires c κs = omega (arith, good-limits (c .before .before .before .before .before .before .before .before .before .before .args .table) (c .before .before .before .before .before .before .before .before .before .before .pre .0))
+with-requires c κs = let s = c .before .before .before .before .before .before .before .before in omega (arith, good-limits (s .args .table) (s .pre .0))
 
 size-requires : tie.Need-size-requires
 size-requires c κs = search needs
@@ -41,7 +42,10 @@ add-place : tie.Need-add-place
 add-place c = search needs
 
 returns-3 : tie.Need-returns-3
-returns-3 c = let a = c .before .before .before .before .before .before .before .before .before .before .before .before .before .args in entry-marked (a .table) (now (a .rows)) (a .round) (a .k + 1) (entryOf (now (a .log)) (a .k)) (a .before) (c .before .before .before .before .before .before .before .before .before .before .round-of .ensures) (c .before .before .before .before .before .before .before .before .before .if1 .left) (c .before .before .before .before .before .before .before .before .site-of .ensures) (omega arith) (c .before .before .before .before .before .nc-of .ensures) (c .before .before .before .before .valid-after .ensures) (c .before .before .with .ensures) (c .before .size .ensures) (c .n-chk .ensures)
+returns-3 c =
+    let a = c .before .before .before .before .before .before .before .before .before .before .before .args in
+    λ rows f. entry-marked (a .table) rows (a .round) (a .k + 1) (entryOf (now (a .log)) (a .k)) (a .before) (c .before .before .before .before .before .before .before .before .before .round-of .ensures) (c .before .before .before .before .before .before .before .before .if1 .left) (c .before .before .before .before .before .before .before .site-of .ensures) (omega arith)
+    (c .before .before .before .before .valid-after .ensures rows (entryOf (now (a .log)) (a .k) .nc) f) (c .before .before .with .ensures) (c .before .size .ensures) (c .n-chk .ensures)
 
 pub with-entry-spec : {M : Type 1} → statement M
 with-entry-spec =
@@ -51,7 +55,6 @@ with-entry-spec =
     returns
     site-of-requires
     returns-2
-    nc-of-requires
     valid-after-requires
     with-requires
     size-requires
