@@ -70,9 +70,9 @@ module _ (book : List Command) (few : length book ≤ capacity) (h : Site) (f : 
       ∙ members-ext (length book) (inSet (dueOf h x)) (p ∖ (inSet (h .delivered) ∪ inSet (h .fast)))
       (λ m _. in-without x (unionOf (h .delivered) (h .fast)) m ∙ (λ i. e m i && not (in-union (h .delivered) (h .fast) m i)))
 
-counted : (b : List ℕ) → length (deliveriesOf (readLe 1 b countPlace) b) ≡ headOf b .deliveries
+counted : (b : List ℕ) → length (deliveriesOf (readLe 4 b countPlace) b) ≡ headOf b .deliveries
 unfolding headOf
-counted b = length-deliveries (readLe 1 b countPlace) b
+counted b = length-deliveries (readLe 4 b countPlace) b
 
 module _ (t : SiteTable) (book : List Command) (few : length book ≤ capacity) (b : List ℕ) (small : (i : ℕ) → getD b i 0 < 256) (good : Good (t .sites) (length book) b)
     (decided : Bool) (nc c : Set) (lnc : nc .bits < 2 ^ 64) (lc : c .bits < 2 ^ 64) (wnc : withinOf nc (length book) ≡ true) (wc : withinOf c (length book) ≡ true)

@@ -43,7 +43,7 @@ module _ (t : SiteTable) (book : List Command) (b : List ℕ) (small : (i : ℕ)
   pub fast-taken : {r : Verdict} {n : ℕ} {x y : Set} {b₁ b₂ b₃ : List ℕ} → length book ≤ capacity → m < length book
       → r ≡ verdict (protocol.forFastDelivery (dash t book) m (view t book b)) → r ≡ Taken
       → n ≡ headOf b .deliveries → x ≡ headOf b .fast → Delivered book n (m ∷ []) b b₁ → y ≡ withOf x m
-      → b₂ ≡ writeSet b₁ fastPlace y → b₃ ≡ splice b₂ countPlace (bytes 1 (n + 1)) → ((i : ℕ) → getD b₃ i 0 < 256)
+      → b₂ ≡ writeSet b₁ fastPlace y → b₃ ≡ splice b₂ countPlace (bytes 4 (n + 1)) → ((i : ℕ) → getD b₃ i 0 < 256)
       → Carried t book (verdict (protocol.forFastDelivery (dash t book) m (view t book b))) (protocol.deliverFast (dash t book) m (view t book b)) (view t book b) Taken b₃
   unfolding headOf
   fast-taken {b₁ = b₁} few lm e et en ex d′ ey e₂ e₃ small′ =
@@ -54,7 +54,7 @@ module _ (t : SiteTable) (book : List Command) (b : List ℕ) (small : (i : ℕ)
       let d : Delivered book (k .deliveries) (m ∷ []) b b₁ = subst (λ (n : ℕ). Delivered book n (m ∷ []) b b₁) en d′ in
       taken t book (verdict (protocol.forFastDelivery (dash t book) m (view t book b))) (sym e ∙ et)
       (finish t book b₁ (withFast k (k .deliveries + 1) (withOf (k .fast) m)) (d .size)
-      (e₃ ∙ (λ i. splice ((e₂ ∙ ap (writeSet b₁ fastPlace) (ey ∙ ap (λ (s : Set). withOf s m) ex)) i) countPlace (bytes 1 (en i + 1)))
+      (e₃ ∙ (λ i. splice ((e₂ ∙ ap (writeSet b₁ fastPlace) (ey ∙ ap (λ (s : Set). withOf s m) ex)) i) countPlace (bytes 4 (en i + 1)))
       ∙ fast-written k b₁ (d .header ∙ begins b good small) (k .deliveries + 1) (withOf (k .fast) m)) small′
       (record {
         round = f .round;

@@ -94,25 +94,25 @@ module _ (t : SiteTable) (book : List Command) (b : List ℕ) (m : ℕ) where
   enough = leb (nAckOf t) (count (t .sites) (λ j. heardOf b j (headOf b .round) m))
 
   room : Bool
-  room = leb (length (deliveriesOf (readLe 1 b countPlace) b) + 1) (length book)
+  room = leb (length (deliveriesOf (readLe 4 b countPlace) b) + 1) (length book)
 
   same-verdict : fastVerdict pending fast enough room ≡ verdict (protocol.forFastDelivery (dash t book) m (view t book b))
   unfolding pending fast enough room
   same-verdict = refl
 
-  counted : readLe 1 b countPlace ≡ headOf b .deliveries
+  counted : readLe 4 b countPlace ≡ headOf b .deliveries
   unfolding headOf
   counted = refl
 
-  recorded : length (deliveriesOf (readLe 1 b countPlace) b) ≡ headOf b .deliveries
-  recorded = length-deliveries (readLe 1 b countPlace) b ∙ counted
+  recorded : length (deliveriesOf (readLe 4 b countPlace) b) ≡ headOf b .deliveries
+  recorded = length-deliveries (readLe 4 b countPlace) b ∙ counted
 
   -- The room that a taken delivery has.
   pub taken-room : verdict (protocol.forFastDelivery (dash t book) m (view t book b)) ≡ Taken → headOf b .deliveries + 1 ≤ length book
   unfolding room
   taken-room h =
       let e = recorded in
-      let l = leb-true (length (deliveriesOf (readLe 1 b countPlace) b) + 1) (length book) (has-room pending fast enough room (same-verdict ∙ h)) in
+      let l = leb-true (length (deliveriesOf (readLe 4 b countPlace) b) + 1) (length book) (has-room pending fast enough room (same-verdict ∙ h)) in
       omega arith
 
   -- What the code reads and tests, in its order.

@@ -73,7 +73,7 @@ module _ (sites faults : ℕ) (book : List ℕ) where
   abbrev pub systemOf : System
   systemOf = dash (tableOf sites faults) (commandsOf book)
 
-  -- The site that lent bytes are seen as: their first 3,533 bytes.
+  -- The site that lent bytes are seen as: their first 3,536 bytes.
   abbrev pub siteIn : List ℕ → protocol.Site systemOf
   siteIn site = view (tableOf sites faults) (commandsOf book) (take siteSize site)
 

@@ -30,11 +30,11 @@ join b at n k e =
     ∙ take-append-drop n (drop at b)
 
 -- The header has the number of recorded deliveries.
-pub counted : (b : List ℕ) → readLe 1 b countPlace ≡ headOf b .deliveries
+pub counted : (b : List ℕ) → readLe 4 b countPlace ≡ headOf b .deliveries
 unfolding headOf
 counted b = refl
 
-few : (b : List ℕ) → headOf b .deliveries ≤ capacity → readLe 1 b countPlace ≤ capacity
+few : (b : List ℕ) → headOf b .deliveries ≤ capacity → readLe 4 b countPlace ≤ capacity
 unfolding headOf
 few b h = h
 
@@ -57,7 +57,7 @@ module _ (t : SiteTable) (book : List Command) where
 
   pub encode-view : {sites commands : ℕ} (b : List ℕ) → Good sites commands b → ((i : ℕ) → getD b i 0 < 256) → encode t book (view t book b) ≡ b
   encode-view b g small =
-      let n = readLe 1 b countPlace in
+      let n = readLe 4 b countPlace in
       let size = g .size in
       let room : n ≤ capacity = few b (g .head .room) in
       let count = length-deliveries n b in

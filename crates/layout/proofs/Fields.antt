@@ -154,6 +154,6 @@ module _ (h : Site) where
     unfolding writeSet splice numbersBytes setsBytes bytes
     waiting-written nc c = in-head (λ l. waitsWith l nc c) h (withPhase (Waiting (record { nc = nc; c = c }))) b (λ rest. refl) e
 
-    pub fast-written : (n : ℕ) (x : Set) → splice (writeSet b fastPlace x) countPlace (bytes 1 n) ≡ splice b 0 (headBytes (withFast n x))
+    pub fast-written : (n : ℕ) (x : Set) → splice (writeSet b fastPlace x) countPlace (bytes 4 n) ≡ splice b 0 (headBytes (withFast n x))
     unfolding writeSet splice numbersBytes setsBytes bytes
-    fast-written n x = in-head (λ l. splice (writeSet l fastPlace x) countPlace (bytes 1 n)) h (withFast n x) b (λ rest. refl) e
+    fast-written n x = in-head (λ l. splice (writeSet l fastPlace x) countPlace (bytes 4 n)) h (withFast n x) b (λ rest. refl) e

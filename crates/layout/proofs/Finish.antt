@@ -34,7 +34,7 @@ module _ (b : List ℕ) (h : Site) (size : length b ≡ siteSize) where
   pub head-length : length (splice b 0 (headBytes h)) ≡ siteSize
   head-length = let q = length-head h in length-splice b 0 (headBytes h) (omega arith) ∙ size
 
-  count-back : Fit h → readLe 1 (splice b 0 (headBytes h)) countPlace ≡ h .deliveries
+  count-back : Fit h → readLe 4 (splice b 0 (headBytes h)) countPlace ≡ h .deliveries
   unfolding headOf
   count-back f = λ i. head-back b h f i .deliveries
 

@@ -15,7 +15,7 @@ use Rattle.layout.specs.declared.Proposal.{Proposal}
 use Rattle.layout.specs.declared.Phase.{Phase}
 use Rattle.layout.specs.declared.Phase.the-variants.{Acknowledging, Waiting}
 use Rattle.layout.specs.declared.Site.{Site}
-use Rattle.layout.specs.Layout.{siteSize, phasePlace, ncPlace, cPlace, headOf, phaseFrom, phaseSeen, phaseFor, tagOf, proposalOf, numbersBytes, setsBytes, headBytes}
+use Rattle.layout.specs.Layout.{siteSize, roundPlace, phasePlace, positionPlace, countPlace, receivedPlace, deliveredPlace, pendingPlace, fastPlace, ncPlace, cPlace, heardPlace, headOf, phaseFrom, phaseSeen, phaseFor, tagOf, proposalOf, numbersBytes, setsBytes, headBytes}
 use Rattle.layout.specs.Good.{Fit}
 
 pub phase-waiting : (n : ℕ) (nc c : Set) → (n ≡ 0 → ⊥) → Waiting (record { nc = nc; c = c }) ≡ phaseFrom n nc c
@@ -31,18 +31,18 @@ next s at a b k e h p q =
     q ∙ ap (λ (l : List ℕ). splice l k b) p ∙ ap (λ (m : ℕ). splice (splice s at a) m b) (sym e) ∙ splice-two s at a b h
 
 module _ (b : List ℕ) (h : Site) (size : length b ≡ siteSize) where
-  pub numbers-written : {l₁ l₂ l₃ l₄ : List ℕ} {tag : ℕ} → l₁ ≡ splice b 0 (bytes 1 (h .round)) → tag ≡ tagOf (h .phase) → l₂ ≡ splice l₁ 1 (bytes 1 tag)
-      → l₃ ≡ splice l₂ 2 (bytes 1 (h .deliveries)) → l₄ ≡ splice l₃ 3 (bytes 2 (h .position)) → l₄ ≡ splice b 0 (numbersBytes h)
+  pub numbers-written : {l₁ l₂ l₃ l₄ : List ℕ} {tag : ℕ} → l₁ ≡ splice b 0 (bytes 1 (h .round)) → tag ≡ tagOf (h .phase) → l₂ ≡ splice l₁ phasePlace (bytes 1 tag)
+      → l₃ ≡ splice l₂ positionPlace (bytes 2 (h .position)) → l₄ ≡ splice l₃ countPlace (bytes 4 (h .deliveries)) → l₄ ≡ splice b 0 (numbersBytes h)
   unfolding numbersBytes bytes
   numbers-written {l₁ = l₁} e₁ et e₂ e₃ e₄ =
-      next b 0 ((bytes 1 (h .round) ++ bytes 1 (tagOf (h .phase))) ++ bytes 1 (h .deliveries)) (bytes 2 (h .position)) 3 refl (omega arith)
-      (next b 0 (bytes 1 (h .round) ++ bytes 1 (tagOf (h .phase))) (bytes 1 (h .deliveries)) 2 refl (omega arith)
-      (next b 0 (bytes 1 (h .round)) (bytes 1 (tagOf (h .phase))) 1 refl (omega arith) e₁
-      (e₂ ∙ ap (λ (x : ℕ). splice l₁ 1 (bytes 1 x)) et)) e₃) e₄
+      next b 0 ((bytes 1 (h .round) ++ bytes 1 (tagOf (h .phase))) ++ bytes 2 (h .position)) (bytes 4 (h .deliveries)) countPlace refl (omega arith)
+      (next b 0 (bytes 1 (h .round) ++ bytes 1 (tagOf (h .phase))) (bytes 2 (h .position)) positionPlace refl (omega arith)
+      (next b 0 (bytes 1 (h .round)) (bytes 1 (tagOf (h .phase))) phasePlace refl (omega arith) e₁
+      (e₂ ∙ ap (λ (x : ℕ). splice l₁ phasePlace (bytes 1 x)) et)) e₃) e₄
 
-  pub sets-written : {l₁ l₂ l₃ l₄ l₅ l₆ : List ℕ} {p : Proposal} → p ≡ proposalOf (h .phase) → l₁ ≡ writeSet b 5 (h .received) → l₂ ≡ writeSet l₁ 13 (h .delivered)
-      → l₃ ≡ writeSet l₂ 21 (h .pending) → l₄ ≡ writeSet l₃ 29 (h .fast) → l₅ ≡ writeSet l₄ 37 (p .nc) → l₆ ≡ writeSet l₅ 45 (p .c)
-      → l₆ ≡ splice b 5 (setsBytes h)
+  pub sets-written : {l₁ l₂ l₃ l₄ l₅ l₆ : List ℕ} {p : Proposal} → p ≡ proposalOf (h .phase) → l₁ ≡ writeSet b receivedPlace (h .received) → l₂ ≡ writeSet l₁ deliveredPlace (h .delivered)
+      → l₃ ≡ writeSet l₂ pendingPlace (h .pending) → l₄ ≡ writeSet l₃ fastPlace (h .fast) → l₅ ≡ writeSet l₄ ncPlace (p .nc) → l₆ ≡ writeSet l₅ cPlace (p .c)
+      → l₆ ≡ splice b receivedPlace (setsBytes h)
   unfolding setsBytes writeSet bytes
   sets-written {l₄ = l₄} {l₅ = l₅} ep e₁ e₂ e₃ e₄ e₅ e₆ =
       let r : List ℕ = bytes 8 (h .received .bits) in
@@ -51,18 +51,18 @@ module _ (b : List ℕ) (h : Site) (size : length b ≡ siteSize) where
       let f : List ℕ = bytes 8 (h .fast .bits) in
       let n : List ℕ = bytes 8 (proposalOf (h .phase) .nc .bits) in
       let c : List ℕ = bytes 8 (proposalOf (h .phase) .c .bits) in
-      next b 5 ((((r ++ d) ++ p) ++ f) ++ n) c 45 refl (omega arith)
-      (next b 5 (((r ++ d) ++ p) ++ f) n 37 refl (omega arith)
-      (next b 5 ((r ++ d) ++ p) f 29 refl (omega arith)
-      (next b 5 (r ++ d) p 21 refl (omega arith) (next b 5 r d 13 refl (omega arith) e₁ e₂) e₃) e₄)
-      (e₅ ∙ ap (λ (q : Proposal). splice l₄ 37 (bytes 8 (q .nc .bits))) ep))
-      (e₆ ∙ ap (λ (q : Proposal). splice l₅ 45 (bytes 8 (q .c .bits))) ep)
+      next b receivedPlace ((((r ++ d) ++ p) ++ f) ++ n) c cPlace refl (omega arith)
+      (next b receivedPlace (((r ++ d) ++ p) ++ f) n ncPlace refl (omega arith)
+      (next b receivedPlace ((r ++ d) ++ p) f fastPlace refl (omega arith)
+      (next b receivedPlace (r ++ d) p pendingPlace refl (omega arith) (next b receivedPlace r d deliveredPlace refl (omega arith) e₁ e₂) e₃) e₄)
+      (e₅ ∙ ap (λ (q : Proposal). splice l₄ ncPlace (bytes 8 (q .nc .bits))) ep))
+      (e₆ ∙ ap (λ (q : Proposal). splice l₅ cPlace (bytes 8 (q .c .bits))) ep)
 
-  pub head-written : {l₁ l₂ : List ℕ} → l₁ ≡ splice b 0 (numbersBytes h) → l₂ ≡ splice l₁ 5 (setsBytes h) → l₂ ≡ splice b 0 (headBytes h)
+  pub head-written : {l₁ l₂ : List ℕ} → l₁ ≡ splice b 0 (numbersBytes h) → l₂ ≡ splice l₁ receivedPlace (setsBytes h) → l₂ ≡ splice b 0 (headBytes h)
   unfolding numbersBytes bytes
-  head-written e₁ e₂ = next b 0 (numbersBytes h) (setsBytes h) 5 refl (omega arith) e₁ e₂
+  head-written e₁ e₂ = next b 0 (numbersBytes h) (setsBytes h) receivedPlace refl (omega arith) e₁ e₂
 
-pub length-head : (h : Site) → length (headBytes h) ≡ 53
+pub length-head : (h : Site) → length (headBytes h) ≡ heardPlace
 unfolding numbersBytes setsBytes bytes
 length-head h = refl
 
@@ -83,7 +83,7 @@ head-back b h f =
       round = value-bytes 1 (h .round) (f .round) i;
       phase = phase-back (h .phase) (f .nc) (f .c) i;
       position = value-bytes 2 (h .position) (f .position) i;
-      deliveries = value-bytes 1 (h .deliveries) (f .deliveries) i;
+      deliveries = value-bytes 4 (h .deliveries) (f .deliveries) i;
       received = record { bits = value-bytes 8 (h .received .bits) (f .received) i };
       delivered = record { bits = value-bytes 8 (h .delivered .bits) (f .delivered) i };
       pending = record { bits = value-bytes 8 (h .pending .bits) (f .pending) i };
@@ -101,24 +101,24 @@ module _ (b : List ℕ) (small : (i : ℕ) → getD b i 0 < 256) (size : length 
   unfolding headOf
   fit =
       record {
-        round = read-lt b small 1 0 (omega arith);
-        deliveries = read-lt b small 1 2 (omega arith);
-        position = read-lt b small 2 3 (omega arith);
-        received = set-fits 5 (omega arith);
-        delivered = set-fits 13 (omega arith);
-        pending = set-fits 21 (omega arith);
-        fast = set-fits 29 (omega arith);
+        round = read-lt b small 1 roundPlace (omega arith);
+        deliveries = read-lt b small 4 countPlace (omega arith);
+        position = read-lt b small 2 positionPlace (omega arith);
+        received = set-fits receivedPlace (omega arith);
+        delivered = set-fits deliveredPlace (omega arith);
+        pending = set-fits pendingPlace (omega arith);
+        fast = set-fits fastPlace (omega arith);
         nc = nc (readLe 1 b phasePlace);
         c = c (readLe 1 b phasePlace);
       }
     where
       nc : (n : ℕ) → proposalOf (phaseFrom n (readSet b ncPlace) (readSet b cPlace)) .nc .bits < 2 ^ 64
       nc zero = lit< tt
-      nc (suc n) = set-fits 37 (omega arith)
+      nc (suc n) = set-fits ncPlace (omega arith)
 
       c : (n : ℕ) → proposalOf (phaseFrom n (readSet b ncPlace) (readSet b cPlace)) .c .bits < 2 ^ 64
       c zero = lit< tt
-      c (suc n) = set-fits 45 (omega arith)
+      c (suc n) = set-fits cPlace (omega arith)
 
   tag-same : (n : ℕ) (nc c : Set) → n ≤ 1 → tagOf (phaseFrom n nc c) ≡ n
   tag-same zero nc c h = refl
@@ -134,27 +134,28 @@ module _ (b : List ℕ) (small : (i : ℕ) → getD b i 0 < 256) (size : length 
   c-same (suc n) nc c h = refl
 
   -- The bytes of a header that was read are those that stand there.
-  pub head-bytes : readLe 1 b phasePlace ≤ 1 → (readLe 1 b phasePlace ≡ 0 → (readLe 8 b ncPlace ≡ 0) × (readLe 8 b cPlace ≡ 0)) → headBytes (headOf b) ++ drop 53 b ≡ b
+  pub head-bytes : readLe 1 b phasePlace ≤ 1 → (readLe 1 b phasePlace ≡ 0 → (readLe 8 b ncPlace ≡ 0) × (readLe 8 b cPlace ≡ 0)) → headBytes (headOf b) ++ drop heardPlace b ≡ b
   unfolding headOf numbersBytes setsBytes readSet
   head-bytes tag idle =
-      let et = tag-same (readLe 1 b 1) (readSet b 37) (readSet b 45) tag in
-      let en = nc-same (readLe 1 b 1) (readSet b 37) (readSet b 45) (λ e. idle e .0) in
-      let ec = c-same (readLe 1 b 1) (readSet b 37) (readSet b 45) (λ e. idle e .1) in
+      let et = tag-same (readLe 1 b phasePlace) (readSet b ncPlace) (readSet b cPlace) tag in
+      let en = nc-same (readLe 1 b phasePlace) (readSet b ncPlace) (readSet b cPlace) (λ e. idle e .0) in
+      let ec = c-same (readLe 1 b phasePlace) (readSet b ncPlace) (readSet b cPlace) (λ e. idle e .1) in
       (λ i.
-      ((((bytes 1 (readLe 1 b 0) ++ bytes 1 (et i)) ++ bytes 1 (readLe 1 b 2)) ++ bytes 2 (readLe 2 b 3))
-      ++ (((((bytes 8 (readLe 8 b 5) ++ bytes 8 (readLe 8 b 13)) ++ bytes 8 (readLe 8 b 21)) ++ bytes 8 (readLe 8 b 29)) ++ bytes 8 (en i)) ++ bytes 8 (ec i)))
-      ++ drop 53 b)
+      ((((bytes 1 (readLe 1 b roundPlace) ++ bytes 1 (et i)) ++ bytes 2 (readLe 2 b positionPlace)) ++ bytes 4 (readLe 4 b countPlace))
+      ++ (((((bytes 8 (readLe 8 b receivedPlace) ++ bytes 8 (readLe 8 b deliveredPlace)) ++ bytes 8 (readLe 8 b pendingPlace)) ++ bytes 8 (readLe 8 b fastPlace))
+      ++ bytes 8 (en i)) ++ bytes 8 (ec i)))
+      ++ drop heardPlace b)
       ∙ simp append-assoc (rw (
-        peel b small 8 45 (omega arith),
-        peel b small 8 37 (omega arith),
-        peel b small 8 29 (omega arith),
-        peel b small 8 21 (omega arith),
-        peel b small 8 13 (omega arith),
-        peel b small 8 5 (omega arith),
-        peel b small 2 3 (omega arith),
-        peel b small 1 2 (omega arith),
-        peel b small 1 1 (omega arith),
-        peel b small 1 0 (omega arith),
+        peel b small 8 cPlace (omega arith),
+        peel b small 8 ncPlace (omega arith),
+        peel b small 8 fastPlace (omega arith),
+        peel b small 8 pendingPlace (omega arith),
+        peel b small 8 deliveredPlace (omega arith),
+        peel b small 8 receivedPlace (omega arith),
+        peel b small 4 countPlace (omega arith),
+        peel b small 2 positionPlace (omega arith),
+        peel b small 1 phasePlace (omega arith),
+        peel b small 1 roundPlace (omega arith),
       ) refl)
 
 -- A phase is built from what it is seen as.

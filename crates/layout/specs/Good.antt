@@ -21,7 +21,7 @@ use Rattle.layout.specs.Layout.{siteSize, phasePlace, countPlace, positi
 -- A header that its bytes can hold.
 pub record Fit (h : Site) : Type 0 where
   pub round : h .round < 2 ^ 8
-  pub deliveries : h .deliveries < 2 ^ 8
+  pub deliveries : h .deliveries < 2 ^ 32
   pub position : h .position < 2 ^ 16
   pub received : h .received .bits < 2 ^ 64
   pub delivered : h .delivered .bits < 2 ^ 64
@@ -62,7 +62,7 @@ pub record Good (sites commands : ℕ) (b : List ℕ) : Type 0 where
   -- nothing is proposed while the site acknowledges
   pub idle : readLe 1 b phasePlace ≡ 0 → (readLe setBytes b ncPlace ≡ 0) × (readLe setBytes b cPlace ≡ 0)
   pub head : GoodHead commands (headOf b)
-  pub tables : GoodTables sites commands (readLe 1 b countPlace) b
+  pub tables : GoodTables sites commands (readLe 4 b countPlace) b
 
 -- ---- the same as a test
 
@@ -97,7 +97,7 @@ goodSite sites commands entries b =
     && goodHead commands (headOf b)
     && all heardSets (goodHeard sites commands b)
     && isWithin (registerOf b registerPlace)
-    && all capacity (goodSlot commands (readLe 1 b countPlace) b)
+    && all capacity (goodSlot commands (readLe 4 b countPlace) b)
 
 -- ---- what a step promises
 

@@ -27,50 +27,51 @@ use Rattle.layout.specs.declared.Delivery as declared
 
 -- The bytes of a site.
 abbrev pub siteSize : ℕ
-siteSize = 3533
+siteSize = 3536
 
--- Where each field stands. The round and the number of recorded deliveries take 1 byte, the log position 2, a set 8.
+-- Where each field stands. The round takes 1 byte, the log position 2, the number of recorded deliveries 4, a set 8.
 -- The phase is a tag of 1 byte, 0 acknowledging and 1 waiting, and two sets.
+-- Every number of the header, every set and every number of the register stands at a multiple of its width.
 abbrev pub roundPlace : ℕ
 roundPlace = 0
 
 abbrev pub phasePlace : ℕ
 phasePlace = 1
 
-abbrev pub countPlace : ℕ
-countPlace = 2
-
 abbrev pub positionPlace : ℕ
-positionPlace = 3
+positionPlace = 2
+
+abbrev pub countPlace : ℕ
+countPlace = 4
 
 abbrev pub receivedPlace : ℕ
-receivedPlace = 5
+receivedPlace = 8
 
 abbrev pub deliveredPlace : ℕ
-deliveredPlace = 13
+deliveredPlace = 16
 
 abbrev pub pendingPlace : ℕ
-pendingPlace = 21
+pendingPlace = 24
 
 abbrev pub fastPlace : ℕ
-fastPlace = 29
+fastPlace = 32
 
 abbrev pub ncPlace : ℕ
-ncPlace = 37
+ncPlace = 40
 
 abbrev pub cPlace : ℕ
-cPlace = 45
+cPlace = 48
 
 -- A set for each sender and round, all rounds of a sender together.
 abbrev pub heardPlace : ℕ
-heardPlace = 53
+heardPlace = 56
 
 abbrev pub registerPlace : ℕ
-registerPlace = 2957
+registerPlace = 2960
 
 -- Each recorded delivery: the command in 1 byte, its answer in 4.
 abbrev pub deliveriesPlace : ℕ
-deliveriesPlace = 3213
+deliveriesPlace = 3216
 
 -- The rounds of a site: 1 to 33.
 abbrev pub siteRounds : ℕ
@@ -108,7 +109,7 @@ headOf b =
       round = readLe 1 b roundPlace;
       phase = phaseFrom (readLe 1 b phasePlace) (readSet b ncPlace) (readSet b cPlace);
       position = readLe 2 b positionPlace;
-      deliveries = readLe 1 b countPlace;
+      deliveries = readLe 4 b countPlace;
       received = readSet b receivedPlace;
       delivered = readSet b deliveredPlace;
       pending = readSet b pendingPlace;
@@ -160,7 +161,7 @@ proposalOf (Waiting p) = p
 
 -- The numbers of a header, and its sets.
 unfoldable pub numbersBytes : Site → List ℕ
-numbersBytes h = ((bytes 1 (h .round) ++ bytes 1 (tagOf (h .phase))) ++ bytes 1 (h .deliveries)) ++ bytes 2 (h .position)
+numbersBytes h = ((bytes 1 (h .round) ++ bytes 1 (tagOf (h .phase))) ++ bytes 2 (h .position)) ++ bytes 4 (h .deliveries)
 
 unfoldable pub setsBytes : Site → List ℕ
 setsBytes h =
@@ -220,7 +221,7 @@ module _ (t : SiteTable) (book : List Command) where
 
   -- The site that lent bytes are seen as.
   abbrev pub view : List ℕ → protocol.Site (dash t book)
-  view b = siteOf (headOf b) (heardOf b) (ledgerOf (readLe 1 b countPlace) b)
+  view b = siteOf (headOf b) (heardOf b) (ledgerOf (readLe 4 b countPlace) b)
 
   -- The header of a site.
   abbrev pub headFor : protocol.Site (dash t book) → Site

@@ -28,7 +28,7 @@ pub struct Site {
     // the log position: how many entries were read
     pub position: u16,
     // how many deliveries are recorded
-    pub deliveries: u8,
+    pub deliveries: u32,
     pub received: Set,
     pub delivered: Set,
     pub pending: Set,
@@ -43,33 +43,33 @@ pub struct Delivery {
 
 impl Site {
     // The bytes of a site.
-    pub const SIZE: usize = 3533;
+    pub const SIZE: usize = 3536;
     // Where each field stands.
     pub const ROUND: usize = 0;
 
     pub const PHASE: usize = 1;
 
-    pub const COUNT: usize = 2;
+    pub const POSITION: usize = 2;
 
-    pub const POSITION: usize = 3;
+    pub const COUNT: usize = 4;
 
-    pub const RECEIVED: usize = 5;
+    pub const RECEIVED: usize = 8;
 
-    pub const DELIVERED: usize = 13;
+    pub const DELIVERED: usize = 16;
 
-    pub const PENDING: usize = 21;
+    pub const PENDING: usize = 24;
 
-    pub const FAST: usize = 29;
+    pub const FAST: usize = 32;
 
-    pub const NC: usize = 37;
+    pub const NC: usize = 40;
 
-    pub const C: usize = 45;
+    pub const C: usize = 48;
 
-    pub const HEARD: usize = 53;
+    pub const HEARD: usize = 56;
 
-    pub const REGISTER: usize = 2957;
+    pub const REGISTER: usize = 2960;
 
-    pub const DELIVERIES: usize = 3213;
+    pub const DELIVERIES: usize = 3216;
     // The rounds of a site: 1 to 33.
     pub const ROUNDS: usize = 33;
     // The sets heard: one for each of 11 senders and each round.
@@ -88,7 +88,7 @@ impl Site {
         let phase = phase_of(tag, nc, c);
         let round = wire::get1(site, Site::ROUND);
         let position = wire::get2(site, Site::POSITION);
-        let deliveries = wire::get1(site, Site::COUNT);
+        let deliveries = wire::get4(site, Site::COUNT);
         let received = Set::read(site, Site::RECEIVED);
         let delivered = Set::read(site, Site::DELIVERED);
         let pending = Set::read(site, Site::PENDING);
@@ -153,13 +153,13 @@ fn write_numbers(site: &mut [u8], header: Site)
     let phase = header.phase;
     wire::put1(site, Site::ROUND, header.round);
     wire::put1(site, Site::PHASE, tag(phase));
-    wire::put1(site, Site::COUNT, header.deliveries);
     wire::put2(site, Site::POSITION, header.position);
+    wire::put4(site, Site::COUNT, header.deliveries);
 }
 
 fn write_sets(site: &mut [u8], header: Site)
     requires { ⌜ length (now site) ≡ siteSize ⌝ }
-    ensures { λ _. ⌜ now (site .exit) ≡ splice (now (site .entry)) 5 (setsBytes header) ⌝ }
+    ensures { λ _. ⌜ now (site .exit) ≡ splice (now (site .entry)) receivedPlace (setsBytes header) ⌝ }
 {
     let phase = header.phase;
     let proposed = proposal_of(phase);
@@ -188,11 +188,11 @@ pub fn is_waiting(site: &[u8]) -> bool
 }
 
 // How many deliveries are recorded.
-pub fn count(site: &[u8]) -> u8
+pub fn count(site: &[u8]) -> u32
     requires { ⌜ length (now site) ≡ siteSize ⌝ }
     ensures { λ r. ⌜ r ≡ headOf (now (site .entry)) .deliveries ⌝ }
 {
-    wire::get1(site, Site::COUNT)
+    wire::get4(site, Site::COUNT)
 }
 
 pub fn position(site: &[u8]) -> u16
@@ -237,11 +237,11 @@ pub fn set_round(site: &mut [u8], round: u8)
     wire::put1(site, Site::ROUND, round);
 }
 
-pub fn set_count(site: &mut [u8], count: u8)
+pub fn set_count(site: &mut [u8], count: u32)
     requires { ⌜ length (now site) ≡ siteSize ⌝ }
-    ensures { λ _. ⌜ now (site .exit) ≡ splice (now (site .entry)) countPlace (bytes 1 count) ⌝ }
+    ensures { λ _. ⌜ now (site .exit) ≡ splice (now (site .entry)) countPlace (bytes 4 count) ⌝ }
 {
-    wire::put1(site, Site::COUNT, count);
+    wire::put4(site, Site::COUNT, count);
 }
 
 pub fn set_position(site: &mut [u8], position: u16)

@@ -29,7 +29,7 @@ not-sized sites commands entries b e =
     ap
     (λ (t : Bool).
     t && leb (readLe 2 b positionPlace) entries && goodPhase b && goodHead commands (headOf b) && all heardSets (goodHeard sites commands b)
-    && isWithin (registerOf b registerPlace) && all capacity (goodSlot commands (readLe 1 b countPlace) b))
+    && isWithin (registerOf b registerPlace) && all capacity (goodSlot commands (readLe 4 b countPlace) b))
     (sym e)
 
 -- ---- what the test tells
@@ -171,10 +171,10 @@ module _ (b : List ℕ) where
 
     abbrev numbers : Bool
     numbers =
-        leb 1 (readLe 1 b roundPlace) && leb (readLe 1 b roundPlace) siteRounds && leb (readLe 1 b countPlace) commands && leb (readLe 1 b countPlace) capacity
+        leb 1 (readLe 1 b roundPlace) && leb (readLe 1 b roundPlace) siteRounds && leb (readLe 4 b countPlace) commands && leb (readLe 4 b countPlace) capacity
 
     in-phase : (p : Bool) → goodPhase b ≡ p
-        → (p && leb 1 (readLe 1 b roundPlace) && leb (readLe 1 b roundPlace) siteRounds && leb (readLe 1 b countPlace) commands && leb (readLe 1 b countPlace) capacity && withinOf sets commands)
+        → (p && leb 1 (readLe 1 b roundPlace) && leb (readLe 1 b roundPlace) siteRounds && leb (readLe 4 b countPlace) commands && leb (readLe 4 b countPlace) capacity && withinOf sets commands)
         ≡ (p && goodHead commands (headOf b))
     unfolding goodHead headOf
     in-phase false e = refl
@@ -187,7 +187,7 @@ module _ (b : List ℕ) where
         && withinOf (nc-same (readLe 1 b phasePlace) (readSet b ncPlace) (readSet b cPlace) (λ z. empty-read ncPlace (h z .0)) i) commands
         && withinOf (c-same (readLe 1 b phasePlace) (readSet b ncPlace) (readSet b cPlace) (λ z. empty-read cPlace (h z .1)) i) commands)
 
-    pub head-judged : {tag round n : ℕ} {u v : Set} {e w : Bool} → tag ≡ readLe 1 b phasePlace → round ≡ readLe 1 b roundPlace → n ≡ readLe 1 b countPlace
+    pub head-judged : {tag round n : ℕ} {u v : Set} {e w : Bool} → tag ≡ readLe 1 b phasePlace → round ≡ readLe 1 b roundPlace → n ≡ readLe 4 b countPlace
         → u ≡ unionOf (readSet b ncPlace) (readSet b cPlace)
         → v ≡ unionOf (unionOf (unionOf (unionOf (readSet b receivedPlace) (readSet b deliveredPlace)) (readSet b pendingPlace)) (readSet b fastPlace)) u
         → e ≡ isEmptyOf u → w ≡ withinOf v commands
@@ -199,8 +199,8 @@ module _ (b : List ℕ) where
         && (ew ∙ ap (λ (s : Set). withinOf s commands) (ev ∙ ap (unionOf _) eu)) i)
         ∙ ap
         (λ (t : Bool).
-        (eqb (readLe 1 b phasePlace) 1 || t) && leb 1 (readLe 1 b roundPlace) && leb (readLe 1 b roundPlace) siteRounds && leb (readLe 1 b countPlace) commands
-        && leb (readLe 1 b countPlace) capacity && withinOf sets commands)
+        (eqb (readLe 1 b phasePlace) 1 || t) && leb 1 (readLe 1 b roundPlace) && leb (readLe 1 b roundPlace) siteRounds && leb (readLe 4 b countPlace) commands
+        && leb (readLe 4 b countPlace) capacity && withinOf sets commands)
         (sym (and-assoc (eqb (readLe 1 b phasePlace) 0) (eqb (readLe 8 b ncPlace) 0) (eqb (readLe 8 b cPlace) 0)))
         ∙ in-phase (goodPhase b) refl
 
@@ -269,7 +269,7 @@ module _ (b : List ℕ) where
         (eq-eqb word 0 (g .rest k l m .1))))
         (lt-or-le k n))
 
-  counted : headOf b .deliveries ≤ capacity → readLe 1 b countPlace ≤ capacity
+  counted : headOf b .deliveries ≤ capacity → readLe 4 b countPlace ≤ capacity
   unfolding headOf
   counted h = h
 
@@ -283,7 +283,7 @@ module _ (b : List ℕ) where
         let t₄ = t₃ && goodHead commands (headOf b) in
         let t₅ = t₄ && all heardSets (goodHeard sites commands b) in
         let t₆ = t₅ && isWithin (registerOf b registerPlace) in
-        let e₇ = split t₆ (all capacity (goodSlot commands (readLe 1 b countPlace) b)) h in
+        let e₇ = split t₆ (all capacity (goodSlot commands (readLe 4 b countPlace) b)) h in
         let e₆ = split t₅ (isWithin (registerOf b registerPlace)) (e₇ .0) in
         let e₅ = split t₄ (all heardSets (goodHeard sites commands b)) (e₆ .0) in
         let e₄ = split t₃ (goodHead commands (headOf b)) (e₅ .0) in
@@ -296,7 +296,7 @@ module _ (b : List ℕ) where
             tag = p .0;
             idle = p .1;
             head = g;
-            tables = tables-good sites commands (readLe 1 b countPlace) (counted (g .room)) (e₅ .1) (e₆ .1) (e₇ .1);
+            tables = tables-good sites commands (readLe 4 b countPlace) (counted (g .room)) (e₅ .1) (e₆ .1) (e₇ .1);
           },
           leb-true (readLe 2 b positionPlace) entries (e₂ .1),
         )
@@ -309,9 +309,9 @@ module _ (b : List ℕ) where
           le-leb (readLe 2 b positionPlace) entries l,
           good-phase (g .tag) (g .idle),
           good-head commands (headOf b) (g .head),
-          good-heard sites commands (readLe 1 b countPlace) (g .tables),
+          good-heard sites commands (readLe 4 b countPlace) (g .tables),
           within-test (registerOf b registerPlace) (g .tables .readings),
-          good-slots sites commands (readLe 1 b countPlace) (g .tables),
+          good-slots sites commands (readLe 4 b countPlace) (g .tables),
         )
 
   -- ---- what the code of judge tells
@@ -330,7 +330,7 @@ module _ (b : List ℕ) where
         let t₄ = t₃ && goodHead commands (headOf b) in
         let t₅ = t₄ && all heardSets (goodHeard sites commands b) in
         let t₆ = t₅ && isWithin (registerOf b registerPlace) in
-        let e₆ = split t₅ (isWithin (registerOf b registerPlace)) (left t₆ (all capacity (goodSlot commands (readLe 1 b countPlace) b)) h) in
+        let e₆ = split t₅ (isWithin (registerOf b registerPlace)) (left t₆ (all capacity (goodSlot commands (readLe 4 b countPlace) b)) h) in
         let e₅ = split t₄ (all heardSets (goodHeard sites commands b)) (e₆ .0) in
         let e₄ = split t₃ (goodHead commands (headOf b)) (e₅ .0) in
         let e₃ = split t₂ (goodPhase b) (e₄ .0) in
@@ -353,7 +353,7 @@ module _ (b : List ℕ) where
     -- Where all parts but the deliveries are good, the deliveries tell.
     pub judged : {p n : ℕ} {t u w d : Bool} → length b ≡ siteSize → p ≡ readLe 2 b positionPlace → p ≤ entries
         → t ≡ (goodPhase b && goodHead commands (headOf b)) → t ≡ true → u ≡ all heardSets (goodHeard sites commands b) → u ≡ true
-        → w ≡ isWithin (registerOf b registerPlace) → w ≡ true → n ≡ readLe 1 b countPlace → d ≡ all capacity (goodSlot commands n b) → d ≡ site
+        → w ≡ isWithin (registerOf b registerPlace) → w ≡ true → n ≡ readLe 4 b countPlace → d ≡ all capacity (goodSlot commands n b) → d ≡ site
     judged el ep lp et tt′ eu ut ew wt en ed =
         let h = split (goodPhase b) (goodHead commands (headOf b)) (sym et ∙ tt′) in
         let l : readLe 2 b positionPlace ≤ entries = let z = ep in omega arith in
@@ -361,8 +361,8 @@ module _ (b : List ℕ) where
         ∙ ap (λ (m : ℕ). all capacity (goodSlot commands m b)) en
         ∙ sym (λ i.
         eq-eqb (length b) siteSize el i && le-leb (readLe 2 b positionPlace) entries l i && h .0 i && h .1 i && (sym eu ∙ ut) i && (sym ew ∙ wt) i
-        && all capacity (goodSlot commands (readLe 1 b countPlace) b))
+        && all capacity (goodSlot commands (readLe 4 b countPlace) b))
 
     -- A header that is good counts no more deliveries than there are places.
-    pub few : {t : Bool} → t ≡ (goodPhase b && goodHead commands (headOf b)) → t ≡ true → readLe 1 b countPlace ≤ capacity
+    pub few : {t : Bool} → t ≡ (goodPhase b && goodHead commands (headOf b)) → t ≡ true → readLe 4 b countPlace ≤ capacity
     few e h = counted (head-good commands (headOf b) (right (goodPhase b) (goodHead commands (headOf b)) (sym e ∙ h)) .room)

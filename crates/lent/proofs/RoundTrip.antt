@@ -222,7 +222,7 @@ module _ (t : SiteTable) (book : List Command) (s : protocol.Site (dash t book))
       ap headOf (sym (splice-there [] heads (senders ++ (bikes ++ (deliveriesBytes (s .ledger .deliveries) ++ zeros))) 0 refl))
       ∙ head-back (encode t book s) (headFor t book s) head-fits
 
-  count-read : readLe 1 (encode t book s) countPlace ≡ length (s .ledger .deliveries)
+  count-read : readLe 4 (encode t book s) countPlace ≡ length (s .ledger .deliveries)
   unfolding headOf
   count-read = λ i. head-read i .deliveries
 

@@ -28,7 +28,7 @@ fn judge_header(site: &[u8], commands: usize) -> bool
 {
     let tag = wire::get1(site, Site::PHASE);
     let round = wire::get1(site, Site::ROUND) as usize;
-    let deliveries = wire::get1(site, Site::COUNT) as usize;
+    let deliveries = wire::get4(site, Site::COUNT) as usize;
     let proposed = Set::read(site, Site::NC).union(Set::read(site, Site::C));
     let sets = Set::read(site, Site::RECEIVED)
         .union(Set::read(site, Site::DELIVERED))
@@ -207,7 +207,7 @@ pub fn judge(site: &[u8], sites: usize, commands: usize, entries: usize) -> bool
     if !register::judge(site, Site::REGISTER) {
         return false;
     }
-    let recorded = wire::get1(site, Site::COUNT) as usize;
+    let recorded = wire::get4(site, Site::COUNT) as usize;
     judge_deliveries(site, commands, recorded)
 }
 

@@ -25,7 +25,7 @@ runLineRoom = 33
 abbrev pub printRoom : ℕ
 printRoom = runLineRoom + linesRoom + maxSites * report.lineRoom
 
--- The bytes of 11 sites: 38,863.
+-- The bytes of 11 sites: 38,896.
 abbrev pub sitesBytes : ℕ
 sitesBytes = maxSites * siteSize
 

@@ -16,7 +16,7 @@ use table::SiteTable;
 pub const ROOM: usize = 640890;
 
 // The working memory that any run needs: the bytes of 11 sites,
-pub const SITES: usize = 38863;
+pub const SITES: usize = 38896;
 
 // of 705 log entries, two a site and round and one more,
 pub const LOG: usize = 12690;

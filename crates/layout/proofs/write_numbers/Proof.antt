@@ -14,11 +14,11 @@ tag-requires c κs = search needs
 put1-requires-2 : tie.Need-put1-requires-2
 put1-requires-2 c κs = search needs
 
-put1-requires-3 : tie.Need-put1-requires-3
-put1-requires-3 c κs = search needs
-
 put2-requires : tie.Need-put2-requires
 put2-requires c κs = search needs
+
+put4-requires : tie.Need-put4-requires
+put4-requires c κs = search needs
 
 same-length : tie.Need-same-length
 same-length c = search needs
@@ -30,7 +30,7 @@ returns c =
     (c .before .before .before .before .before .before .before .before .before .before .before .before .before .before .before .put1 .ensures)
     (c .before .before .before .before .before .before .before .before .before .before .before .tag .ensures)
     (c .before .before .before .before .before .before .before .before .before .before .put12 .ensures)
-    (c .before .before .before .before .before .before .put13 .ensures) (c .before .before .put2 .ensures)
+    (c .before .before .before .before .before .before .put2 .ensures) (c .before .before .put4 .ensures)
 
 pub write-numbers-spec : {M : Type 1} → statement M
 write-numbers-spec =
@@ -39,7 +39,7 @@ write-numbers-spec =
     put1-requires
     tag-requires
     put1-requires-2
-    put1-requires-3
     put2-requires
+    put4-requires
     same-length
     returns)

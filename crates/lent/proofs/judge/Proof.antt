@@ -39,8 +39,8 @@ judge-requires c κs = search needs
 returns-5 : tie.Need-returns-5
 returns-5 c = let a = c .before .before .before .before .before .before .before .before .before .before .args in not-register (now (a .site)) (a .sites) (a .commands) (a .entries) (c .before .judge .ensures) (not-true _ (c .if5 .taken))
 
-get1-requires : tie.Need-get1-requires
-get1-requires c κs = search needs
+get4-requires : tie.Need-get4-requires
+get4-requires c κs = search needs
 
 cast-recorded : tie.Need-cast-recorded
 cast-recorded c = search needs
@@ -49,7 +49,7 @@ judge-deliveries-requires : tie.Need-judge-deliveries-requires
 judge-deliveries-requires c κs =
     let a = c .before .before .before .before .before .before .before .before .before .before .before .args in
     let n = few (now (a .site)) (a .sites) (a .commands) (a .entries) (c .before .before .before .before .before .before .judge-header .ensures) (not-false _ (c .before .before .before .before .before .if3 .left)) in
-    let e = c .get1 .ensures in
+    let e = c .get4 .ensures in
     (c .before .before .before .before .before .before .before .before .before .if1 .left, omega arith)
 
 returns-6 : tie.Need-returns-6
@@ -57,7 +57,7 @@ returns-6 c =
     let a = c .before .before .before .before .before .before .before .before .before .before .before .before .args in
     judged (now (a .site)) (a .sites) (a .commands) (a .entries) (c .before .before .before .before .before .before .before .before .before .before .if1 .left) (c .before .before .before .before .before .before .before .before .before .get2 .ensures) (c .before .before .before .before .before .before .before .before .if2 .left)
     (c .before .before .before .before .before .before .before .judge-header .ensures) (not-false _ (c .before .before .before .before .before .before .if3 .left)) (c .before .before .before .before .before .judge-heard .ensures) (not-false _ (c .before .before .before .before .if4 .left))
-    (c .before .before .before .judge .ensures) (not-false _ (c .before .before .if5 .left)) (c .before .get1 .ensures) (c .judge-deliveries .ensures)
+    (c .before .before .before .judge .ensures) (not-false _ (c .before .before .if5 .left)) (c .before .get4 .ensures) (c .judge-deliveries .ensures)
 
 pub judge-spec : {M : Type 1} → statement M
 judge-spec =
@@ -73,7 +73,7 @@ judge-spec =
     returns-4
     judge-requires
     returns-5
-    get1-requires
+    get4-requires
     cast-recorded
     judge-deliveries-requires
     returns-6)

@@ -17,8 +17,8 @@ get1-requires-2 c κs = search needs
 cast-round : tie.Need-cast-round
 cast-round c = search needs
 
-get1-requires-3 : tie.Need-get1-requires-3
-get1-requires-3 c κs = search needs
+get4-requires : tie.Need-get4-requires
+get4-requires c κs = search needs
 
 cast-deliveries : tie.Need-cast-deliveries
 cast-deliveries c = search needs
@@ -71,7 +71,7 @@ returns c =
     let u₄ = c .before .before .before .union4 .ensures ∙ (λ i. unionOf (u₃ i) (c .before .before .before .before .read6 .ensures i)) in
     let u₅ = c .before .before .union5 .ensures ∙ (λ i. unionOf (u₄ i) (c .before .before .before .before .before .before .before .before .before .before .union .result)) in
     head-judged (now (a .site)) (a .commands) (c .before .before .before .before .before .before .before .before .before .before .before .before .before .before .before .before .before .pre) (λ i. c .before .before .before .before .before .before .before .before .before .before .before .before .before .before .before .before .shared-slice-known .given i .fits) (c .before .before .before .before .before .before .before .before .before .before .before .before .before .before .before .get1 .ensures) (c .before .before .before .before .before .before .before .before .before .before .before .before .before .before .get12 .ensures)
-    (c .before .before .before .before .before .before .before .before .before .before .before .before .before .get13 .ensures) u u₅ (c .before .is-empty .ensures) (c .within .ensures)
+    (c .before .before .before .before .before .before .before .before .before .before .before .before .before .get4 .ensures) u u₅ (c .before .is-empty .ensures) (c .within .ensures)
 
 pub judge-header-spec : {M : Type 1} → statement M
 judge-header-spec =
@@ -80,7 +80,7 @@ judge-header-spec =
     get1-requires
     get1-requires-2
     cast-round
-    get1-requires-3
+    get4-requires
     cast-deliveries
     read-requires
     read-requires-2

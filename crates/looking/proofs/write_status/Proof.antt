@@ -11,8 +11,11 @@ get1-requires c κs = search needs
 get1-requires-2 : tie.Need-get1-requires-2
 get1-requires-2 c κs = search needs
 
-get1-requires-3 : tie.Need-get1-requires-3
-get1-requires-3 c κs = search needs
+get4-requires : tie.Need-get4-requires
+get4-requires c κs = search needs
+
+cast-deliveries : tie.Need-cast-deliveries
+cast-deliveries c = search needs
 
 get2-requires : tie.Need-get2-requires
 get2-requires c κs = search needs
@@ -33,8 +36,8 @@ same-length : tie.Need-same-length
 same-length c = search needs
 
 returns : tie.Need-returns
-returns c = let k = c .before .before .before .before .before .before .before .before .before .before .before .before .before .before .before .before in
-    rw (← c .before .before .before .before .before .before .before .before .before .before .before .before .before .before .before .before .get2 .ensures, ← c .before .before .before .before .before .before .before .before .before .before .before .before .before .before .before .before .before .get13 .ensures, ← c .before .before .before .before .before .before .before .before .before .before .before .before .before .before .before .before .before .before .get12 .ensures, ← c .before .before .before .before .before .before .before .before .before .before .before .before .before .before .before .before .before .before .before .get1 .ensures)
+returns c =
+    rw (← c .before .before .before .before .before .before .before .before .before .before .before .before .before .before .before .before .get2 .ensures, ← c .before .before .before .before .before .before .before .before .before .before .before .before .before .before .before .before .before .get4 .ensures, ← c .before .before .before .before .before .before .before .before .before .before .before .before .before .before .before .before .before .before .get12 .ensures, ← c .before .before .before .before .before .before .before .before .before .before .before .before .before .before .before .before .before .before .before .get1 .ensures)
     (status-written _ _ _ _ _ (c .before .before .before .before .before .before .before .before .before .before .before .before .before .before .put1 .ensures) (c .before .before .before .before .before .before .before .before .before .before .put12 .ensures) (c .before .before .before .before .before .before .put13 .ensures) (c .before .before .put2 .ensures))
 
 pub write-status-spec : {M : Type 1} → statement M
@@ -43,7 +46,8 @@ write-status-spec =
     (tie.spec
     get1-requires
     get1-requires-2
-    get1-requires-3
+    get4-requires
+    cast-deliveries
     get2-requires
     put1-requires
     put1-requires-2
