@@ -2,7 +2,7 @@
  * Six dealer sites in one process, over a network with random delays, one of them faulty.
  *
  * The host's part is what document 01 leaves to it: carrying messages, naming senders, and one log that is the same for all.
- * Each correct site is 3,533 bytes that the engine steps. The faulty site says something else to everybody and logs twice.
+ * Each correct site is 3,536 bytes that the engine steps. The faulty site says something else to everybody and logs twice.
  * At the end each correct site's deliveries and readings are printed, and compared.
  *
  *     sh examples/host.sh [SEED]

@@ -6,7 +6,7 @@
  * Memory. The caller owns every buffer and lends it for the length of the call; nothing is kept and nothing is allocated.
  * A buffer is a pointer and a length; a null pointer goes with length 0 only. Buffers of one call must not overlap.
  * A buffer of a fixed size may be longer than that: what is past the size named here is not looked at and not changed.
- * `book` and `log` are taken whole.
+ * `book` and `log` are taken whole. Any address will do; sites at an address divisible by 8 are stepped faster.
  *
  * Answers. 0 is success. Any other answer is a refusal: its number is one of DASH_REGISTER_REFUSED_.. below, and the call
  * has changed no byte of anything lent. Where several causes refuse, the first in the order 9, 2, 1, 3, 4, 6, 7, 8 is answered.
@@ -33,7 +33,7 @@ extern "C" {
 #endif
 
 /* Sizes in bytes. */
-#define DASH_REGISTER_SITE_BYTES 3533       /* one site's state */
+#define DASH_REGISTER_SITE_BYTES 3536       /* one site's state */
 #define DASH_REGISTER_ENTRY_BYTES 18        /* one log entry: site, round, NC (8), C (8) */
 #define DASH_REGISTER_TURN_BYTES 27         /* what a turn sends: see dash_register_turn */
 #define DASH_REGISTER_STATUS_BYTES 5        /* see dash_register_status */
@@ -41,7 +41,7 @@ extern "C" {
 #define DASH_REGISTER_DELIVERY_BYTES 5      /* command (1), answer (4, two's complement) */
 #define DASH_REGISTER_MAX_RUN_BYTES 60000   /* a whole run */
 #define DASH_REGISTER_PRINT_BYTES 640890    /* room for the print of any run */
-#define DASH_REGISTER_RUN_SITES_BYTES 38863 /* what a run works on: its sites, one after the other, */
+#define DASH_REGISTER_RUN_SITES_BYTES 38896 /* what a run works on: its sites, one after the other, */
 #define DASH_REGISTER_RUN_LOG_BYTES 12690   /* its log entries, */
 #define DASH_REGISTER_RUN_SENT_BYTES 189486 /* and what its sites have sent */
 

@@ -112,7 +112,7 @@ fn memory_of_calls(engines: &mut [Named], cases: &[Case]) -> Table {
             most = most.max(most_held(|| _ = engine.call(&case.call, &mut lent)));
         }
         let stack = most_stack(engine.as_mut(), cases).map_or(String::from("-"), |most| most.to_string());
-        let lent = ["3533", "18", "27"].map(String::from);
+        let lent = ["3536", "18", "27"].map(String::from);
         table.rows.push([String::from(*name)].into_iter().chain(lent).chain([most.to_string(), stack]).collect());
     }
     table

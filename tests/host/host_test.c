@@ -210,6 +210,9 @@ static void refuse_form_and_range(void) {
   lent.site[DASH_REGISTER_SITE_BYTES - 1] = 1;
   refused("answer where nothing is recorded", receive_command(0), DASH_REGISTER_REFUSED_RANGE);
   start();
+  lent.site[7] = 1;
+  refused("number of deliveries in its last byte", receive_command(0), DASH_REGISTER_REFUSED_RANGE);
+  start();
   refused("command beyond the book", receive_command(2), DASH_REGISTER_REFUSED_RANGE);
   refused("fast delivery beyond the book", fast_delivery(2), DASH_REGISTER_REFUSED_RANGE);
   refused("sender", receive_acknowledgment(1, 1, 1), DASH_REGISTER_REFUSED_RANGE);
@@ -219,13 +222,13 @@ static void refuse_form_and_range(void) {
   refused("check message beyond the book", receive_check((uint64_t)1 << 63), DASH_REGISTER_REFUSED_RANGE);
   refused("own number before an idle turn", turn(1), DASH_REGISTER_REFUSED_RANGE);
   refused("bike 32", bike(DASH_REGISTER_BIKES), DASH_REGISTER_REFUSED_RANGE);
-  lent.site[3] = 1;
+  lent.site[2] = 1;
   refused("position past the log", log_read(), DASH_REGISTER_REFUSED_RANGE);
   taken("position not judged without a log", receive_command(0), 0);
-  lent.site[3] = 0;
+  lent.site[2] = 0;
   append(9, 1);
   refused("next entry of no site", log_read(), DASH_REGISTER_REFUSED_RANGE);
-  lent.site[3] = 1;
+  lent.site[2] = 1;
   refused("entry read before of no site", round_end(), DASH_REGISTER_REFUSED_RANGE);
 }
 
@@ -240,9 +243,9 @@ static void refuse_entries(void) {
   taken("second entry", log_read(), 0);
   append(0, 1);
   refused("a third entry read", log_read(), DASH_REGISTER_REFUSED_THIRD);
-  lent.site[3] = 3;
+  lent.site[2] = 3;
   refused("a third entry before the position", turn(0), DASH_REGISTER_REFUSED_RANGE);
-  lent.site[3] = 0;
+  lent.site[2] = 0;
   lent.site[0] = 33;
   refused("a proposal in round 33", turn(0), DASH_REGISTER_REFUSED_LAST);
 }
@@ -253,7 +256,7 @@ static void refuse_full_record(void) {
   taken("command 0", receive_command(0), 0);
   taken("turn", turn(0), 9);
   taken("acknowledgment", receive_acknowledgment(0, 1, 1), 0);
-  lent.site[2] = 2;
+  lent.site[4] = 2;
   refused("a full record", fast_delivery(0), DASH_REGISTER_REFUSED_SIZE);
   refused("a full record, not enabled", fast_delivery(1), DASH_REGISTER_REFUSED_DISABLED);
 }

@@ -29,12 +29,13 @@ impl Restore {
         if before.len() < SITE_BYTES {
             return Restore::default();
         }
-        let deliveries = (3213..SITE_BYTES).step_by(5);
+        let deliveries = (3216..SITE_BYTES).step_by(5);
+        let numbers = std::iter::once(4).chain((2960..3216).step_by(4)).chain(deliveries.clone().map(|at| at + 1));
         Restore {
-            words: changed::<8>(before, after, (5..2957).step_by(8)),
-            numbers: changed::<4>(before, after, (2957..3213).step_by(4).chain(deliveries.clone().map(|at| at + 1))),
-            positions: changed::<2>(before, after, std::iter::once(3)),
-            bytes: changed::<1>(before, after, (0..3).chain(deliveries)),
+            words: changed::<8>(before, after, (8..2960).step_by(8)),
+            numbers: changed::<4>(before, after, numbers),
+            positions: changed::<2>(before, after, std::iter::once(2)),
+            bytes: changed::<1>(before, after, (0..2).chain(deliveries)),
         }
     }
 

@@ -1,6 +1,6 @@
 //! The calls that look at a lent site.
 
-use super::site::{COUNT, DELIVERIES, DELIVERY, PHASE, POSITION, REGISTER, ROUND, SITE_BYTES};
+use super::site::{count, COUNT, DELIVERIES, DELIVERY, PHASE, POSITION, REGISTER, ROUND, SITE_BYTES};
 use super::{judge, number};
 use crate::tuned::book::BIKES;
 use crate::tuned::{Refusal, RANGE, ROOM};
@@ -35,7 +35,7 @@ pub fn delivery(sites: usize, faults: usize, book: &[u8], site: &[u8], k: usize,
         let out = out.first_chunk_mut::<DELIVERY>().ok_or(ROOM)?;
         judge((sites, faults), book, site, &mut ())?;
         let deliveries = site[DELIVERIES..].as_chunks().0;
-        *out = *deliveries.get(..usize::from(site[COUNT])).and_then(|recorded| recorded.get(k)).ok_or(RANGE)?;
+        *out = *deliveries.get(..count(site)).and_then(|recorded| recorded.get(k)).ok_or(RANGE)?;
         Ok(())
     })())
 }

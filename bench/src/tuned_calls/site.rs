@@ -4,22 +4,22 @@ use super::Frame;
 use crate::tuned::book::{read_command, Bike, BIKES, MOST_READING};
 use crate::tuned::{word, COMMANDS};
 
-pub const SITE_BYTES: usize = 3533;
+pub const SITE_BYTES: usize = 3536;
 pub type Bytes = [u8; SITE_BYTES];
 
 pub const ROUND: usize = 0;
 pub const PHASE: usize = 1;
-pub const COUNT: usize = 2;
-pub const POSITION: usize = 3;
-pub const RECEIVED: usize = 5;
-pub const DELIVERED: usize = 13;
-pub const PENDING: usize = 21;
-pub const FAST: usize = 29;
-pub const NC: usize = 37;
-pub const C: usize = 45;
-const HEARD: usize = 53;
-pub const REGISTER: usize = 2957;
-pub const DELIVERIES: usize = 3213;
+pub const POSITION: usize = 2;
+pub const COUNT: usize = 4;
+pub const RECEIVED: usize = 8;
+pub const DELIVERED: usize = 16;
+pub const PENDING: usize = 24;
+pub const FAST: usize = 32;
+pub const NC: usize = 40;
+pub const C: usize = 48;
+const HEARD: usize = 56;
+pub const REGISTER: usize = 2960;
+pub const DELIVERIES: usize = 3216;
 pub const ROUNDS: usize = 33;
 /// The bytes of a sender's sets of all rounds.
 const SENDER: usize = 8 * ROUNDS;
@@ -35,6 +35,17 @@ pub fn position(site: &Bytes) -> usize {
     usize::from(u16::from_le_bytes([site[POSITION], site[POSITION + 1]]))
 }
 
+/// How many deliveries are recorded.
+#[inline(always)]
+pub fn count(site: &Bytes) -> usize {
+    u32::from_le_bytes([site[COUNT], site[COUNT + 1], site[COUNT + 2], site[COUNT + 3]]) as usize
+}
+
+#[inline(always)]
+pub fn put_count(site: &mut Bytes, count: usize) {
+    site[COUNT..COUNT + 4].copy_from_slice(&(count as u32).to_le_bytes());
+}
+
 /// Where the set of a sender and round stands.
 #[inline(always)]
 pub fn heard(sender: usize, round: usize) -> usize {
@@ -47,7 +58,7 @@ pub fn is_good(site: &Bytes, frame: &Frame) -> bool {
     let proposed = word(site, NC) | word(site, C);
     let sets = word(site, RECEIVED) | word(site, DELIVERED) | word(site, PENDING) | word(site, FAST) | proposed;
     let is_phase = site[PHASE] == 1 || site[PHASE] == 0 && proposed == 0;
-    let recorded = usize::from(site[COUNT]);
+    let recorded = count(site);
     let are_numbers = usize::from(site[ROUND].wrapping_sub(1)) < ROUNDS && recorded <= frame.count;
     if !is_phase || !are_numbers || sets & frame.beyond != 0 {
         return false;

@@ -79,13 +79,13 @@ pub fn fast_delivery(sites: usize, faults: usize, book: &[u8], site: &mut [u8], 
         if !is_open || senders < (sites - faults) as u64 {
             return Err(NOT_ENABLED);
         }
-        let recorded = usize::from(site[COUNT]);
+        let recorded = count(site);
         if recorded >= frame.count {
             return Err(ROOM);
         }
         deliver(site, book, places.of(command), command as u8, recorded);
         put_word(site, FAST, fast | 1 << command);
-        site[COUNT] += 1;
+        put_count(site, recorded + 1);
         Ok(())
     })())
 }
@@ -125,7 +125,7 @@ pub fn round_end(sites: usize, faults: usize, book: &[u8], site: &mut [u8], log:
         let decision = prefix.decide(read, book, &places, n_chk).ok_or(NOT_ENABLED)?;
         let earlier = word(site, DELIVERED) | word(site, FAST);
         let news = [decision.nc & !earlier, decision.c & !earlier];
-        let mut k = usize::from(site[COUNT]);
+        let mut k = count(site);
         if k + (news[0] | news[1]).count_ones() as usize > frame.count {
             return Err(ROOM);
         }
@@ -137,7 +137,7 @@ pub fn round_end(sites: usize, faults: usize, book: &[u8], site: &mut [u8], log:
                 k += 1;
             }
         }
-        site[COUNT] = k as u8;
+        put_count(site, k);
         next_round(site, decision.nc | decision.c);
         Ok(())
     })())

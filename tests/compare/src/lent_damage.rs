@@ -15,12 +15,12 @@ fn change(draw: &mut Draw, buffer: &mut Buffer, at: usize) {
 
 /// A place in a site, each of its parts equally often.
 fn place(draw: &mut Draw, site: &Buffer) -> usize {
-    let recorded = site.lent().get(2).map_or(0, |recorded| usize::from(*recorded));
-    let parts = [(0, 1), (1, 2), (2, 3), (3, 5), (5, 37), (37, 53), (53, 2957), (2957, 3213), (3213, 3533)];
+    let recorded = site.lent().get(4).map_or(0, |recorded| usize::from(*recorded));
+    let parts = [(0, 1), (1, 2), (2, 4), (4, 8), (8, 40), (40, 56), (56, 2960), (2960, 3216), (3216, 3536)];
     match draw.below(parts.len() + 1) {
         part if part < parts.len() => draw.within(parts[part].0, parts[part].1 - 1),
         // A command that was delivered.
-        _ => 3213 + 5 * draw.below(recorded.min(64)),
+        _ => 3216 + 5 * draw.below(recorded.min(64)),
     }
 }
 
@@ -92,7 +92,7 @@ pub fn damage(draw: &mut Draw, lent: &mut Lent) {
             let at = draw.below(SITE_BYTES);
             change(draw, &mut lent.site, at);
         }
-        5 => lent.site.cut(draw.pick(&[SITE_BYTES - 1, SITE_BYTES - 1, 3213, 53, 1, 0])),
+        5 => lent.site.cut(draw.pick(&[SITE_BYTES - 1, SITE_BYTES - 1, 3216, 56, 1, 0])),
         6 => lent.out.cut(draw.pick(&[26, 9, 8, 7, 5, 4, 0])),
         7 => damage_table(draw, lent),
         8 | 9 => damage_book(draw, lent),

@@ -1,24 +1,26 @@
-//! A site of the reference as the 3,533 bytes that a host lends, and back (docs/FORMAT.md, "Site").
+//! A site of the reference as the 3,536 bytes that a host lends, and back (docs/FORMAT.md, "Site").
 
 use reference::book::{BIKES, MOST_COMMANDS, MOST_READING};
 use reference::site::{is_round, MOST_ROUND};
 use reference::{bytes_of_set, set_of_bytes, Delivery, Phase, Proposal, Register, Rules, Set, Site, SiteTable};
 use std::collections::BTreeMap;
 
-pub const SITE_BYTES: usize = 3533;
+pub const SITE_BYTES: usize = 3536;
 const SET: usize = 8;
 /// A sender's sets of all rounds, one after another.
 const SENDER: usize = SET * MOST_ROUND;
 const DELIVERY: usize = 5;
 
 /// Where each part of a site begins.
-const RECEIVED: usize = 5;
-const DELIVERED: usize = 13;
-const PENDING: usize = 21;
-const DELIVERED_FAST: usize = 29;
-const PROPOSED_NC: usize = 37;
-const PROPOSED_C: usize = 45;
-const HEARD: usize = 53;
+const LOG_POSITION: usize = 2;
+const RECORDED_COUNT: usize = 4;
+const RECEIVED: usize = 8;
+const DELIVERED: usize = 16;
+const PENDING: usize = 24;
+const DELIVERED_FAST: usize = 32;
+const PROPOSED_NC: usize = 40;
+const PROPOSED_C: usize = 48;
+const HEARD: usize = 56;
 const REGISTER: usize = HEARD + SENDER * SiteTable::MOST_SITES;
 const DELIVERIES: usize = REGISTER + 8 * BIKES;
 
@@ -48,8 +50,8 @@ fn set_bytes(set: &Set) -> Option<[u8; SET]> {
 pub fn encode(site: &Site) -> Option<Vec<u8>> {
     let mut bytes = vec![0; SITE_BYTES];
     bytes[0] = u8::try_from(site.round).ok()?;
-    bytes[2] = u8::try_from(site.deliveries.len()).ok()?;
-    put(&mut bytes, 3, &u16::try_from(site.log_position).ok()?.to_le_bytes());
+    put(&mut bytes, LOG_POSITION, &u16::try_from(site.log_position).ok()?.to_le_bytes());
+    put(&mut bytes, RECORDED_COUNT, &u32::try_from(site.deliveries.len()).ok()?.to_le_bytes());
     put(&mut bytes, RECEIVED, &set_bytes(&site.received)?);
     put(&mut bytes, DELIVERED, &set_bytes(&site.g_del)?);
     put(&mut bytes, PENDING, &set_bytes(&site.pending)?);
@@ -109,7 +111,7 @@ fn read_set(bytes: &[u8], at: usize, rules: &Rules) -> Result<Set, &'static str>
     Ok(set)
 }
 
-/// The site in the first 3,533 bytes; why there is none, where they are not a site for this table and book.
+/// The site in the first 3,536 bytes; why there is none, where they are not a site for this table and book.
 /// The log position is read and not judged, since no log is at hand. What was heard keeps no empty sets.
 pub fn decode(bytes: &[u8], rules: &Rules) -> Result<Site, &'static str> {
     let round = usize::from(bytes[0]);
@@ -117,7 +119,7 @@ pub fn decode(bytes: &[u8], rules: &Rules) -> Result<Site, &'static str> {
     Ok(Site {
         round,
         phase: decode_phase(bytes, rules)?,
-        log_position: usize::from(u16::from_le_bytes(part(bytes, 3))),
+        log_position: usize::from(u16::from_le_bytes(part(bytes, LOG_POSITION))),
         received: read_set(bytes, RECEIVED, rules)?,
         g_del: read_set(bytes, DELIVERED, rules)?,
         pending: read_set(bytes, PENDING, rules)?,
@@ -168,7 +170,7 @@ fn decode_register(bytes: &[u8]) -> Result<Register, &'static str> {
 }
 
 fn decode_deliveries(bytes: &[u8], rules: &Rules) -> Result<Vec<Delivery>, &'static str> {
-    let recorded = usize::from(bytes[2]);
+    let recorded = u32::from_le_bytes(part(bytes, RECORDED_COUNT)) as usize;
     unless(recorded <= rules.book.count(), RECORDED)?;
     let mut deliveries = Vec::new();
     for place in 0..recorded {
@@ -234,7 +236,7 @@ mod tests {
 
     #[test]
     fn the_parts_are_where_the_format_says() {
-        assert_eq!((HEARD, REGISTER, DELIVERIES), (53, 2957, 3213));
+        assert_eq!((HEARD, REGISTER, DELIVERIES), (56, 2960, 3216));
         assert_eq!(DELIVERIES + DELIVERY * MOST_COMMANDS, SITE_BYTES);
         let mut site = Site::start();
         site.heard.insert((33, 10), Set::from([0, 63]));
@@ -243,10 +245,10 @@ mod tests {
         site.deliveries.push(Delivery { command: 9, answer: -2 });
         site.log_position = 0x0203;
         let bytes = encode(&site).expect("the site fits into its bytes");
-        assert_eq!(bytes[..5], [1, 0, 1, 3, 2]);
-        assert_eq!(bytes[2949..2957], [1, 0, 0, 0, 0, 0, 0, 0x80]);
-        assert_eq!(bytes[53 + 33 * 8 + 8..][..2], [0, 1]);
-        assert_eq!(bytes[3205..3209], [2, 1, 15, 0]);
-        assert_eq!(bytes[3213..3218], [9, 254, 255, 255, 255]);
+        assert_eq!(bytes[..8], [1, 0, 3, 2, 1, 0, 0, 0]);
+        assert_eq!(bytes[2952..2960], [1, 0, 0, 0, 0, 0, 0, 0x80]);
+        assert_eq!(bytes[56 + 33 * 8 + 8..][..2], [0, 1]);
+        assert_eq!(bytes[3208..3212], [2, 1, 15, 0]);
+        assert_eq!(bytes[3216..3221], [9, 254, 255, 255, 255]);
     }
 }

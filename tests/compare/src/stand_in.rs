@@ -5,15 +5,18 @@
 use crate::lent_calls::{Call, Engine, Lent};
 use reference::{Book, Register};
 
-const SITE: usize = 3533;
-const DELIVERED: usize = 13;
-const PENDING: usize = 21;
-const FAST: usize = 29;
-const NC: usize = 37;
-const C: usize = 45;
-const HEARD: usize = 53;
-const BIKES: usize = 2957;
-const DELIVERIES: usize = 3213;
+const SITE: usize = 3536;
+const POSITION: usize = 2;
+const COUNT: usize = 4;
+const RECEIVED: usize = 8;
+const DELIVERED: usize = 16;
+const PENDING: usize = 24;
+const FAST: usize = 32;
+const NC: usize = 40;
+const C: usize = 48;
+const HEARD: usize = 56;
+const BIKES: usize = 2960;
+const DELIVERIES: usize = 3216;
 
 pub struct StandIn;
 
@@ -39,7 +42,12 @@ fn number(bytes: &[u8], at: usize) -> u32 {
 }
 
 fn log_position(site: &[u8]) -> usize {
-    usize::from(site[3]) + 256 * usize::from(site[4])
+    usize::from(site[POSITION]) + 256 * usize::from(site[POSITION + 1])
+}
+
+/// How many deliveries are recorded.
+fn recorded(site: &[u8]) -> usize {
+    number(site, COUNT) as usize
 }
 
 fn heard_at(sender: usize, round: usize) -> usize {
@@ -70,12 +78,12 @@ impl Frame {
 
     /// Whether the bytes are a site, its log position apart.
     fn is_site(&self, site: &[u8]) -> bool {
-        let recorded = usize::from(site[2]);
+        let recorded = recorded(site);
         let is_zero = |part: &[u8]| part.iter().all(|byte| *byte == 0);
         (1..=33).contains(&site[0])
             && site[1] <= 1
             && recorded <= self.count()
-            && (5..BIKES).step_by(8).all(|at| self.holds(word(site, at)))
+            && (RECEIVED..BIKES).step_by(8).all(|at| self.holds(word(site, at)))
             && (site[1] == 1 || is_zero(&site[NC..HEARD]))
             && is_zero(&site[heard_at(self.sites, 1)..BIKES])
             && (BIKES..DELIVERIES).step_by(8).all(|at| number(site, at) <= 999_999)
@@ -120,7 +128,7 @@ impl Frame {
 
     /// Executes commands and records their answers; 9 where the record has no room for all of them.
     fn deliver(&self, site: &mut [u8], commands: &[usize]) -> u32 {
-        if usize::from(site[2]) + commands.len() > self.count() {
+        if recorded(site) + commands.len() > self.count() {
             return 9;
         }
         for m in commands {
@@ -132,10 +140,11 @@ impl Frame {
             let answer = register.execute(command);
             site[at..at + 4].copy_from_slice(&register.readings[command.bike].to_le_bytes());
             site[at + 4..at + 8].copy_from_slice(&register.dashes[command.bike].to_le_bytes());
-            let at = DELIVERIES + 5 * usize::from(site[2]);
+            let k = recorded(site);
+            let at = DELIVERIES + 5 * k;
             site[at] = *m as u8;
             site[at + 1..at + 5].copy_from_slice(&answer.to_le_bytes());
-            site[2] += 1;
+            site[COUNT..COUNT + 4].copy_from_slice(&(k as u32 + 1).to_le_bytes());
         }
         0
     }
@@ -147,13 +156,13 @@ fn entries_of(log: &[u8], site: u8, round: u8) -> usize {
 }
 
 fn receive(site: &mut [u8], set: u64) -> u32 {
-    let received = word(site, 5);
-    put_word(site, 5, received | set);
+    let received = word(site, RECEIVED);
+    put_word(site, RECEIVED, received | set);
     0
 }
 
 fn turn(frame: &Frame, site: &mut [u8], log: &[u8], own: usize, out: &mut [u8]) -> u32 {
-    let (open, pending) = (word(site, 5) & !word(site, DELIVERED), word(site, PENDING));
+    let (open, pending) = (word(site, RECEIVED) & !word(site, DELIVERED), word(site, PENDING));
     if own >= frame.sites {
         return 4;
     }
@@ -207,7 +216,7 @@ fn log_read(frame: &Frame, site: &mut [u8], log: &[u8]) -> u32 {
     }
     let answer = frame.judge_entry(log, position);
     if answer == 0 {
-        site[3..5].copy_from_slice(&(position as u16 + 1).to_le_bytes());
+        site[POSITION..POSITION + 2].copy_from_slice(&(position as u16 + 1).to_le_bytes());
     }
     answer
 }
@@ -252,9 +261,9 @@ fn step(call: &Call, frame: &Frame, site: &mut [u8], log: &[u8], out: &mut [u8])
         Call::FastDelivery { command } => fast_delivery(frame, site, command),
         Call::LogRead => log_read(frame, site, log),
         Call::RoundEnd => round_end(frame, site, log),
-        Call::Status => copy(out, &[site[0], site[1], site[2], site[3], site[4]]),
+        Call::Status => copy(out, &[site[0], site[1], site[COUNT], site[POSITION], site[POSITION + 1]]),
         Call::Bike { bike } if bike < 32 => copy(out, &site[BIKES + 8 * bike..BIKES + 8 * bike + 8]),
-        Call::Delivery { place } if place < usize::from(site[2]) => {
+        Call::Delivery { place } if place < recorded(site) => {
             copy(out, &site[DELIVERIES + 5 * place..DELIVERIES + 5 * place + 5])
         }
         _ => 4,

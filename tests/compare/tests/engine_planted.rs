@@ -39,8 +39,8 @@ fn refused_call_writes_the_output(call: &Call, lent: &mut Lent) -> u32 {
 
 fn refused_round_end_delivers_in_part(call: &Call, lent: &mut Lent) -> u32 {
     let answer = right(call, lent);
-    if *call == Call::RoundEnd && answer == 9 && lent.site.length() >= 3533 {
-        lent.site.lent_mut()[2957] ^= 1;
+    if *call == Call::RoundEnd && answer == 9 && lent.site.length() >= 3536 {
+        lent.site.lent_mut()[2960] ^= 1;
     }
     answer
 }
@@ -65,7 +65,7 @@ fn acknowledgment_asks_for_nine_bytes(call: &Call, lent: &mut Lent) -> u32 {
 
 fn writes_past_the_site(call: &Call, lent: &mut Lent) -> u32 {
     let answer = right(call, lent);
-    if let (Call::Fresh, Some(byte)) = (call, lent.site.lent_mut().get_mut(3533)) {
+    if let (Call::Fresh, Some(byte)) = (call, lent.site.lent_mut().get_mut(3536)) {
         *byte = 0;
     }
     answer
@@ -121,13 +121,13 @@ fn commands(lent: &Lent) -> usize {
 
 /// The log position in the lent bytes; 0 where they are too short.
 fn position(lent: &Lent) -> usize {
-    lent.site.lent().get(3..5).map_or(0, |bytes| usize::from(bytes[0]) + 256 * usize::from(bytes[1]))
+    lent.site.lent().get(2..4).map_or(0, |bytes| usize::from(bytes[0]) + 256 * usize::from(bytes[1]))
 }
 
 fn full_record_before_not_enabled(call: &Call, lent: &mut Lent) -> u32 {
     let answer = right(call, lent);
     let is_delivery = matches!(call, Call::FastDelivery { .. } | Call::RoundEnd);
-    if answer == 6 && is_delivery && usize::from(lent.site.lent()[2]) == commands(lent) {
+    if answer == 6 && is_delivery && usize::from(lent.site.lent()[4]) == commands(lent) {
         return 9;
     }
     answer
@@ -184,21 +184,28 @@ fn blind_to(part: std::ops::Range<usize>, call: &Call, lent: &mut Lent) -> u32 {
 
 fn last_sender_not_judged(call: &Call, lent: &mut Lent) -> u32 {
     if lent.sites < 11 && *call == Call::LogRead {
-        return blind_to(53 + 10 * 264..2957, call, lent);
+        return blind_to(56 + 10 * 264..2960, call, lent);
     }
     right(call, lent)
 }
 
 fn last_delivery_not_judged(call: &Call, lent: &mut Lent) -> u32 {
-    if *call == Call::RoundEnd && lent.site.lent().get(2).is_some_and(|recorded| *recorded < 60) {
-        return blind_to(3533 - 5..3533, call, lent);
+    if *call == Call::RoundEnd && lent.site.lent().get(4).is_some_and(|recorded| *recorded < 60) {
+        return blind_to(3536 - 5..3536, call, lent);
+    }
+    right(call, lent)
+}
+
+fn high_bytes_of_the_count_not_judged(call: &Call, lent: &mut Lent) -> u32 {
+    if *call == Call::Status {
+        return blind_to(5..8, call, lent);
     }
     right(call, lent)
 }
 
 fn proposed_sets_not_judged(call: &Call, lent: &mut Lent) -> u32 {
     if *call == Call::Status && lent.site.lent().get(1) == Some(&0) {
-        return blind_to(37..53, call, lent);
+        return blind_to(40..56, call, lent);
     }
     right(call, lent)
 }
@@ -216,7 +223,7 @@ fn heard_under_the_round_of_the_site(call: &Call, lent: &mut Lent) -> u32 {
 fn heard_replaced(call: &Call, lent: &mut Lent) -> u32 {
     let answer = right(call, lent);
     if let (Call::ReceiveAcknowledgment { sender, round, set }, 0) = (call, answer) {
-        let at = 53 + (sender * 33 + round - 1) * 8;
+        let at = 56 + (sender * 33 + round - 1) * 8;
         lent.site.lent_mut()[at..at + 8].copy_from_slice(&set.to_le_bytes());
     }
     answer
@@ -272,7 +279,7 @@ fn log_read_takes_round_33(call: &Call, lent: &mut Lent) -> u32 {
 
 fn delivery_past_the_last(call: &Call, lent: &mut Lent) -> u32 {
     let answer = right(call, lent);
-    let recorded = lent.site.lent().get(2).map_or(0, |recorded| usize::from(*recorded));
+    let recorded = lent.site.lent().get(4).map_or(0, |recorded| usize::from(*recorded));
     if *call == (Call::Delivery { place: recorded }) && answer == 4 && tried(&Call::Status, lent) == 0 {
         lent.out.lent_mut()[..5].fill(0);
         return 0;
@@ -283,12 +290,12 @@ fn delivery_past_the_last(call: &Call, lent: &mut Lent) -> u32 {
 fn log_position_runs_ahead(call: &Call, lent: &mut Lent) -> u32 {
     let answer = right(call, lent);
     if *call == Call::LogRead && answer == 0 && lent.site.lent()[1] == 1 {
-        lent.site.lent_mut()[3] += 1;
+        lent.site.lent_mut()[2] += 1;
     }
     answer
 }
 
-const FAULTS: [(&str, Fault); 26] = [
+const FAULTS: [(&str, Fault); 27] = [
     ("a refused call writes the output", refused_call_writes_the_output),
     ("a refused round end delivers in part", refused_round_end_delivers_in_part),
     ("an acknowledgment clears the rest of the turn", acknowledgment_clears_the_rest_of_the_turn),
@@ -306,6 +313,7 @@ const FAULTS: [(&str, Fault); 26] = [
     ("the table loses its high bytes", narrow_table),
     ("the last sender is not judged", last_sender_not_judged),
     ("the last delivery is not judged", last_delivery_not_judged),
+    ("the number of deliveries loses its high bytes", high_bytes_of_the_count_not_judged),
     ("proposed sets while acknowledging are not judged", proposed_sets_not_judged),
     ("an earlier acknowledgment counts in the site's round", heard_under_the_round_of_the_site),
     ("an acknowledgment replaces an earlier one", heard_replaced),
