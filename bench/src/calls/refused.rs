@@ -2,6 +2,7 @@
 
 use super::cases::{middle, Case};
 use compare::lent_calls::{Buffer, Call, Lent};
+use compare::site_bytes::SITE_BYTES;
 
 /// The site with one byte changed.
 fn with_byte(lent: &Lent, at: usize, byte: u8) -> Lent {
@@ -21,7 +22,7 @@ fn with_entries(lent: &Lent, source: u8, round: u8, count: usize) -> Lent {
 fn at_fault(lent: &Lent) -> Vec<Case> {
     let receive = Call::ReceiveCheck { set: 1 };
     let (mut short, mut cut) = (lent.clone(), lent.clone());
-    short.site.cut(3532);
+    short.site.cut(SITE_BYTES - 1);
     cut.log.cut(lent.log.length() - 1);
     let book = Buffer::new(&[lent.book.lent(), &[3, 5]].concat(), 0);
     vec![
@@ -30,7 +31,7 @@ fn at_fault(lent: &Lent) -> Vec<Case> {
         Case::new("refused 1: a 65th command", receive, Lent { book, ..lent.clone() }, 1),
         Case::new("refused 3: log cut", Call::LogRead, cut, 3),
         Case::new("refused 4: site's first byte", receive, with_byte(lent, 0, 0), 4),
-        Case::new("refused 4: site's last byte", receive, with_byte(lent, 3532, 1), 4),
+        Case::new("refused 4: site's last byte", receive, with_byte(lent, SITE_BYTES - 1, 1), 4),
         Case::new("refused 4: command 64", Call::ReceiveCommand { command: 64 }, lent.clone(), 4),
     ]
 }
@@ -52,9 +53,9 @@ pub fn all() -> Vec<Case> {
     cases.push(Case::new("refused 6: not waiting", Call::RoundEnd, lent.clone(), 6));
     writer.command(33);
     let lent = writer.lent(0);
-    let thrice = with_entries(&with_byte(&lent, 3, 0), 0, 17, 3);
+    let thrice = with_entries(&with_byte(&lent, 2, 0), 0, 17, 3);
     cases.push(Case::new("refused 7: two entries unread", Call::Turn { own: 0 }, with_entries(&lent, 0, 17, 2), 7));
-    cases.push(Case::new("refused 7: third entry", Call::LogRead, with_byte(&thrice, 3, 98), 7));
+    cases.push(Case::new("refused 7: third entry", Call::LogRead, with_byte(&thrice, 2, 98), 7));
     cases.push(Case::new("refused 8: round 33", Call::Turn { own: 0 }, with_byte(&lent, 0, 33), 8));
     cases
 }
