@@ -6,7 +6,7 @@
  * Memory. The caller owns every buffer and lends it for the length of the call; nothing is kept and nothing is allocated.
  * A buffer is a pointer and a length; a null pointer goes with length 0 only. Buffers of one call must not overlap.
  * A buffer of a fixed size may be longer than that: what is past the size named here is not looked at and not changed.
- * `book` and `log` are taken whole. Any address will do; sites at an address divisible by 8 are stepped faster.
+ * `book` and `log` are taken whole. Any address will do; one divisible by 8 is best for speed.
  *
  * Answers. 0 is success. Any other answer is a refusal: its number is one of DASH_REGISTER_REFUSED_.. below, and the call
  * has changed no byte of anything lent. Where several causes refuse, the first in the order 9, 2, 1, 3, 4, 6, 7, 8 is answered.
