@@ -18,7 +18,7 @@ use Rattle.wire.proofs.Laws.{length-bytes, length-splice, read-same, read-befor
 use Rattle.sets.specs.declared.Set.{Set}
 use Rattle.sets.specs.Sets.{inSet, setBytes, readSet, writeSet}
 use Rattle.sets.proofs.Laws.{read-written, length-write}
-use Rattle.sent.specs.Sent.{cells, setsOffset, sentSize, countPlace, setPlace, flagPlace, checkPlace, maxAcknowledgments}
+use Rattle.sent.specs.Sent.{cells, countsOffset, sentSize, countPlace, setPlace, flagPlace, checkPlace, maxAcknowledgments}
 use Rattle.sent.specs.Sent.{countIn, flagIn, setsFrom, acksIn, checkIn, written, acknowledgedIn, checkedIn}
 
 -- ---- bytes that agree on a part
@@ -108,23 +108,23 @@ module _ (b : List ℕ) (p : ℕ) (s : Set) (q x : ℕ) (hp : p + setBytes ≤ l
   unfolding written
   number-written h = let e = length-write b p s hp in read-same 1 (writeSet b p s) q x (omega arith) h
 
-  pub set-written : q + 1 ≤ p → s .bits < 2 ^ 64 → readSet (written b p s q x) p ≡ s
+  pub set-written : p + setBytes ≤ q → s .bits < 2 ^ 64 → readSet (written b p s q x) p ≡ s
   unfolding written
   set-written l h =
       let e = length-write b p s hp in
-      agree-set p (agree-splice (writeSet b p s) q (bytes 1 x) 1 p (p + setBytes) (length-bytes 1 x) (omega arith) (inr l)) (omega arith) (omega arith)
+      agree-set p (agree-splice (writeSet b p s) q (bytes 1 x) 1 p (p + setBytes) (length-bytes 1 x) (omega arith) (inl l)) (omega arith) (omega arith)
       ∙ read-written b p s hp h
 
--- A byte before the sets and a set among them leave every other byte there, and every other set.
-module _ (b : List ℕ) (p : ℕ) (s : Set) (q x : ℕ) (size : length b ≡ sentSize) (lo : setsOffset ≤ p) (hi : p + setBytes ≤ sentSize) (before : q < setsOffset) where
-  pub number-kept : (at : ℕ) → at < setsOffset → (at ≡ q → ⊥) → readLe 1 (written b p s q x) at ≡ readLe 1 b at
+-- A set and a byte after the sets leave every other byte there, and every other set.
+module _ (b : List ℕ) (p : ℕ) (s : Set) (q x : ℕ) (size : length b ≡ sentSize) (among : p + setBytes ≤ countsOffset) (lo : countsOffset ≤ q) (hi : q < sentSize) where
+  pub number-kept : (at : ℕ) → countsOffset ≤ at → (at ≡ q → ⊥) → readLe 1 (written b p s q x) at ≡ readLe 1 b at
   number-kept at h n =
-      agree-written b p s q x (omega arith) (omega arith) at (at + 1) (inl (omega arith))
+      agree-written b p s q x (omega arith) (omega arith) at (at + 1) (inr (omega arith))
       (⊎-elim {C = (at + 1 ≤ q) ⊎ (q + 1 ≤ at)} (λ l. inl (omega arith)) (λ l. inr (omega arith)) (lt-or-le at q))
       .reads 1 at (omega arith) (omega arith)
 
-  pub sets-kept : (from to : ℕ) → setsOffset ≤ from → (to ≤ p) ⊎ (p + setBytes ≤ from) → Agree b (written b p s q x) from to
-  sets-kept from to h l = agree-written b p s q x (omega arith) (omega arith) from to l (inr (omega arith))
+  pub sets-kept : (from to : ℕ) → to ≤ countsOffset → (to ≤ p) ⊎ (p + setBytes ≤ from) → Agree b (written b p s q x) from to
+  sets-kept from to h l = agree-written b p s q x (omega arith) (omega arith) from to l (inl (omega arith))
 
 -- ---- the two writes, at their own cell
 

@@ -3,20 +3,21 @@
 use mathlib.Core.Path.{_≡_, refl, sym, ap, subst, _∙_}
 use mathlib.Core.Bool.{Bool, true, false}
 use mathlib.Core.Logic.{_⊎_, inl, inr, ⊎-elim}
-use mathlib.Core.List.{List, [], _∷_, _++_}
+use mathlib.Core.List.{List, [], _∷_, _++_, append-nil}
 use mathlib.Core.Option.{none, some}
-use Prim.Native.Nat.{ℕ, _+_, _^_, _≤_, _<_}
+use Prim.Native.Nat.{ℕ, _+_, _*_, _-_, _^_, _≤_, _<_}
 use native.Mathlib.Omega.{arith}
 use native.Mathlib.Decide.{ℕ-discrete}
 use lib.Dec.{eqb}
-use lib.ListN.{length, getD, drop, replicate, length-replicate, replicate-append-replicate, getD-replicate, List·getD-append}
+use lib.ListN.{length, getD, take, drop, replicate, length-append, length-replicate, take-append-drop, replicate-append-replicate, getD-replicate, List·getD-append}
+use lib.Seq.{length-take-le, getD-append-add}
 use Rattle.theory.specs.Sets.{pick}
 use Rattle.theory.specs.Counting.{lt-or-le}
 use Rattle.wire.specs.Wire.{readLe, bytes, splice}
 use Rattle.wire.proofs.Laws.{length-splice, splice-two, read-one}
 use Rattle.sets.specs.declared.Set.{Set}
 use Rattle.sets.specs.Sets.{inSet, setBytes, readSet, writeSet}
-use Rattle.sent.specs.Sent.{maxAcknowledgments, cells, setsOffset, cellSize, sentSize, cellOf, countPlace, setPlace, flagPlace, checkPlace}
+use Rattle.sent.specs.Sent.{maxAcknowledgments, cells, countsOffset, cellSize, sentSize, cellOf, countPlace, setPlace, flagPlace, checkPlace}
 use Rattle.sent.specs.Sent.{countIn, flagIn, setsFrom, acksIn, checkIn, inTable, acksOf, checksOf, GoodSent}
 use Rattle.sent.specs.Sent.{clearedTo, cleared, written, acknowledgedIn, checkedIn, oneMore, checked, Holds}
 use Rattle.sent.proofs.Cells.{Agree, agree-part, acks-agree, check-agree, length-written, number-kept, sets-kept}
@@ -68,13 +69,14 @@ module _ (k : ℕ) {b b′ : List ℕ} (old : GoodSent b) (size : length b′ �
 elsewhere : (b : List ℕ) (p : ℕ) (s : Set) (q x k m : ℕ) → length b ≡ sentSize → k < cells → m < cells → setPlace k 0 ≤ p → p + setBytes ≤ setPlace k 0 + cellSize
     → (q ≡ countPlace k) ⊎ (q ≡ flagPlace k) → (m ≡ k → ⊥) → Same b (written b p s q x) m
 elsewhere b p s q x k m size inside there lo hi at n =
-    let before : q < setsOffset = ⊎-elim (λ e. omega arith) (λ e. omega arith) at in
+    let lower : countsOffset ≤ q = ⊎-elim (λ e. omega arith) (λ e. omega arith) at in
+    let upper : q < sentSize = ⊎-elim (λ e. omega arith) (λ e. omega arith) at in
     let apart : (setPlace m 0 + cellSize ≤ p) ⊎ (p + setBytes ≤ setPlace m 0) =
     ⊎-elim {C = (setPlace m 0 + cellSize ≤ p) ⊎ (p + setBytes ≤ setPlace m 0)} (λ l. inl (omega arith)) (λ l. inr (omega arith)) (lt-or-le m k) in
     record {
-      count = number-kept b p s q x size (omega arith) (omega arith) before (countPlace m) (omega arith) (λ e. ⊎-elim (λ f. omega arith) (λ f. omega arith) at);
-      flag = number-kept b p s q x size (omega arith) (omega arith) before (flagPlace m) (omega arith) (λ e. ⊎-elim (λ f. omega arith) (λ f. omega arith) at);
-      sets = sets-kept b p s q x size (omega arith) (omega arith) before (setPlace m 0) (setPlace m 0 + cellSize) (omega arith) apart;
+      count = number-kept b p s q x size (omega arith) lower upper (countPlace m) (omega arith) (λ e. ⊎-elim (λ f. omega arith) (λ f. omega arith) at);
+      flag = number-kept b p s q x size (omega arith) lower upper (flagPlace m) (omega arith) (λ e. ⊎-elim (λ f. omega arith) (λ f. omega arith) at);
+      sets = sets-kept b p s q x size (omega arith) lower upper (setPlace m 0) (setPlace m 0 + cellSize) (omega arith) apart;
     }
 
 module _ (b : List ℕ) (j r : ℕ) (s : Set) (old : GoodSent b) (t : inTable j r ≡ true) (fits : s .bits < 2 ^ 64) where
@@ -143,53 +145,65 @@ checked-bytes b s q e f g = rw (g, f, e, q) refl
 
 pub cleared-none : (b : List ℕ) → b ≡ clearedTo 0 b
 unfolding clearedTo splice
-cleared-none b = refl
+cleared-none b = sym (ap (λ (l : List ℕ). l ++ drop countsOffset b) (append-nil (take countsOffset b)) ∙ take-append-drop countsOffset b)
 
-pub cleared-more : (b : List ℕ) (k : ℕ) {c d : List ℕ} → c ≡ clearedTo k b → d ≡ splice c k (bytes 1 0) → d ≡ clearedTo (k + 1) b
+next-cleared : (b : List ℕ) (k n : ℕ) {c d : List ℕ} → countsOffset ≤ length b → k ≡ countsOffset + n → c ≡ clearedTo n b → d ≡ splice c k (bytes 1 0) → d ≡ clearedTo (n + 1) b
 unfolding clearedTo bytes
-cleared-more b k {c} {d} p q =
-    let e : k ≡ 0 + length (replicate {A = ℕ} k 0) = omega (arith, length-replicate {A = ℕ} k 0) in
-    q ∙ (λ i. splice (p i) (e i) (bytes 1 0)) ∙ splice-two b 0 (replicate k 0) (bytes 1 0) (omega arith) ∙ ap (splice b 0) (replicate-append-replicate k 1 0)
+next-cleared b k n room h p q =
+    let e : k ≡ countsOffset + length (replicate {A = ℕ} n 0) = omega (arith, length-replicate {A = ℕ} n 0) in
+    q ∙ (λ i. splice (p i) (e i) (bytes 1 0)) ∙ splice-two b countsOffset (replicate n 0) (bytes 1 0) room ∙ ap (splice b countsOffset) (replicate-append-replicate n 1 0)
 
-module _ (b : List ℕ) (n : ℕ) (room : n ≤ length b) where
+pub cleared-more : (b : List ℕ) (k : ℕ) {c d : List ℕ} → countsOffset ≤ length b → countsOffset ≤ k → c ≡ clearedTo (k - countsOffset) b → d ≡ splice c k (bytes 1 0)
+    → d ≡ clearedTo (k + 1 - countsOffset) b
+cleared-more b k room h p q =
+    let e : k - countsOffset + 1 ≡ k + 1 - countsOffset = omega arith in
+    next-cleared b k (k - countsOffset) room (omega arith) p q ∙ ap (λ (n : ℕ). clearedTo n b) e
+
+module _ (b : List ℕ) (n : ℕ) (room : countsOffset + n ≤ length b) where
   pub length-cleared : length (clearedTo n b) ≡ length b
   unfolding clearedTo
-  length-cleared = let e = length-replicate {A = ℕ} n 0 in length-splice b 0 (replicate n 0) (omega arith)
+  length-cleared = let e = length-replicate {A = ℕ} n 0 in length-splice b countsOffset (replicate n 0) (omega arith)
 
   -- The bytes cleared are 0.
-  byte-cleared : (m : ℕ) → m < n → getD (clearedTo n b) m 0 ≡ 0
+  byte-cleared : (m : ℕ) → m < n → getD (clearedTo n b) (countsOffset + m) 0 ≡ 0
   unfolding clearedTo splice
   byte-cleared m h =
-      List·getD-append (replicate n 0) (drop (0 + length (replicate {A = ℕ} n 0)) b) 0 m (omega (arith, length-replicate {A = ℕ} n 0)) ∙ getD-replicate n m 0 0 h
+      let sets = take countsOffset b in
+      let zeros = replicate {A = ℕ} n 0 in
+      let e : length sets ≡ countsOffset = length-take-le countsOffset b (omega arith) in
+      List·getD-append (sets ++ zeros) (drop (countsOffset + length zeros) b) 0 (countsOffset + m) (omega (arith, length-append sets zeros, length-replicate {A = ℕ} n 0))
+      ∙ (λ i. getD (sets ++ zeros) (sym e i + m) 0) ∙ getD-append-add sets zeros m 0 ∙ getD-replicate n m 0 0 h
 
-  cleared-at : (m : ℕ) → m < n → readLe 1 (clearedTo n b) m ≡ 0
-  cleared-at m h = read-one (clearedTo n b) m (omega (arith, length-cleared)) ∙ byte-cleared m h
+  cleared-at : (at : ℕ) → countsOffset ≤ at → at < countsOffset + n → readLe 1 (clearedTo n b) at ≡ 0
+  cleared-at at h l =
+      let e : at ≡ countsOffset + (at - countsOffset) = omega arith in
+      read-one (clearedTo n b) at (omega (arith, length-cleared)) ∙ ap (λ (x : ℕ). getD (clearedTo n b) x 0) e ∙ byte-cleared (at - countsOffset) (omega arith)
 
 both-same : {A : Type 0} (t : Bool) (d : A) → pick t d d ≡ d
 both-same true d = refl
 both-same false d = refl
 
 -- Nothing is sent once all counts and flags are cleared.
-pub cleared-holds : (b : List ℕ) (k : ℕ) {b′ : List ℕ} → length b ≡ sentSize → k ≡ setsOffset → b′ ≡ clearedTo k b → Holds b′ (cleared b) (λ j r. []) (λ j r. none)
+pub cleared-holds : (b : List ℕ) (k : ℕ) {b′ : List ℕ} → length b ≡ sentSize → k ≡ sentSize → b′ ≡ clearedTo (k - countsOffset) b → Holds b′ (cleared b) (λ j r. []) (λ j r. none)
 unfolding acksOf checksOf acksIn checkIn setsFrom
 cleared-holds b k h q e =
     let new = cleared b in
-    let at = cleared-at b setsOffset (omega arith) in
-    subst (λ (x : List ℕ). Holds x new (λ j r. []) (λ j r. none)) (sym (e ∙ ap (λ (x : ℕ). clearedTo x b) q))
+    let at = cleared-at b (2 * cells) (omega arith) in
+    subst (λ (x : List ℕ). Holds x new (λ j r. []) (λ j r. none)) (sym (e ∙ ap (λ (x : ℕ). clearedTo (x - countsOffset) b) q))
     (record {
       bytes = refl;
       acks =
           λ i j r.
-          (same-view (acksIn new) (λ m. []) [] (λ m l. ap (λ (n : ℕ). setsFrom n (setPlace m 0) new) (at (countPlace m) (omega arith))) j r ∙ both-same (inTable j r) []) i;
+          (same-view (acksIn new) (λ m. []) [] (λ m l. ap (λ (n : ℕ). setsFrom n (setPlace m 0) new) (at (countPlace m) (omega arith) (omega arith))) j r ∙ both-same (inTable j r) []) i;
       checks =
           λ i j r.
           (same-view (checkIn new) (λ m. none) none
-          (λ m l. ap (λ (n : ℕ). pick (eqb n 1) (some (inSet (readSet new (checkPlace m)))) none) (at (flagPlace m) (omega arith))) j r
+          (λ m l. ap (λ (n : ℕ). pick (eqb n 1) (some (inSet (readSet new (checkPlace m)))) none) (at (flagPlace m) (omega arith) (omega arith))) j r
           ∙ both-same (inTable j r) none) i;
       good =
           record {
-            size = length-cleared b setsOffset (omega arith) ∙ h;
-            counts = λ m l. omega (arith, at (countPlace m) (omega arith));
-            flags = λ m l. omega (arith, at (flagPlace m) (omega arith));
+            size = length-cleared b (2 * cells) (omega arith) ∙ h;
+            counts = λ m l. omega (arith, at (countPlace m) (omega arith) (omega arith));
+            flags = λ m l. omega (arith, at (flagPlace m) (omega arith) (omega arith));
           };
     })

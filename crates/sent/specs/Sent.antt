@@ -1,6 +1,6 @@
 -- What correct sites have sent, in bytes: one cell for each site and round, all rounds of a site together.
 -- A cell has the number of its acknowledgments and a flag, 1 byte each, room for 64 sets of which that many are meant, and the check message's set.
--- The counts of all cells come first, then all flags, then the sets cell by cell, so that what a start clears stands together.
+-- The sets come first, cell by cell, so that each stands at a multiple of 8; then the counts of all cells and then all flags, so that what a start clears stands together.
 -- Assumes nothing.
 use mathlib.Core.Path.{_≡_}
 use mathlib.Core.Bool.{Bool, _&&_}
@@ -30,17 +30,21 @@ maxAcknowledgments = 64
 abbrev pub cells : ℕ
 cells = maxSites * sentRounds
 
--- The sets stand after the counts and the flags.
-abbrev pub setsOffset : ℕ
-setsOffset = 2 * cells
-
 -- The bytes of a cell's sets: 520.
 abbrev pub cellSize : ℕ
 cellSize = (maxAcknowledgments + 1) * setBytes
 
+-- The counts stand after the sets of all cells: from 188,760 on.
+abbrev pub countsOffset : ℕ
+countsOffset = cells * cellSize
+
+-- The flags stand after the counts: from 189,123 on.
+abbrev pub flagsOffset : ℕ
+flagsOffset = countsOffset + cells
+
 -- The bytes of all that is sent: 189,486.
 abbrev pub sentSize : ℕ
-sentSize = setsOffset + cells * cellSize
+sentSize = flagsOffset + cells
 
 -- ---- places
 
@@ -50,15 +54,15 @@ cellOf j r = j * sentRounds + (r - 1)
 
 -- The number of a cell's acknowledgments.
 abbrev pub countPlace : ℕ → ℕ
-countPlace k = k
+countPlace k = countsOffset + k
 
 -- Its flag: 1 where a check message was sent.
 abbrev pub flagPlace : ℕ → ℕ
-flagPlace k = cells + k
+flagPlace k = flagsOffset + k
 
 -- Its sets, oldest first, counted from 0.
 abbrev pub setPlace : ℕ → ℕ → ℕ
-setPlace k n = setsOffset + k * cellSize + n * setBytes
+setPlace k n = k * cellSize + n * setBytes
 
 -- After the last of them stands the check message's set.
 abbrev pub checkPlace : ℕ → ℕ
@@ -124,13 +128,13 @@ pub record Read (m exact : Message) (meant : Option theory.Set) : Type 0 where
 
 -- ---- writes
 
--- The first n bytes are 0, all else is as it was.
+-- The first n bytes from the counts on are 0, all else is as it was.
 unfoldable pub clearedTo : ℕ → List ℕ → List ℕ
-clearedTo n b = splice b 0 (replicate n 0)
+clearedTo n b = splice b countsOffset (replicate n 0)
 
 -- Nothing sent: all counts and flags are 0, the sets are as they were.
 abbrev pub cleared : List ℕ → List ℕ
-cleared b = clearedTo setsOffset b
+cleared b = clearedTo (2 * cells) b
 
 -- A set written at one place and a byte at another.
 unfoldable pub written : List ℕ → ℕ → Set → ℕ → ℕ → List ℕ

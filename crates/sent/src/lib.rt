@@ -23,15 +23,17 @@ impl Message {
     pub const ROUNDS: usize = 33;
     // The acknowledgments of a site and round that there is room for.
     pub const MAX_ACKNOWLEDGMENTS: usize = 64;
-    // The bytes of all that was sent: a count and a flag for each site and round, then their sets.
-    pub const SIZE: usize = Message::SETS + Message::CELLS * Message::CELL;
+    // The bytes of all that was sent: the sets of each site and round, then a count and a flag for each.
+    pub const SIZE: usize = Message::FLAGS + Message::CELLS;
 
-    // A cell for each site and round. The counts of all cells come first, then their flags.
+    // A cell for each site and round.
     const CELLS: usize = SiteTable::MAX_SITES * Message::ROUNDS;
-    // Where the sets start, and the bytes of a cell's: its acknowledgments, then its check message.
-    const SETS: usize = 2 * Message::CELLS;
-
+    // The bytes of a cell's sets: its acknowledgments, then its check message. They come first, so that every set stands at a multiple of 8.
     const CELL: usize = (Message::MAX_ACKNOWLEDGMENTS + 1) * Set::BYTES;
+    // After the sets stand the counts of all cells.
+    const COUNTS: usize = Message::CELLS * Message::CELL;
+    // After the counts stand their flags.
+    const FLAGS: usize = Message::COUNTS + Message::CELLS;
 }
 
 // The cell of a site and round.
@@ -47,7 +49,7 @@ fn set_at(cell: usize, n: usize) -> usize
     requires { ⌜ (cell < cells) × (n ≤ maxAcknowledgments) ⌝ }
     ensures { λ p. ⌜ p ≡ setPlace cell n ⌝ }
 {
-    Message::SETS + cell * Message::CELL + n * Set::BYTES
+    cell * Message::CELL + n * Set::BYTES
 }
 
 // Nothing is sent: the counts and the flags become 0, the sets stay as they were.
@@ -55,8 +57,8 @@ pub fn clear(sent: &mut [u8])
     requires { ⌜ length (now sent) ≡ sentSize ⌝ }
     ensures { λ _. ⌜ Holds (now (sent .exit)) (cleared (now (sent .entry))) (λ j r. []) (λ j r. none) ⌝ }
 {
-    let mut k: usize = 0;
-    while k < Message::SETS {
+    let mut k: usize = Message::COUNTS;
+    while k < Message::SIZE {
         wire::put1(sent, k, 0);
         k += 1;
     }
@@ -68,7 +70,7 @@ pub fn acknowledgment(sent: &[u8], j: usize, r: usize, a: usize) -> Message
     ensures { λ m. ⌜ Read m (acknowledgmentOf (now (sent .entry)) j r a) (nth (acksOf (now (sent .entry)) j r) (pred a)) ⌝ }
 {
     let cell = cell_of(j, r);
-    let count = wire::get1(sent, cell);
+    let count = wire::get1(sent, Message::COUNTS + cell);
     if a > count as usize {
         return Message::Never;
     }
@@ -82,7 +84,7 @@ pub fn check(sent: &[u8], j: usize, r: usize) -> Message
     ensures { λ m. ⌜ Read m (checkOf (now (sent .entry)) j r) (checksOf (now (sent .entry)) j r) ⌝ }
 {
     let cell = cell_of(j, r);
-    let flag = wire::get1(sent, Message::CELLS + cell);
+    let flag = wire::get1(sent, Message::FLAGS + cell);
     if flag != 1 {
         return Message::Never;
     }
@@ -97,10 +99,11 @@ pub fn add_acknowledgment(sent: &mut [u8], j: usize, r: usize, set: Set)
         (oneMore j r (inSet set) (acksOf (now (sent .entry)))) (checksOf (now (sent .entry))) ⌝ }
 {
     let cell = cell_of(j, r);
-    let count = wire::get1(&sent[..], cell);
+    let counted = Message::COUNTS + cell;
+    let count = wire::get1(&sent[..], counted);
     let at = set_at(cell, count as usize);
     set.write(sent, at);
-    wire::put1(sent, cell, count + 1);
+    wire::put1(sent, counted, count + 1);
 }
 
 // A site sends its check message of a round.
@@ -111,5 +114,5 @@ pub fn put_check(sent: &mut [u8], j: usize, r: usize, set: Set)
 {
     let cell = cell_of(j, r);
     set.write(sent, set_at(cell, Message::MAX_ACKNOWLEDGMENTS));
-    wire::put1(sent, Message::CELLS + cell, 1);
+    wire::put1(sent, Message::FLAGS + cell, 1);
 }

@@ -10,6 +10,9 @@ use Rattle.sent.proofs.acknowledgment.Tie as tie
 cell-of-requires : tie.Need-cell-of-requires
 cell-of-requires c κs = search needs
 
+add-get1 : tie.Need-add-get1
+add-get1 c = search needs
+
 get1-requires : tie.Need-get1-requires
 get1-requires c κs = search needs
 
@@ -46,6 +49,7 @@ acknowledgment-spec =
     tie.close
     (tie.spec
     cell-of-requires
+    add-get1
     get1-requires
     cast-if1
     returns

@@ -13,6 +13,9 @@ use Rattle.sent.proofs.add_acknowledgment.Tie as tie
 cell-of-requires : tie.Need-cell-of-requires
 cell-of-requires c κs = search needs
 
+add-counted : tie.Need-add-counted
+add-counted c = search needs
+
 get1-requires : tie.Need-get1-requires
 get1-requires c κs = search needs
 
@@ -61,6 +64,7 @@ add-acknowledgment-spec =
     tie.close
     (tie.spec
     cell-of-requires
+    add-counted
     get1-requires
     cast-set-at
     set-at-requires
