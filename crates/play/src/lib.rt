@@ -116,7 +116,7 @@ fn play_on(
     let mut at: usize = 0;
     let mut number: usize = 1;
     while at < n {
-        let reading = steps::read_step(&steps[at..]);
+        let reading = steps::read_step(steps, at);
         let size = extent(reading, n - at);
         let stepped = carry_out(
             sites,

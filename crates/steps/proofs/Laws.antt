@@ -2,14 +2,15 @@
 -- Assumes nothing.
 use mathlib.Core.Path.{_≡_, refl, sym, ap, subst, _∙_}
 use mathlib.Core.List.{List, [], _∷_, _++_}
-use Prim.Native.Nat.{ℕ, zero, suc, _+_, _-_, _≤_, _<_}
+use Prim.Native.Nat.{ℕ, zero, suc, _+_, _≤_, _<_}
 use native.Mathlib.Omega.{arith}
 use borrow.Author.Tests.{le-leb, lt-leb}
-use lib.ListN.{length, take, drop}
-use Rattle.wire.specs.Wire.{splice}
-use Rattle.wire.proofs.Laws.{splice-two, part-all}
+use lib.ListN.{length, take, drop, length-drop}
+use lib.Seq.{drop-drop, getD-drop}
+use Rattle.wire.specs.Wire.{value, readLe, splice}
+use Rattle.wire.proofs.Laws.{splice-two}
 use Rattle.sets.specs.declared.Set.{Set}
-use Rattle.sets.specs.Sets.{readSet}
+use Rattle.sets.specs.Sets.{setBytes, readSet}
 use Rattle.steps.specs.declared.Step.{Step}
 use Rattle.steps.specs.declared.Step.the-variants.{FalseAcknowledgment, FalseCheck, FalseEntry}
 use Rattle.steps.specs.declared.Reading.{Reading}
@@ -22,7 +23,7 @@ pub whole : (s : List ℕ) (t : Step) → sizeOf t ≤ length s → Whole t ≡ 
 unfolding uncut
 whole s t h = rw (le-leb (sizeOf t) (length s) h) refl
 
-pub cut : (s : List ℕ) (t : Step) → length s < sizeOf t → Unreadable ≡ uncut s t
+cut : (s : List ℕ) (t : Step) → length s < sizeOf t → Unreadable ≡ uncut s t
 unfolding uncut
 cut s t h = rw (lt-leb (sizeOf t) (length s) h) refl
 
@@ -39,14 +40,35 @@ module _ (s : List ℕ) where
   unfolding readAs
   whole-6 e g h = rw (e, g) (whole s (FalseEntry (byte s 1) (byte s 2) (readSet s 3) (readSet s 11)) h)
 
-pub of-code : (s : List ℕ) (k : ℕ) {r : Reading} → byte s 0 ≡ k → r ≡ readAs k s → r ≡ readStep s
-unfolding readStep
-of-code s k e q = q ∙ ap (λ (n : ℕ). readAs n s) (sym e)
-
-pub no-bytes : (s : List ℕ) → length s ≡ 0 → Unreadable ≡ readStep s
+-- No bytes are no step.
+none : (s : List ℕ) → length s ≡ 0 → Unreadable ≡ readStep s
 unfolding readStep readAs
-no-bytes [] h = refl
-no-bytes (b ∷ s) h = absurd (omega arith)
+none [] h = refl
+none (b ∷ s) h = absurd (omega arith)
+
+-- The step that stands at a position is read from the bytes from there on.
+module _ (s : List ℕ) (at : ℕ) where
+  pub byte-at : (k : ℕ) → byte s (at + k) ≡ byte (drop at s) k
+  byte-at k = sym (getD-drop at s k 0)
+
+  pub set-at : (k : ℕ) {x : Set} → x ≡ readSet s (at + k) → x ≡ readSet (drop at s) k
+  unfolding readSet readLe
+  set-at k e = e ∙ ap (λ (l : List ℕ). record { bits = value (take setBytes l) }) (sym (drop-drop k at s))
+
+  pub whole-at : {t u : Step} → t ≡ u → at + sizeOf u ≤ length s → Whole t ≡ uncut (drop at s) u
+  whole-at {t} {u} e h = ap Whole e ∙ whole (drop at s) u (omega (arith, length-drop at s))
+
+  pub cut-at : (t : Step) → at ≤ length s → length s < at + sizeOf t → Unreadable ≡ uncut (drop at s) t
+  cut-at t g h = cut (drop at s) t (omega (arith, length-drop at s))
+
+  pub of-code : (k : ℕ) {r : Reading} → byte s at ≡ k → r ≡ readAs k (drop at s) → r ≡ readStep (drop at s)
+  unfolding readStep
+  of-code k e q =
+      let z : at ≡ at + 0 = omega arith in
+      q ∙ ap (λ (n : ℕ). readAs n (drop at s)) (sym e ∙ ap (λ (n : ℕ). byte s n) z ∙ byte-at 0)
+
+  pub no-bytes : length s ≤ at → Unreadable ≡ readStep (drop at s)
+  no-bytes h = none (drop at s) (omega (arith, length-drop at s))
 
 -- The codes are 01 to 0A.
 pub no-code : (s : List ℕ) (k : ℕ) → (k ≡ 1 → ⊥) → (k ≡ 2 → ⊥) → (k ≡ 3 → ⊥) → (k ≡ 4 → ⊥) → (k ≡ 5 → ⊥) → (k ≡ 6 → ⊥) → (k ≡ 7 → ⊥) → (k ≡ 8 → ⊥) → (k ≡ 9 → ⊥) → (k ≡ 10 → ⊥)
@@ -64,10 +86,6 @@ no-code s (suc (suc (suc (suc (suc (suc (suc (suc zero)))))))) n₁ n₂ n₃ n�
 no-code s (suc (suc (suc (suc (suc (suc (suc (suc (suc zero))))))))) n₁ n₂ n₃ n₄ n₅ n₆ n₇ n₈ n₉ n₁₀ = absurd (n₉ refl)
 no-code s (suc (suc (suc (suc (suc (suc (suc (suc (suc (suc zero)))))))))) n₁ n₂ n₃ n₄ n₅ n₆ n₇ n₈ n₉ n₁₀ = absurd (n₁₀ refl)
 no-code s (suc (suc (suc (suc (suc (suc (suc (suc (suc (suc (suc k))))))))))) n₁ n₂ n₃ n₄ n₅ n₆ n₇ n₈ n₉ n₁₀ = refl
-
--- The code reads the front of the part from a position on.
-pub read-at : (s : List ℕ) (at : ℕ) {r q : Reading} → r ≡ readStep (take (length s - at) (drop at s)) → r ≡ q → readStep (drop at s) ≡ q
-read-at s at e w = ap readStep (sym (part-all s at)) ∙ sym e ∙ w
 
 -- ---- writing
 

@@ -2,7 +2,7 @@
 ghost use mathlib.Core.Path.{_≡_};
 ghost use Prim.Native.Nat.{_+_, _≤_};
 ghost use mathlib.Core.List.{_∷_, [], _++_};
-ghost use lib.ListN.{length};
+ghost use lib.ListN.{length, drop};
 ghost use Rattle.wire.specs.Wire.{splice};
 ghost use Rattle.sets.specs.Sets.{setBytes};
 ghost use Rattle.steps.specs.Steps.{sizeOf, readAs, readStep, setOperand, encodeStep};
@@ -68,7 +68,7 @@ pub enum Step {
     },
 }
 
-// What stands at the front of some bytes. Unreadable is refusal 3.
+// What stands at a position of some bytes. Unreadable is refusal 3.
 pub enum Reading {
     Whole(Step),
     Unreadable,
@@ -93,28 +93,30 @@ pub fn size(step: Step) -> usize
 }
 
 // 01 i m
-fn read_command(bytes: &[u8]) -> Reading
-    ensures { λ r. ⌜ r ≡ readAs 1 (now (bytes .entry)) ⌝ }
+fn read_command(bytes: &[u8], at: usize) -> Reading
+    requires { ⌜ at ≤ length (now bytes) ⌝ }
+    ensures { λ r. ⌜ r ≡ readAs 1 (drop at (now (bytes .entry))) ⌝ }
 {
-    if bytes.len() < 3 {
+    if at + 3 > bytes.len() {
         return Reading::Unreadable;
     }
-    let site = bytes[1];
-    let command = bytes[2];
+    let site = bytes[at + 1];
+    let command = bytes[at + 2];
     Reading::Whole(Step::Command { site, command })
 }
 
 // 02 i j r a
-fn read_acknowledgment(bytes: &[u8]) -> Reading
-    ensures { λ r. ⌜ r ≡ readAs 2 (now (bytes .entry)) ⌝ }
+fn read_acknowledgment(bytes: &[u8], at: usize) -> Reading
+    requires { ⌜ at ≤ length (now bytes) ⌝ }
+    ensures { λ r. ⌜ r ≡ readAs 2 (drop at (now (bytes .entry))) ⌝ }
 {
-    if bytes.len() < 5 {
+    if at + 5 > bytes.len() {
         return Reading::Unreadable;
     }
-    let site = bytes[1];
-    let from = bytes[2];
-    let round = bytes[3];
-    let number = bytes[4];
+    let site = bytes[at + 1];
+    let from = bytes[at + 2];
+    let round = bytes[at + 3];
+    let number = bytes[at + 4];
     Reading::Whole(Step::Acknowledgment {
         site,
         from,
@@ -124,29 +126,31 @@ fn read_acknowledgment(bytes: &[u8]) -> Reading
 }
 
 // 03 i j r
-fn read_check(bytes: &[u8]) -> Reading
-    ensures { λ r. ⌜ r ≡ readAs 3 (now (bytes .entry)) ⌝ }
+fn read_check(bytes: &[u8], at: usize) -> Reading
+    requires { ⌜ at ≤ length (now bytes) ⌝ }
+    ensures { λ r. ⌜ r ≡ readAs 3 (drop at (now (bytes .entry))) ⌝ }
 {
-    if bytes.len() < 4 {
+    if at + 4 > bytes.len() {
         return Reading::Unreadable;
     }
-    let site = bytes[1];
-    let from = bytes[2];
-    let round = bytes[3];
+    let site = bytes[at + 1];
+    let from = bytes[at + 2];
+    let round = bytes[at + 3];
     Reading::Whole(Step::Check { site, from, round })
 }
 
 // 04 i j r set
-fn read_false_acknowledgment(bytes: &[u8]) -> Reading
-    ensures { λ r. ⌜ r ≡ readAs 4 (now (bytes .entry)) ⌝ }
+fn read_false_acknowledgment(bytes: &[u8], at: usize) -> Reading
+    requires { ⌜ at ≤ length (now bytes) ⌝ }
+    ensures { λ r. ⌜ r ≡ readAs 4 (drop at (now (bytes .entry))) ⌝ }
 {
-    if bytes.len() < 12 {
+    if at + 12 > bytes.len() {
         return Reading::Unreadable;
     }
-    let site = bytes[1];
-    let from = bytes[2];
-    let round = bytes[3];
-    let set = Set::read(bytes, 4);
+    let site = bytes[at + 1];
+    let from = bytes[at + 2];
+    let round = bytes[at + 3];
+    let set = Set::read(bytes, at + 4);
     Reading::Whole(Step::FalseAcknowledgment {
         site,
         from,
@@ -156,16 +160,17 @@ fn read_false_acknowledgment(bytes: &[u8]) -> Reading
 }
 
 // 05 i j r set
-fn read_false_check(bytes: &[u8]) -> Reading
-    ensures { λ r. ⌜ r ≡ readAs 5 (now (bytes .entry)) ⌝ }
+fn read_false_check(bytes: &[u8], at: usize) -> Reading
+    requires { ⌜ at ≤ length (now bytes) ⌝ }
+    ensures { λ r. ⌜ r ≡ readAs 5 (drop at (now (bytes .entry))) ⌝ }
 {
-    if bytes.len() < 12 {
+    if at + 12 > bytes.len() {
         return Reading::Unreadable;
     }
-    let site = bytes[1];
-    let from = bytes[2];
-    let round = bytes[3];
-    let set = Set::read(bytes, 4);
+    let site = bytes[at + 1];
+    let from = bytes[at + 2];
+    let round = bytes[at + 3];
+    let set = Set::read(bytes, at + 4);
     Reading::Whole(Step::FalseCheck {
         site,
         from,
@@ -175,83 +180,89 @@ fn read_false_check(bytes: &[u8]) -> Reading
 }
 
 // 06 j r NC C
-fn read_false_entry(bytes: &[u8]) -> Reading
-    ensures { λ r. ⌜ r ≡ readAs 6 (now (bytes .entry)) ⌝ }
+fn read_false_entry(bytes: &[u8], at: usize) -> Reading
+    requires { ⌜ at ≤ length (now bytes) ⌝ }
+    ensures { λ r. ⌜ r ≡ readAs 6 (drop at (now (bytes .entry))) ⌝ }
 {
-    if bytes.len() < 19 {
+    if at + 19 > bytes.len() {
         return Reading::Unreadable;
     }
-    let from = bytes[1];
-    let round = bytes[2];
-    let nc = Set::read(bytes, 3);
-    let c = Set::read(bytes, 11);
+    let from = bytes[at + 1];
+    let round = bytes[at + 2];
+    let nc = Set::read(bytes, at + 3);
+    let c = Set::read(bytes, at + 11);
     Reading::Whole(Step::FalseEntry { from, round, nc, c })
 }
 
 // 07 i
-fn read_turn(bytes: &[u8]) -> Reading
-    ensures { λ r. ⌜ r ≡ readAs 7 (now (bytes .entry)) ⌝ }
+fn read_turn(bytes: &[u8], at: usize) -> Reading
+    requires { ⌜ at ≤ length (now bytes) ⌝ }
+    ensures { λ r. ⌜ r ≡ readAs 7 (drop at (now (bytes .entry))) ⌝ }
 {
-    if bytes.len() < 2 {
+    if at + 2 > bytes.len() {
         return Reading::Unreadable;
     }
-    let site = bytes[1];
+    let site = bytes[at + 1];
     Reading::Whole(Step::Turn { site })
 }
 
 // 08 i m
-fn read_fast_delivery(bytes: &[u8]) -> Reading
-    ensures { λ r. ⌜ r ≡ readAs 8 (now (bytes .entry)) ⌝ }
+fn read_fast_delivery(bytes: &[u8], at: usize) -> Reading
+    requires { ⌜ at ≤ length (now bytes) ⌝ }
+    ensures { λ r. ⌜ r ≡ readAs 8 (drop at (now (bytes .entry))) ⌝ }
 {
-    if bytes.len() < 3 {
+    if at + 3 > bytes.len() {
         return Reading::Unreadable;
     }
-    let site = bytes[1];
-    let command = bytes[2];
+    let site = bytes[at + 1];
+    let command = bytes[at + 2];
     Reading::Whole(Step::FastDelivery { site, command })
 }
 
 // 09 i
-fn read_log_read(bytes: &[u8]) -> Reading
-    ensures { λ r. ⌜ r ≡ readAs 9 (now (bytes .entry)) ⌝ }
+fn read_log_read(bytes: &[u8], at: usize) -> Reading
+    requires { ⌜ at ≤ length (now bytes) ⌝ }
+    ensures { λ r. ⌜ r ≡ readAs 9 (drop at (now (bytes .entry))) ⌝ }
 {
-    if bytes.len() < 2 {
+    if at + 2 > bytes.len() {
         return Reading::Unreadable;
     }
-    let site = bytes[1];
+    let site = bytes[at + 1];
     Reading::Whole(Step::LogRead { site })
 }
 
 // 0A i
-fn read_round_end(bytes: &[u8]) -> Reading
-    ensures { λ r. ⌜ r ≡ readAs 10 (now (bytes .entry)) ⌝ }
+fn read_round_end(bytes: &[u8], at: usize) -> Reading
+    requires { ⌜ at ≤ length (now bytes) ⌝ }
+    ensures { λ r. ⌜ r ≡ readAs 10 (drop at (now (bytes .entry))) ⌝ }
 {
-    if bytes.len() < 2 {
+    if at + 2 > bytes.len() {
         return Reading::Unreadable;
     }
-    let site = bytes[1];
+    let site = bytes[at + 1];
     Reading::Whole(Step::RoundEnd { site })
 }
 
-// The step at the front of some bytes.
-pub fn read_step(bytes: &[u8]) -> Reading
-    ensures { λ r. ⌜ r ≡ readStep (now (bytes .entry)) ⌝ }
+// The step that stands at a position.
+pub fn read_step(bytes: &[u8], at: usize) -> Reading
+    requires { ⌜ at ≤ length (now bytes) ⌝ }
+    ensures { λ r. ⌜ r ≡ readStep (drop at (now (bytes .entry))) ⌝ }
 {
-    if bytes.len() == 0 {
+    if at >= bytes.len() {
         return Reading::Unreadable;
     }
-    let code = bytes[0];
+    let code = bytes[at];
     match code {
-        1 => read_command(bytes),
-        2 => read_acknowledgment(bytes),
-        3 => read_check(bytes),
-        4 => read_false_acknowledgment(bytes),
-        5 => read_false_check(bytes),
-        6 => read_false_entry(bytes),
-        7 => read_turn(bytes),
-        8 => read_fast_delivery(bytes),
-        9 => read_log_read(bytes),
-        10 => read_round_end(bytes),
+        1 => read_command(bytes, at),
+        2 => read_acknowledgment(bytes, at),
+        3 => read_check(bytes, at),
+        4 => read_false_acknowledgment(bytes, at),
+        5 => read_false_check(bytes, at),
+        6 => read_false_entry(bytes, at),
+        7 => read_turn(bytes, at),
+        8 => read_fast_delivery(bytes, at),
+        9 => read_log_read(bytes, at),
+        10 => read_round_end(bytes, at),
         _ => Reading::Unreadable,
     }
 }

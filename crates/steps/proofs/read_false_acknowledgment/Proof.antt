@@ -1,38 +1,66 @@
 -- `steps::read_false_acknowledgment`: code 04, whole or cut.
 -- Assumes nothing.
-use borrow.Author.Needs.{needs}
-use Rattle.steps.specs.Steps.{readAs}
-use Rattle.steps.proofs.Laws.{cut, whole-4}
 use native.Mathlib.Omega.{arith}
+use borrow.Author.Needs.{needs}
+use denote.Ref.{now}
+use Rattle.steps.specs.declared.Step.the-variants.{FalseAcknowledgment}
+use Rattle.steps.specs.Steps.{readAs}
+use Rattle.steps.proofs.Laws.{byte-at, set-at, whole-at, cut-at}
 use Rattle.steps.proofs.read_false_acknowledgment.Statement.{statement}
 use Rattle.steps.proofs.read_false_acknowledgment.Tie as tie
 
+add-if1 : tie.Need-add-if1
+add-if1 c = search needs
+
 returns : tie.Need-returns
 unfolding readAs
-returns c = cut _ _ (omega arith)
+returns c = let a = c .before .before .args in cut-at (now (a .bytes)) (a .at) _ (omega arith) (omega arith)
+
+add-site : tie.Need-add-site
+add-site c = search needs
 
 shared-slice-read-site : tie.Need-shared-slice-read-site
 shared-slice-read-site c = search needs
 
+add-from : tie.Need-add-from
+add-from c = search needs
+
 shared-slice-read-from : tie.Need-shared-slice-read-from
 shared-slice-read-from c = search needs
 
+add-round : tie.Need-add-round
+add-round c = search needs
+
 shared-slice-read-round : tie.Need-shared-slice-read-round
 shared-slice-read-round c = search needs
+
+add-read : tie.Need-add-read
+add-read c = search needs
 
 read-requires : tie.Need-read-requires
 read-requires c κs = search needs
 
 returns-2 : tie.Need-returns-2
-returns-2 c = whole-4 _ (c .read .ensures) (omega arith)
+unfolding readAs
+returns-2 c =
+    let a = c .before .before .before .before .before .before .args in
+    let s = now (a .bytes) in
+    let b = byte-at s (a .at) in
+    let x = set-at s (a .at) 4 (c .read .ensures) in
+    whole-at s (a .at) (λ i. FalseAcknowledgment (b 1 i) (b 2 i) (b 3 i) (x i)) (omega arith)
 
 pub read-false-acknowledgment-spec : {M : Type 1} → statement M
 read-false-acknowledgment-spec =
     tie.close
     (tie.spec
+    add-if1
     returns
+    add-site
     shared-slice-read-site
+    add-from
     shared-slice-read-from
+    add-round
     shared-slice-read-round
+    add-read
     read-requires
     returns-2)

@@ -3,12 +3,13 @@
 use borrow.Author.Needs.{needs}
 use mathlib.Core.Path.{refl}
 use native.Mathlib.Omega.{arith}
+use denote.Ref.{now}
 use Rattle.steps.proofs.Laws.{of-code, no-bytes, no-code}
 use Rattle.steps.proofs.read_step.Statement.{statement}
 use Rattle.steps.proofs.read_step.Tie as tie
 
 returns : tie.Need-returns
-returns c = no-bytes _ (omega arith)
+returns c = let a = c .before .before .args in no-bytes (now (a .bytes)) (a .at) (omega arith)
 
 shared-slice-read-code : tie.Need-shared-slice-read-code
 shared-slice-read-code c = search needs
@@ -44,37 +45,41 @@ read-round-end-requires : tie.Need-read-round-end-requires
 read-round-end-requires c κs = search needs
 
 returns-2 : tie.Need-returns-2
-returns-2 c = of-code _ 1 (c .before .match .keys1) (c .read-command .ensures)
+returns-2 c = let a = c .before .before .before .before .before .args in of-code (now (a .bytes)) (a .at) 1 (c .before .match .keys1) (c .read-command .ensures)
 
 returns-3 : tie.Need-returns-3
-returns-3 c = of-code _ 2 (c .before .match .keys2) (c .read-acknowledgment .ensures)
+returns-3 c = let a = c .before .before .before .before .before .args in of-code (now (a .bytes)) (a .at) 2 (c .before .match .keys2) (c .read-acknowledgment .ensures)
 
 returns-4 : tie.Need-returns-4
-returns-4 c = of-code _ 3 (c .before .match .keys3) (c .read-check .ensures)
+returns-4 c = let a = c .before .before .before .before .before .args in of-code (now (a .bytes)) (a .at) 3 (c .before .match .keys3) (c .read-check .ensures)
 
 returns-5 : tie.Need-returns-5
-returns-5 c = of-code _ 4 (c .before .match .keys4) (c .read-false-acknowledgment .ensures)
+returns-5 c = let a = c .before .before .before .before .before .args in of-code (now (a .bytes)) (a .at) 4 (c .before .match .keys4) (c .read-false-acknowledgment .ensures)
 
 returns-6 : tie.Need-returns-6
-returns-6 c = of-code _ 5 (c .before .match .keys5) (c .read-false-check .ensures)
+returns-6 c = let a = c .before .before .before .before .before .args in of-code (now (a .bytes)) (a .at) 5 (c .before .match .keys5) (c .read-false-check .ensures)
 
 returns-7 : tie.Need-returns-7
-returns-7 c = of-code _ 6 (c .before .match .keys6) (c .read-false-entry .ensures)
+returns-7 c = let a = c .before .before .before .before .before .args in of-code (now (a .bytes)) (a .at) 6 (c .before .match .keys6) (c .read-false-entry .ensures)
 
 returns-8 : tie.Need-returns-8
-returns-8 c = of-code _ 7 (c .before .match .keys7) (c .read-turn .ensures)
+returns-8 c = let a = c .before .before .before .before .before .args in of-code (now (a .bytes)) (a .at) 7 (c .before .match .keys7) (c .read-turn .ensures)
 
 returns-9 : tie.Need-returns-9
-returns-9 c = of-code _ 8 (c .before .match .keys8) (c .read-fast-delivery .ensures)
+returns-9 c = let a = c .before .before .before .before .before .args in of-code (now (a .bytes)) (a .at) 8 (c .before .match .keys8) (c .read-fast-delivery .ensures)
 
 returns-10 : tie.Need-returns-10
-returns-10 c = of-code _ 9 (c .before .match .keys9) (c .read-log-read .ensures)
+returns-10 c = let a = c .before .before .before .before .before .args in of-code (now (a .bytes)) (a .at) 9 (c .before .match .keys9) (c .read-log-read .ensures)
 
 returns-11 : tie.Need-returns-11
-returns-11 c = of-code _ 10 (c .before .match .keys10) (c .read-round-end .ensures)
+returns-11 c = let a = c .before .before .before .before .before .args in of-code (now (a .bytes)) (a .at) 10 (c .before .match .keys10) (c .read-round-end .ensures)
 
 returns-12 : tie.Need-returns-12
-returns-12 c = let r = c .match .rest in of-code _ _ refl (no-code _ _ (r .0 .0 .0 .0 .0 .0 .0 .0 .0 .1) (r .0 .0 .0 .0 .0 .0 .0 .0 .1) (r .0 .0 .0 .0 .0 .0 .0 .1) (r .0 .0 .0 .0 .0 .0 .1) (r .0 .0 .0 .0 .0 .1) (r .0 .0 .0 .0 .1) (r .0 .0 .0 .1) (r .0 .0 .1) (r .0 .1) (r .1))
+returns-12 c =
+    let a = c .before .before .before .before .args in
+    let r = c .match .rest in
+    of-code (now (a .bytes)) (a .at) _ refl
+    (no-code _ _ (r .0 .0 .0 .0 .0 .0 .0 .0 .0 .1) (r .0 .0 .0 .0 .0 .0 .0 .0 .1) (r .0 .0 .0 .0 .0 .0 .0 .1) (r .0 .0 .0 .0 .0 .0 .1) (r .0 .0 .0 .0 .0 .1) (r .0 .0 .0 .0 .1) (r .0 .0 .0 .1) (r .0 .0 .1) (r .0 .1) (r .1))
 
 pub read-step-spec : {M : Type 1} → statement M
 read-step-spec =
