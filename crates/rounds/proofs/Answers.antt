@@ -14,7 +14,6 @@ use borrow.Author.Tests.{lt-ltb, le-ltb, le-leb, lt-leb, eq-eqb}
 use Rattle.theory.specs.Sets.{pick}
 use Rattle.theory.specs.Counting.{both, not-true, last-or-below}
 use Rattle.sets.specs.declared.Set.{Set}
-use Rattle.sets.specs.Sets.{withOf}
 use Rattle.table.specs.declared.SiteTable.{SiteTable}
 use Rattle.table.specs.Table.{isGood}
 use Rattle.protocol.specs.Recovery.{Tally, Log, decide}
@@ -82,15 +81,12 @@ module _ (t : SiteTable) (rows log : List ℕ) (k r : ℕ) where
     module _ (z : x .decided ≡ 0) where
       pub standing-own : entryOf log k .round ≡ r → entryOf log k .site < t .sites → {s : Standing}
           → s ≡ withEntry t rows r (k + 1) (entryOf log k) (record { seen = x .once; valid = x .valid; decided = false; entries = k })
-          → (s ≡ standingOf t rows r log (k + 1)) × (s .seen ≡ withOf (x .once) (entryOf log k .site)) × (s .entries ≡ k + 1)
+          → s ≡ standingOf t rows r log (k + 1)
       standing-own er ls es =
           let e = entryOf log k in
-          let m = es ∙ entry-marks e (record { seen = x .once; valid = x .valid; decided = false; entries = k }) er ls in (
-            m ∙ sym (same-marked e (standingOf t rows r log k) (h .seen z) (h .valid z)) ∙ sym (entry-marks e (standingOf t rows r log k) er ls)
-                ∙ standing-next (h .waits z),
-            ap (λ (s : Standing). s .seen) m,
-            ap (λ (s : Standing). s .entries) m,
-          )
+          es ∙ entry-marks e (record { seen = x .once; valid = x .valid; decided = false; entries = k }) er ls
+          ∙ sym (same-marked e (standingOf t rows r log k) (h .seen z) (h .valid z)) ∙ sym (entry-marks e (standingOf t rows r log k) er ls)
+          ∙ standing-next (h .waits z)
 
       -- and with one of another.
       standing-other : (entryOf log k .round ≡ r → ⊥) → standingOf t rows r log k ≡ standingOf t rows r log (k + 1)

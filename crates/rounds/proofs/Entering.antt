@@ -1,91 +1,127 @@
 -- The round of an entry that is taken in: one law for each answer of the code.
 -- Assumes nothing.
-use mathlib.Core.Path.{_≡_, sym, ap, _∙_, subst}
+use mathlib.Core.Path.{_≡_, refl, sym, ap, _∙_, subst}
 use mathlib.Core.Bool.{Bool, true, false, not}
 use mathlib.Core.List.{List}
-use Prim.Native.Nat.{ℕ, _+_, _-_, _≤_, _<_}
+use Prim.Native.Nat.{ℕ, _+_, _<_}
+use native.Mathlib.Decide.{ℕ-discrete}
 use native.Mathlib.Omega.{arith}
+use lib.Dec.{eqb}
+use borrow.Author.Tests.{eq-eqb, ne-eqb}
+use Rattle.theory.specs.Sets.{pick}
 use Rattle.sets.specs.declared.Set.{Set}
-use Rattle.sets.specs.Sets.{inSet, withOf}
+use Rattle.sets.specs.Sets.{inSet, emptyOf, withOf, withoutOf, sizeOf}
 use Rattle.table.specs.declared.SiteTable.{SiteTable}
-use Rattle.table.specs.Table.{isGood}
+use Rattle.table.specs.Table.{isGood, nChkOf}
 use Rattle.table.proofs.Laws.{good-limits}
 use Rattle.calm.specs.Rows.{freeBy}
 use Rattle.entries.specs.Entries.{entryOf}
 use Rattle.standing.specs.declared.Standing.{Standing}
-use Rattle.standing.specs.Standings.{withEntry}
-use Rattle.recovery.specs.declared.Sets.{Sets}
+use Rattle.standing.specs.Standings.{validAfter, standingOf}
+use Rattle.standing.proofs.Steps.{second-entry, first-conflicting, first-valid, entry-marked}
 use Rattle.recovery.specs.Decisions.{foundSets}
 use Rattle.rounds.specs.declared.Round.{Round}
-use Rattle.rounds.specs.Rounds.{countedOf, Counts, Decides}
-use Rattle.rounds.proofs.Sites.{counts-more}
+use Rattle.rounds.specs.Rounds.{notedOf, againOf, decidedOf, Counts, Decides}
+use Rattle.rounds.proofs.Waiting.{with-member, less-fewer, too-few}
+use Rattle.rounds.proofs.Sites.{counts-first, counts-again}
 use Rattle.rounds.proofs.Answers.{standing-own, decided-stays, still-waits, now-decided}
 
-module _ (t : SiteTable) (rows log : List ℕ) (k r : ℕ) (x : Round) (good : isGood t ≡ true) (ls : entryOf log k .site < t .sites)
+-- A round with other valid sources.
+abbrev pub withValid : Round → Set → Round
+withValid x v =
+    record { once = x .once; twice = x .twice; valid = v; decided = x .decided; nc = x .nc; c = x .c; first = x .first }
+
+module _ (t : SiteTable) (rows log : List ℕ) (k r : ℕ) (x : Round) (good : isGood t ≡ true)
     (er : entryOf log k .round ≡ r) (hc : Counts log k r x) (hd : Decides log k r t rows x)
-    {site : ℕ} (es : site ≡ entryOf log k .site) {y : Round} (ey : y ≡ countedOf x site (k + 1)) where
-  noted : Counts log (k + 1) r y
-  noted =
-      let few = good-limits t good .sites in
-      subst (λ (w : Round). Counts log (k + 1) r w) (sym ey) (counts-more log k r x site er (sym es) (omega arith) hc)
+    (site : ℕ) (ls : site < t .sites) (es : site ≡ entryOf log k .site) where
+  -- The sources of a round that waits, without the entry and with it.
+  abbrev waiting : Standing
+  waiting = record { seen = x .once; valid = x .valid; decided = false; entries = k }
 
-  -- The place of the first is no 0, and no entry of the round is before it.
-  pub some-first : 1 ≤ y .first
-  some-first = noted .first k (omega arith) er .0
+  abbrev after : Set → Standing
+  after v = record { seen = withOf (x .once) site; valid = v; decided = eqb (sizeOf v) (nChkOf t); entries = k + 1 }
 
-  pub from-within : y .first - 1 ≤ k
-  from-within = omega (arith, noted .within)
+  few-valid : x .decided ≡ 0 → sizeOf (x .valid) < nChkOf t
+  few-valid z = subst (λ (v : Set). sizeOf v < nChkOf t) (hd .valid z) (too-few t rows r log good k (hd .waits z))
 
-  pub none-before : (i : ℕ) → i < y .first - 1 → entryOf log i .round ≡ r → ⊥
-  none-before i l e =
-      let w = noted .first i (omega (arith, noted .within)) e in
-      absurd (omega arith)
+  stands : x .decided ≡ 0 → {v : Set} → v ≡ validAfter rows site (entryOf log k .nc) waiting
+      → after v ≡ standingOf t rows r log (k + 1)
+  stands z ev =
+      standing-own t rows log k r x hd z er (omega arith)
+      (entry-marked t rows r (k + 1) (entryOf log k) waiting refl er es ls ev refl refl refl)
 
-  -- A decided round.
-  pub entered-decided : (x .decided ≡ 0 → ⊥) → Counts log (k + 1) r y × Decides log (k + 1) r t rows y
-  entered-decided n =
-      let c = countedOf x site (k + 1) in (
-        noted,
-        subst (λ (w : Round). Decides log (k + 1) r t rows w) (sym ey)
-            (decided-stays t rows log k r x hd (omega arith) (c .once) (c .twice) (c .first)),
-      )
+  -- ---- a site's first entry
 
-  -- A round that waits, with the entry whose NC was tested.
-  module _ (z : x .decided ≡ 0) {nc : Set} (en : nc ≡ entryOf log k .nc) {f : Bool} (ef : f ≡ freeBy rows (inSet nc)) {s : Standing}
-      (ew : (rows : List ℕ) → f ≡ freeBy rows (inSet (entryOf log k .nc))
-      → s ≡ withEntry t rows r (k + 1) (entryOf log k) (record { seen = x .once; valid = x .valid; decided = false; entries = k })) where
-    added : s ≡ withEntry t rows r (k + 1) (entryOf log k) (record { seen = x .once; valid = x .valid; decided = false; entries = k })
-    added = ew rows (ef ∙ ap (λ (y : Set). freeBy rows (inSet y)) en)
+  module _ (n : inSet (x .once) site ≡ false) where
+    pub noted : Counts log (k + 1) r (notedOf x site (k + 1))
+    noted = let l = good-limits t good .sites in counts-first log k r x site er (sym es) (omega arith) hc n
 
-    -- One that the entry leaves undecided.
-    pub entered-waiting : not (s .decided) ≡ true
-        → Counts log (k + 1) r (record { once = y .once; twice = y .twice; valid = s .valid; decided = y .decided; nc = y .nc; c = y .c; first = y .first })
-        × Decides log (k + 1) r t rows (record { once = y .once; twice = y .twice; valid = s .valid; decided = y .decided; nc = y .nc; c = y .c; first = y .first })
-    entered-waiting d =
-        let own = standing-own t rows log k r x hd z er ls added in
-        let seen : s .seen ≡ y .once = own .1 ∙ ap (withOf (x .once)) (sym es) ∙ ap (λ (w : Round). w .once) (sym ey) in
-        let same : _≡_ {A = Round} (record { once = s .seen; twice = y .twice; valid = s .valid; decided = x .decided; nc = x .nc; c = x .c; first = y .first })
-        (record { once = y .once; twice = y .twice; valid = s .valid; decided = y .decided; nc = y .nc; c = y .c; first = y .first }) =
-        λ i. record {
-          once = seen i;
-          twice = y .twice;
-          valid = s .valid;
-          decided = sym ey i .decided;
-          nc = sym ey i .nc;
-          c = sym ey i .c;
-          first = y .first;
-        } in (
-          record { once = noted .once; twice = noted .twice; first = noted .first; within = noted .within },
-          subst (λ (w : Round). Decides log (k + 1) r t rows w) same
-              (still-waits t rows log k r x hd good z (own .0) d (y .twice) (y .first)),
-        )
+    -- A decided round.
+    pub first-decided : (x .decided ≡ 0 → ⊥) → Decides log (k + 1) r t rows (notedOf x site (k + 1))
+    first-decided d = decided-stays t rows log k r x hd (omega arith) (withOf (x .once) site) (x .twice) (notedOf x site (k + 1) .first)
 
-    -- One that it decides.
-    pub entered-deciding : not (s .decided) ≡ false → {found : Sets} → found ≡ foundSets t log r (s .valid) (k + 1)
-        → Counts log (k + 1) r (record { once = y .once; twice = y .twice; valid = s .valid; decided = k + 1; nc = found .nc; c = found .c; first = y .first })
-        × Decides log (k + 1) r t rows (record { once = y .once; twice = y .twice; valid = s .valid; decided = k + 1; nc = found .nc; c = found .c; first = y .first })
-    entered-deciding d {found} ef =
-        let own = standing-own t rows log k r x hd z er ls added in (
-          record { once = noted .once; twice = noted .twice; first = noted .first; within = noted .within },
-          now-decided t rows log k r x hd good z (own .0) d (own .2) found ef (y .once) (y .twice) (s .valid) (y .first),
-        )
+    -- A round that waits, with the entry whose NC was tested.
+    module _ (z : x .decided ≡ 0) {nc : Set} (en : nc ≡ entryOf log k .nc) {f : Bool} (ef : f ≡ freeBy rows (inSet nc)) where
+      tested : f ≡ freeBy rows (inSet (entryOf log k .nc))
+      tested = ef ∙ ap (λ (y : Set). freeBy rows (inSet y)) en
+
+      pub first-unfree : not f ≡ true → Decides log (k + 1) r t rows (notedOf x site (k + 1))
+      first-unfree g =
+          still-waits t rows log k r x hd good z
+          (stands z (first-conflicting rows site (entryOf log k .nc) waiting refl n tested g))
+          (ap not (ne-eqb (sizeOf (x .valid)) (nChkOf t) (λ q. omega (arith, few-valid z))))
+          (x .twice) (notedOf x site (k + 1) .first)
+
+      -- One more valid source.
+      module _ (g : not f ≡ false) {v : Set} (ev : v ≡ withOf (x .valid) site) where
+        more : after v ≡ standingOf t rows r log (k + 1)
+        more =
+            stands z (first-valid rows site (entryOf log k .nc) waiting refl n tested g ev)
+
+        pub first-waiting : (sizeOf v ≡ nChkOf t → ⊥) → Decides log (k + 1) r t rows (withValid (notedOf x site (k + 1)) v)
+        first-waiting d =
+            still-waits t rows log k r x hd good z more (ap not (ne-eqb (sizeOf v) (nChkOf t) d)) (x .twice) (notedOf x site (k + 1) .first)
+
+        pub first-deciding : sizeOf v ≡ nChkOf t
+            → Decides log (k + 1) r t rows (decidedOf (withValid (notedOf x site (k + 1)) v) (k + 1) (foundSets t log r v (k + 1)))
+        first-deciding d =
+            now-decided t rows log k r x hd good z more (ap not (eq-eqb (sizeOf v) (nChkOf t) d)) refl (foundSets t log r v (k + 1)) refl
+            (withOf (x .once) site) (x .twice) v (notedOf x site (k + 1) .first)
+
+  -- ---- another entry of a site
+
+  module _ (n : inSet (x .once) site ≡ true) where
+    pub again-counts : Counts log (k + 1) r (againOf x site)
+    again-counts = let l = good-limits t good .sites in counts-again log k r x site er (sym es) (omega arith) hc n
+
+    pub again-decides : Decides log (k + 1) r t rows (againOf x site)
+    again-decides = go (ℕ-discrete (x .decided) 0)
+      where
+        go : Dec (x .decided ≡ 0) → Decides log (k + 1) r t rows (againOf x site)
+        go (yes z) =
+            let v = withoutOf (x .valid) (withOf emptyOf site) in
+            subst (λ (y : Round). Decides log (k + 1) r t rows y)
+            (λ i. record {
+              once = with-member (x .once) site n i;
+              twice = withOf (x .twice) site;
+              valid = pick (sym (eq-eqb (x .decided) 0 z) i) v (x .valid);
+              decided = x .decided;
+              nc = x .nc;
+              c = x .c;
+              first = x .first;
+            })
+            (still-waits t rows log k r x hd good z (stands z (second-entry rows site (entryOf log k .nc) waiting refl n refl refl refl))
+            (ap not (ne-eqb (sizeOf v) (nChkOf t) (λ q. omega (arith, few-valid z, less-fewer (x .valid) site))))
+            (withOf (x .twice) site) (x .first))
+        go (no d) =
+            subst (λ (y : Round). Decides log (k + 1) r t rows y)
+            (λ i. record {
+              once = x .once;
+              twice = withOf (x .twice) site;
+              valid = pick (sym (ne-eqb (x .decided) 0 d) i) (withoutOf (x .valid) (withOf emptyOf site)) (x .valid);
+              decided = x .decided;
+              nc = x .nc;
+              c = x .c;
+              first = x .first;
+            })
+            (decided-stays t rows log k r x hd (omega arith) (x .once) (withOf (x .twice) site) (x .first))

@@ -4,23 +4,40 @@ use mathlib.Core.Path.{_≡_, refl, sym, ap, _∙_}
 use mathlib.Core.Bool.{Bool, true, false, not}
 use mathlib.Core.List.{List}
 use mathlib.Core.Logic.{_⊎_, inl, inr}
-use Prim.Native.Nat.{ℕ, _+_, _≤_, _<_}
+use Prim.Native.Nat.{ℕ, zero, suc, _+_, _≤_, _<_}
 use native.Mathlib.Decide.{ℕ-discrete}
+use native.Mathlib.Numerals.{add-one}
 use native.Mathlib.Omega.{arith}
 use lib.Dec.{eqb, ltb}
 use borrow.Author.Tests.{lt-ltb, le-ltb, ltb-true, ltb-false, eqb-true, eqb-false}
 use Rattle.theory.specs.Sets.{pick}
 use Rattle.theory.specs.Counting.{last-or-below}
+use Rattle.sets.specs.declared.Set.{Set}
 use Rattle.sets.specs.Sets.{inSet, withOf}
 use Rattle.table.specs.Table.{maxSites}
 use Rattle.protocol.specs.Recovery.{Log, entries}
 use Rattle.entries.specs.declared.Entry.{Entry}
 use Rattle.entries.specs.Entries.{entryOf, logTo}
 use Rattle.entries.proofs.Logs.{log-same}
-use Rattle.entries.proofs.Judging.{entries-next, one-yes, one-no-site, one-no-round}
+use Rattle.entries.proofs.Judging.{entries-none, entries-next, one-yes, one-no-site, one-no-round}
 use Rattle.standing.proofs.Agreement.{with-same, with-other}
 use Rattle.rounds.specs.declared.Round.{Round}
-use Rattle.rounds.specs.Rounds.{countedOf, Counts}
+use Rattle.rounds.specs.Rounds.{notedOf, againOf, Counts}
+use Rattle.rounds.proofs.Waiting.{with-member}
+
+-- A site with an entry of a round has it somewhere.
+some-entry : (log : List ℕ) (j r k : ℕ) → 0 < entries j r (logTo log k) → (i : ℕ) × (i < k) × (entryOf log i .round ≡ r)
+some-entry log j r zero l = absurd (omega (arith, entries-none log j r))
+some-entry log j r (suc k) l = go (ℕ-discrete (entryOf log k .round) r) (some-entry log j r k)
+  where
+    go : Dec (entryOf log k .round ≡ r) → (0 < entries j r (logTo log k) → (i : ℕ) × (i < k) × (entryOf log i .round ≡ r))
+        → (i : ℕ) × (i < suc k) × (entryOf log i .round ≡ r)
+    go (yes q) f = (k, omega arith, q)
+    go (no n) f =
+        let none = one-no-round log j r k refl n in
+        let same = ap (λ (m : ℕ). entries j r (logTo log m)) (sym (add-one k)) ∙ entries-next log j r k in
+        let w = f (omega arith) in
+        (w .0, omega (arith, w .1), w .2)
 
 module _ (log : List ℕ) (k r : ℕ) (x : Round) where
   -- How many entries a site has with one more: another site's or round's does not count.
@@ -60,27 +77,21 @@ module _ (log : List ℕ) (k r : ℕ) (x : Round) where
         with-other (x .once) site j n ∙ h .once j l ∙ ap (ltb 0) (sym (more-site j (λ q. n (sym q ∙ es))))
 
     -- With its second entry, and not before, the site is among those with two.
-    twice-own : (t : Bool) → inSet (x .once) site ≡ t → inSet (pick t (withOf (x .twice) site) (x .twice)) site ≡ not (ltb (entries site r (logTo log (k + 1))) 2)
-    twice-own true e =
-        let n = ltb-true 0 (entries site r (logTo log k)) (sym (h .once site few) ∙ e) in
-        with-same (x .twice) site
-        ∙ sym (ap not (le-ltb (entries site r (logTo log (k + 1))) 2 (omega (arith, more-own site er es))))
-    twice-own false e =
-        let n = ltb-false 0 (entries site r (logTo log k)) (sym (h .once site few) ∙ e) in
-        h .twice site few ∙ ap not (lt-ltb (entries site r (logTo log k)) 2 (omega arith))
-        ∙ sym (ap not (lt-ltb (entries site r (logTo log (k + 1))) 2 (omega (arith, more-own site er es))))
+    first-twice : inSet (x .once) site ≡ false → (j : ℕ) → j < maxSites → Dec (j ≡ site) → inSet (x .twice) j ≡ not (ltb (entries j r (logTo log (k + 1))) 2)
+    first-twice e j l (yes q) =
+        let n = ltb-false 0 (entries j r (logTo log k)) (sym (h .once j l) ∙ ap (inSet (x .once)) q ∙ e) in
+        h .twice j l ∙ ap not (lt-ltb (entries j r (logTo log k)) 2 (omega arith))
+        ∙ sym (ap not (lt-ltb (entries j r (logTo log (k + 1))) 2 (omega (arith, more-own j er (es ∙ sym q)))))
+    first-twice e j l (no n) = h .twice j l ∙ ap (λ (m : ℕ). not (ltb m 2)) (sym (more-site j (λ q. n (sym q ∙ es))))
 
-    twice-more : (j : ℕ) → j < maxSites → Dec (j ≡ site)
-        → inSet (pick (inSet (x .once) site) (withOf (x .twice) site) (x .twice)) j ≡ not (ltb (entries j r (logTo log (k + 1))) 2)
-    twice-more j l (yes q) =
-        ap (inSet (pick (inSet (x .once) site) (withOf (x .twice) site) (x .twice))) q ∙ twice-own (inSet (x .once) site) refl
-        ∙ ap (λ (n : ℕ). not (ltb (entries n r (logTo log (k + 1))) 2)) (sym q)
-    twice-more j l (no n) =
-        go (inSet (x .once) site) ∙ h .twice j l ∙ ap (λ (m : ℕ). not (ltb m 2)) (sym (more-site j (λ q. n (sym q ∙ es))))
-      where
-        go : (t : Bool) → inSet (pick t (withOf (x .twice) site) (x .twice)) j ≡ inSet (x .twice) j
-        go true = with-other (x .twice) site j n
-        go false = refl
+    again-twice : inSet (x .once) site ≡ true → (j : ℕ) → j < maxSites → Dec (j ≡ site)
+        → inSet (withOf (x .twice) site) j ≡ not (ltb (entries j r (logTo log (k + 1))) 2)
+    again-twice e j l (yes q) =
+        let n = ltb-true 0 (entries j r (logTo log k)) (sym (h .once j l) ∙ ap (inSet (x .once)) q ∙ e) in
+        ap (inSet (withOf (x .twice) site)) q ∙ with-same (x .twice) site
+        ∙ sym (ap not (le-ltb (entries j r (logTo log (k + 1))) 2 (omega (arith, more-own j er (es ∙ sym q)))))
+    again-twice e j l (no n) =
+        with-other (x .twice) site j n ∙ h .twice j l ∙ ap (λ (m : ℕ). not (ltb m 2)) (sym (more-site j (λ q. n (sym q ∙ es))))
 
     first-more : (t : Bool) → eqb (x .first) 0 ≡ t → (i : ℕ) → (i ≡ k) ⊎ (i < k) → entryOf log i .round ≡ r
         → (0 < pick t (k + 1) (x .first)) × (pick t (k + 1) (x .first) ≤ i + 1)
@@ -93,14 +104,34 @@ module _ (log : List ℕ) (k r : ℕ) (x : Round) where
     within-more true = omega arith
     within-more false = omega (arith, h .within)
 
-    pub counts-more : Counts log (k + 1) r (countedOf x site (k + 1))
-    counts-more =
+    -- The site's first entry of the round,
+    pub counts-first : inSet (x .once) site ≡ false → Counts log (k + 1) r (notedOf x site (k + 1))
+    counts-first e =
         record {
           once = λ j l. once-more j l (ℕ-discrete j site);
-          twice = λ j l. twice-more j l (ℕ-discrete j site);
+          twice = λ j l. first-twice e j l (ℕ-discrete j site);
           first = λ i l e. first-more (eqb (x .first) 0) refl i (last-or-below i k (omega arith)) e;
           within = within-more (eqb (x .first) 0);
         }
+
+    -- and another: the round has one already.
+    pub counts-again : inSet (x .once) site ≡ true → Counts log (k + 1) r (againOf x site)
+    counts-again e =
+        record {
+          once = λ j l. ap (λ (s : Set). inSet s j) (sym (with-member (x .once) site e)) ∙ once-more j l (ℕ-discrete j site);
+          twice = λ j l. again-twice e j l (ℕ-discrete j site);
+          first = λ i l g. earlier i (last-or-below i k (omega arith)) g;
+          within = omega (arith, h .within);
+        }
+      where
+        some : 0 < x .first
+        some =
+            let w = some-entry log site r k (ltb-true 0 (entries site r (logTo log k)) (sym (h .once site few) ∙ e)) in
+            h .first (w .0) (w .1) (w .2) .0
+
+        earlier : (i : ℕ) → (i ≡ k) ⊎ (i < k) → entryOf log i .round ≡ r → (0 < x .first) × (x .first ≤ i + 1)
+        earlier i (inl q) g = (some, omega (arith, h .within))
+        earlier i (inr l) g = h .first i l g
 
 -- The same entries count the same.
 pub counts-same : (a b : List ℕ) (k r : ℕ) (x : Round) → ((i : ℕ) → i < k → entryOf a i ≡ entryOf b i) → Counts a k r x → Counts b k r x

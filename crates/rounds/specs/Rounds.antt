@@ -8,13 +8,14 @@ use lib.Dec.{eqb, leb, ltb}
 use lib.ListN.{length, getD}
 use lib.Seq.{sets}
 use Rattle.theory.specs.Sets.{pick}
-use Rattle.sets.specs.Sets.{inSet, withOf, loadSet}
+use Rattle.sets.specs.Sets.{inSet, emptyOf, withOf, withoutOf, loadSet}
 use Rattle.table.specs.declared.SiteTable.{SiteTable}
 use Rattle.table.specs.Table.{maxSites}
 use Rattle.protocol.specs.Recovery.{entries, decide}
 use Rattle.calm.specs.Rows.{rowsSystem}
 use Rattle.entries.specs.Entries.{entryOf, logTo}
 use Rattle.standing.specs.Standings.{standingOf}
+use Rattle.recovery.specs.declared.Sets.{Sets}
 use Rattle.recovery.specs.declared.Decision.{Decision}
 use Rattle.recovery.specs.declared.Decision.the-variants.{Undecided, Decided}
 use Rattle.recovery.specs.Decisions.{decisionOf}
@@ -52,17 +53,43 @@ wordsOf x =
 unfoldable pub writeRound : List ℕ → ℕ → Round → List ℕ
 writeRound kept r x = sets kept (r * roundWords) (wordsOf x)
 
--- A round with an entry of a site more, at a place: only who has entries, and the first, change.
-abbrev pub countedOf : Round → ℕ → ℕ → Round
-countedOf x site place =
+-- A round with a site's first entry more, at a place: only who has entries, and the first, change.
+abbrev pub notedOf : Round → ℕ → ℕ → Round
+notedOf x site place =
     record {
       once = withOf (x .once) site;
-      twice = pick (inSet (x .once) site) (withOf (x .twice) site) (x .twice);
+      twice = x .twice;
       valid = x .valid;
       decided = x .decided;
       nc = x .nc;
       c = x .c;
       first = pick (eqb (x .first) 0) place (x .first);
+    }
+
+-- A round with another entry of a site that has one: the site has two, and is no valid source while no entry decides the round.
+abbrev pub againOf : Round → ℕ → Round
+againOf x site =
+    record {
+      once = x .once;
+      twice = withOf (x .twice) site;
+      valid = pick (eqb (x .decided) 0) (withoutOf (x .valid) (withOf emptyOf site)) (x .valid);
+      decided = x .decided;
+      nc = x .nc;
+      c = x .c;
+      first = x .first;
+    }
+
+-- A round that the entry at a place decides.
+abbrev pub decidedOf : Round → ℕ → Sets → Round
+decidedOf x place found =
+    record {
+      once = x .once;
+      twice = x .twice;
+      valid = x .valid;
+      decided = place;
+      nc = found .nc;
+      c = found .c;
+      first = x .first;
     }
 
 -- The decision at a log position: the sets, once the deciding entry is before it.

@@ -1,23 +1,22 @@
 // What the log says of each round, kept in lent words as the log grows: a decision is looked up, not computed again.
-ghost use mathlib.Core.Bool.{true, not};
+ghost use mathlib.Core.Bool.{true, false, not};
 ghost use mathlib.Core.List.{List};
 ghost use mathlib.Core.Path.{_≡_};
 ghost use Prim.Native.Nat.{ℕ, _+_, _*_, _≤_, _<_};
 ghost use lib.Dec.{eqb, ltb};
 ghost use lib.ListN.{length};
 ghost use Rattle.theory.specs.Sets.{pick};
-ghost use Rattle.sets.specs.Sets.{capacity, inSet, withOf};
+ghost use Rattle.sets.specs.Sets.{capacity, inSet};
 ghost use Rattle.table.specs.declared.SiteTable.{SiteTable};
 ghost use Rattle.table.specs.Table.{isGood, maxSites};
 ghost use Rattle.protocol.specs.Recovery.{entries, decide};
 ghost use Rattle.calm.specs.Rows.{rowsSystem};
 ghost use Rattle.entries.specs.Entries.{entrySize, entryOf, logTo};
-ghost use Rattle.recovery.specs.Decisions.{decisionOf};
-ghost use Rattle.rounds.specs.Rounds.{keptRounds, keptWords, roundIn, writeRound, countedOf, Counts, Decides, Kept};
+ghost use Rattle.recovery.specs.Decisions.{foundSets, decisionOf};
+ghost use Rattle.rounds.specs.Rounds.{keptRounds, keptWords, roundIn, writeRound, notedOf, againOf, decidedOf, Counts, Kept};
 use recovery::Decision;
 use recovery::Sets;
 use sets::Set;
-use standing::Standing;
 use table::SiteTable;
 
 // The words that are kept of a log, for rounds 0 to 33.
@@ -56,32 +55,6 @@ fn read_round(kept: &[u64], round: usize) -> Round
     }
 }
 
-fn write_round(kept: &mut [u64], round: usize, x: Round)
-    requires { ⌜ (length (now kept) ≡ keptWords) × (round < keptRounds) ⌝ }
-    ensures { λ _. ⌜ now (kept .exit) ≡ writeRound (now (kept .entry)) round x ⌝ }
-{
-    let at = round * ROUND_WORDS;
-    kept[at] = x.once.bits;
-    kept[at + 1] = x.twice.bits;
-    kept[at + 2] = x.valid.bits;
-    kept[at + 3] = x.decided;
-    kept[at + 4] = x.nc.bits;
-    kept[at + 5] = x.c.bits;
-    kept[at + 6] = x.first;
-}
-
-// The sites with two entries, with one more of a site.
-fn twice_with(once: Set, twice: Set, site: usize) -> Set
-    requires { ⌜ site < capacity ⌝ }
-    ensures { λ r. ⌜ r ≡ pick (inSet once site) (withOf twice site) twice ⌝ }
-{
-    if once.has(site) {
-        twice.with(site)
-    } else {
-        twice
-    }
-}
-
 // The place of a round's first entry, with an entry at a place.
 fn first_with(first: u64, place: usize) -> u64
     ensures { λ r. ⌜ r ≡ pick (eqb first 0) place first ⌝ }
@@ -89,67 +62,86 @@ fn first_with(first: u64, place: usize) -> u64
     if first == 0 { place as u64 } else { first }
 }
 
-// The round with an entry of a site more, at a place: who has entries, and the first.
-fn counted(before: Round, site: usize, place: usize) -> Round
-    requires { ⌜ site < capacity ⌝ }
-    ensures { λ x. ⌜ x ≡ countedOf before site place ⌝ }
+// A site's first entry of a round, at a place: the site has one, and the round its first.
+fn note_first(kept: &mut [u64], round: usize, site: usize, place: usize)
+    requires { ⌜ (length (now kept) ≡ keptWords) × (round < keptRounds) × (site < capacity) ⌝ }
+    ensures { λ _. ⌜ now (kept .exit) ≡ writeRound (now (kept .entry)) round (notedOf (roundIn (now (kept .entry)) round) site place) ⌝ }
 {
-    let once = before.once;
-    let twice = before.twice;
-    let more = once.with(site);
-    let again = twice_with(once, twice, site);
-    let first = first_with(before.first, place);
-    let mut after = before;
-    after.once = more;
-    after.twice = again;
-    after.first = first;
-    after
+    let at = round * ROUND_WORDS;
+    let once = Set::load(&kept[..], at);
+    let first = first_with(kept[at + 6], place);
+    once.with(site).store(kept, at);
+    kept[at + 6] = first;
 }
 
-// The round with its entry, the k-th of the log, more. The entry that decides it has the sets of the valid sources gathered,
-// from the round's first entry on.
-fn round_with(
-    before: Round,
+// A site's second entry of a round, or a later one: the site has two, and is no valid source while no entry decides the round.
+fn note_again(kept: &mut [u64], round: usize, site: usize)
+    requires { ⌜ (length (now kept) ≡ keptWords) × (round < keptRounds) × (site < capacity) ⌝ }
+    ensures { λ _. ⌜ now (kept .exit) ≡ writeRound (now (kept .entry)) round (againOf (roundIn (now (kept .entry)) round) site) ⌝ }
+{
+    let at = round * ROUND_WORDS;
+    let twice = Set::load(&kept[..], at + 1);
+    let valid = Set::load(&kept[..], at + 2);
+    let decided = kept[at + 3];
+    twice.with(site).store(kept, at + 1);
+    if decided != 0 {
+        return;
+    }
+    let source = Set::empty().with(site);
+    valid.without(source).store(kept, at + 2);
+}
+
+// The k-th entry decides its round: the sets of the valid sources are gathered, from the round's first entry on.
+fn note_decision(kept: &mut [u64], log: &[u8], k: usize, round: usize, valid: Set, table: SiteTable)
+    requires { ⌜ (isGood table ≡ true) × (k * entrySize + entrySize ≤ length (now log)) × (length (now kept) ≡ keptWords)
+        × (round < keptRounds) × (entryOf (now log) k .round ≡ round) × Counts (now log) (k + 1) round (roundIn (now kept) round) ⌝ }
+    ensures { λ _. ⌜ now (kept .exit) ≡ writeRound (now (kept .entry)) round
+        (decidedOf (roundIn (now (kept .entry)) round) (k + 1) (foundSets table (now (log .entry)) round valid (k + 1))) ⌝ }
+{
+    let at = round * ROUND_WORDS;
+    let from = (kept[at + 6] - 1) as usize;
+    let place = k + 1;
+    let sets = recovery::decided_sets(log, from, place, round, valid, table);
+    let nc = sets.nc;
+    let c = sets.c;
+    kept[at + 3] = place as u64;
+    nc.store(kept, at + 4);
+    c.store(kept, at + 5);
+}
+
+// The k-th entry is its site's first of its round. While no entry decides the round, the site becomes a valid source if its NC is
+// free of conflicts, and enough valid sources decide.
+fn enter_first(
+    kept: &mut [u64],
     log: &[u8],
     k: usize,
     round: usize,
+    site: usize,
     table: SiteTable,
     rows: &[u64],
-) -> Round
-    requires { ⌜ (isGood table ≡ true) × (k * entrySize + entrySize ≤ length (now log)) × (length (now rows) ≡ capacity)
-        × (entryOf (now log) k .site < table .sites) × (entryOf (now log) k .round ≡ round)
-        × Counts (now log) k round before × Decides (now log) k round table (now rows) before ⌝ }
-    ensures { λ x. ⌜ Counts (now (log .entry)) (k + 1) round x × Decides (now (log .entry)) (k + 1) round table (now (rows .entry)) x ⌝ }
+)
+    requires { ⌜ (isGood table ≡ true) × Kept table (now rows) (now log) k (now kept) × (k * entrySize + entrySize ≤ length (now log))
+        × (length (now rows) ≡ capacity) × (site < table .sites) × (round < keptRounds) × (site ≡ entryOf (now log) k .site)
+        × (round ≡ entryOf (now log) k .round) × (inSet (roundIn (now kept) round .once) site ≡ false) ⌝ }
+    ensures { λ _. ⌜ Kept table (now (rows .entry)) (now (log .entry)) (k + 1) (now (kept .exit)) ⌝ }
 {
-    let site = entries::site_of(log, k);
-    let place = k + 1;
-    let mut after = counted(before, site, place);
-    if before.decided != 0 {
-        return after;
+    let at = round * ROUND_WORDS;
+    let valid = Set::load(&kept[..], at + 2);
+    let decided = kept[at + 3];
+    note_first(kept, round, site, k + 1);
+    if decided != 0 {
+        return;
     }
-    let seen = before.once;
-    let valid = before.valid;
-    let waiting = Standing {
-        seen: seen,
-        valid: valid,
-        decided: false,
-        entries: k,
-    };
     let free = calm::is_free(rows, entries::nc_of(log, k));
-    let sources = standing::with_entry(waiting, log, k, round, table, free);
-    let valid_after = sources.valid;
-    after.valid = valid_after;
-    if !sources.decided {
-        return after;
+    if !free {
+        return;
     }
-    let from = (after.first - 1) as usize;
-    let sets = recovery::decided_sets(log, from, place, round, valid_after, table);
-    let nc = sets.nc;
-    let c = sets.c;
-    after.decided = place as u64;
-    after.nc = nc;
-    after.c = c;
-    after
+    let valid_after = valid.with(site);
+    valid_after.store(kept, at + 2);
+    if valid_after.size() != table.n_chk() {
+        return;
+    }
+    note_decision(kept, log, k, round, valid_after, table);
 }
 
 // The k-th entry of the log is taken into what is kept of its round.
@@ -159,9 +151,13 @@ pub fn append(kept: &mut [u64], log: &[u8], k: usize, table: SiteTable, rows: &[
     ensures { λ _. ⌜ Kept table (now (rows .entry)) (now (log .entry)) (k + 1) (now (kept .exit)) ⌝ }
 {
     let round = entries::round_of(log, k);
-    let before = read_round(&kept[..], round);
-    let after = round_with(before, log, k, round, table, rows);
-    write_round(kept, round, after);
+    let site = entries::site_of(log, k);
+    let once = Set::load(&kept[..], round * ROUND_WORDS);
+    if once.has(site) {
+        note_again(kept, round, site);
+        return;
+    }
+    enter_first(kept, log, k, round, site, table, rows);
 }
 
 // Whether an entry of a site and round would be its third.
