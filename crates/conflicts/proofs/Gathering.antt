@@ -58,6 +58,10 @@ gathered-more kind s ws k b test eb lb et g =
         ∙ g .at a la
         ∙ build-no k (isOn kind s a) (λ i. e i && kind (commandOf s k))
 
+-- All commands are gathered, as the code counts them.
+pub gathered-all : (kind : Command → Bool) (s ws : List ℕ) {n : ℕ} → n ≡ length (commandsOf s) → Gathered kind s n ws → Gathered kind s (length (commandsOf s)) ws
+gathered-all kind s ws e g = subst (λ (k : ℕ). Gathered kind s k ws) e g
+
 -- The same, as the code tells it.
 pub note-told : (ws : List ℕ) (at k : ℕ) (test : Bool) {x y : Set} {after : List ℕ} → x ≡ loadSet ws at → y ≡ pick test (withOf x k) x → after ≡ storeSet ws at y
     → after ≡ withNoted ws at k test
@@ -186,16 +190,12 @@ module _ (s : List ℕ) (m : ℕ) (few : length (commandsOf s) ≤ capacity) (in
   told kind bike e = e ∙ ap (λ (b : ℕ). setOf n (isOn kind s b)) bike ∙ up-to n (isOn kind s (bikeOf (commandOf s m))) few
 
   -- The row of a command, from the sets of its bike, as the code tells it.
-  pub row-told : {c : Head} {k : ℕ} {all adds reads peaceful with row : Set} → k ≡ n → c ≡ headOf (commandOf s m)
-      → all ≡ setOf k (isOn anyKind s (c .bike)) → adds ≡ setOf k (isOn isAdd s (c .bike)) → reads ≡ setOf k (isOn isRead s (c .bike))
+  pub row-told : {c : Head} {all adds reads peaceful with row : Set} → c ≡ headOf (commandOf s m)
+      → all ≡ setOf n (isOn anyKind s (c .bike)) → adds ≡ setOf n (isOn isAdd s (c .bike)) → reads ≡ setOf n (isOn isRead s (c .bike))
       → peaceful ≡ unopposed c adds reads → with ≡ withOf peaceful m → row ≡ withoutOf all with → row ≡ conflictRow s m
-  row-told {c} {k} {all} ek ec ea ed er ep ew ex =
+  row-told {c} {all} ec ea ed er ep ew ex =
       let bike : c .bike ≡ bikeOf (commandOf s m) = λ i. ec i .bike in
       ex
       ∙ ap (withoutOf all) (ew ∙ ap (λ (x : Set). withOf x m) ep)
-      ∙ (λ i.
-      withoutOf (told anyKind bike (ea ∙ ap (λ (j : ℕ). setOf j (isOn anyKind s (c .bike))) ek) i)
-      (withOf
-      (unopposed (ec i) (told isAdd bike (ed ∙ ap (λ (j : ℕ). setOf j (isOn isAdd s (c .bike))) ek) i) (told isRead bike (er ∙ ap (λ (j : ℕ). setOf j (isOn isRead s (c .bike))) ek) i))
-      m))
+      ∙ (λ i. withoutOf (told anyKind bike ea i) (withOf (unopposed (ec i) (told isAdd bike ed i) (told isRead bike er i)) m))
       ∙ row-same

@@ -1,21 +1,31 @@
 // Which commands of a book conflict: for each command the set of those that conflict with it.
 ghost use mathlib.Core.Path.{_≡_};
-ghost use Prim.Native.Nat.{_<_, _≤_};
+ghost use Prim.Native.Nat.{_-_, _^_, _<_};
 ghost use lib.ListN.{length, take};
-ghost use Rattle.theory.specs.Sets.{pick};
-ghost use Rattle.sets.specs.Sets.{withOf, capacity};
+ghost use Rattle.theory.specs.Sets.{pick, one};
+ghost use Rattle.sets.specs.Sets.{emptyOf, withOf, capacity};
 ghost use Rattle.register.specs.Register.{isAdd, isRead};
 ghost use Rattle.commands.specs.Book.{maxCommands, commandsOf, placesOf};
 ghost use Rattle.conflicts.specs.Conflicts.{conflictRow, conflictRows, withNoted, anyKind, Gathered, unopposed};
 use commands::Head;
 use sets::Set;
 
-// The set with one command more, where a test holds.
+// 1 where a test holds, else 0.
+fn one(test: bool) -> u64
+    ensures { λ r. ⌜ r ≡ one test ⌝ }
+{
+    if test { 1 } else { 0 }
+}
+
+// The set with one command more, where a test holds. Kinds come in no order, so the test is no branch.
 pub fn with_if(row: Set, k: usize, test: bool) -> Set
     requires { ⌜ k < capacity ⌝ }
     ensures { λ r. ⌜ r ≡ pick test (withOf row k) row ⌝ }
 {
-    if test { row.with(k) } else { row }
+    let bit = one(test) << k;
+    Set {
+        bits: row.bits | bit,
+    }
 }
 
 // Command k joins the set at a place, where a test holds.
@@ -52,36 +62,37 @@ fn gather(
     }
 }
 
+// All bits where a test holds, else none.
+fn mask(test: bool) -> u64
+    ensures { λ r. ⌜ r ≡ pick test (2 ^ 64 - 1) 0 ⌝ }
+{
+    if test { u64::MAX } else { 0 }
+}
+
+// The set where a test holds, else the empty one.
+fn only_if(set: Set, test: bool) -> Set
+    ensures { λ r. ⌜ r ≡ pick test set emptyOf ⌝ }
+{
+    Set {
+        bits: set.bits & mask(test),
+    }
+}
+
 // Of a bike's ADDs and READs those that a command of the bike does not conflict with.
 pub fn unopposed(head: Head, adds: Set, reads: Set) -> Set
     ensures { λ r. ⌜ r ≡ unopposed head adds reads ⌝ }
 {
-    if head.add {
-        return adds;
-    }
-    if head.read {
-        return reads;
-    }
-    Set::empty()
+    only_if(adds, head.add).union(only_if(reads, !head.add & head.read))
 }
 
-// The commands that conflict with the m-th of n: those on its bike but itself and the unopposed. None where there is no such command.
-fn row(
-    book: &[u8],
-    places: &[u16],
-    n: usize,
-    m: usize,
-    on: &[u64],
-    adds: &[u64],
-    reads: &[u64],
-) -> Set
-    requires { ⌜ (n ≡ length (commandsOf (now book))) × (take (length (commandsOf (now book))) (now places) ≡ placesOf (now book))
-        × Gathered anyKind (now book) n (now on) × Gathered isAdd (now book) n (now adds) × Gathered isRead (now book) n (now reads) ⌝ }
+// The commands that conflict with the m-th: those on its bike but itself and the unopposed.
+fn row(book: &[u8], places: &[u16], m: usize, on: &[u64], adds: &[u64], reads: &[u64]) -> Set
+    requires { ⌜ (m < length (commandsOf (now book))) × (take (length (commandsOf (now book))) (now places) ≡ placesOf (now book))
+        × Gathered anyKind (now book) (length (commandsOf (now book))) (now on)
+        × Gathered isAdd (now book) (length (commandsOf (now book))) (now adds)
+        × Gathered isRead (now book) (length (commandsOf (now book))) (now reads) ⌝ }
     ensures { λ r. ⌜ r ≡ conflictRow (now (book .entry)) m ⌝ }
 {
-    if m >= n {
-        return Set::empty();
-    }
     let head = commands::head_at(book, places, m);
     let bike = head.bike as usize;
     let all = Set::load(on, bike);
@@ -89,7 +100,7 @@ fn row(
     all.without(peaceful.with(m))
 }
 
-// The rows of all 64 command numbers, from the sets of each bike.
+// The rows of all 64 command numbers, from the sets of each bike; those past the n commands are empty.
 fn fill_rows(
     book: &[u8],
     places: &[u16],
@@ -105,9 +116,13 @@ fn fill_rows(
     ensures { λ _. ⌜ now (rows .exit) ≡ conflictRows (now (book .entry)) ⌝ }
 {
     let mut m: usize = 0;
-    while m < commands::MAX_COMMANDS {
-        let found = row(book, places, n, m, on, adds, reads);
+    while m < n {
+        let found = row(book, places, m, on, adds, reads);
         rows[m] = found.bits;
+        m += 1;
+    }
+    while m < commands::MAX_COMMANDS {
+        rows[m] = 0;
         m += 1;
     }
 }

@@ -1,15 +1,16 @@
 use borrow.Author.Needs.{needs}
+use Rattle.conflicts.proofs.Words.{with-told}
 use Rattle.conflicts.proofs.with_if.Statement.{statement}
 use Rattle.conflicts.proofs.with_if.Tie as tie
 
-with-requires : tie.Need-with-requires
-with-requires c κs = search needs
+one-requires : tie.Need-one-requires
+one-requires c κs = search needs
+
+shl-bit : tie.Need-shl-bit
+shl-bit c = search needs
 
 returns : tie.Need-returns
-returns c = rw (c .before .if1 .taken) (c .with .ensures)
-
-returns-2 : tie.Need-returns-2
-returns-2 c = search needs
+returns c = let a = c .before .before .args in with-told (a .row) (a .k) (a .test) (c .before .before .pre) (c .before .one .ensures)
 
 pub with-if-spec : {M : Type 1} → statement M
-with-if-spec = tie.close (tie.spec with-requires returns returns-2)
+with-if-spec = tie.close (tie.spec one-requires shl-bit returns)
