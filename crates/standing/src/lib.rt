@@ -57,7 +57,7 @@ fn nobody_yet() -> Standing
 
 // The standing with the k-th entry added, of which is told whether its NC is free of conflicts. An entry of another
 // round, or of a site beyond the table, changes nothing.
-pub fn with_entry(
+fn with_entry(
     before: Standing,
     log: &[u8],
     k: usize,
