@@ -1,10 +1,10 @@
 -- Laws of the walk that judges a book and notes its places: it goes by sizes, and judges all bikes together at its end.
 -- Assumes nothing.
-use mathlib.Core.Bool.{Bool, true, false, _&&_}
+use mathlib.Core.Bool.{Bool, true, false, _&&_, _||_}
 use mathlib.Core.Path.{_≡_, refl, sym, ap, _∙_}
 use mathlib.Core.List.{List, [], _∷_}
 use mathlib.Core.Option.{Option, none, some}
-use Prim.Native.Nat.{ℕ, zero, suc, _+_, _-_, _*_, _/_, _%_, _^_, _≤_, _<_}
+use Prim.Native.Nat.{ℕ, zero, suc, _+_, _-_, _≤_, _<_}
 use native.Mathlib.Numerals.{add-one}
 use native.Mathlib.Omega.{arith}
 use borrow.Author.Tests.{le-leb, lt-leb, leb-true, ne-eqb, lt-ltb, le-ltb, ltb-true, ltb-false}
@@ -20,7 +20,7 @@ use Rattle.commands.specs.declared.Reading.{Reading}
 use Rattle.commands.specs.declared.Reading.the-variants.{Whole, Bad}
 use Rattle.commands.specs.declared.Measured.{Measured}
 use Rattle.commands.specs.declared.Measured.the-variants.{Commands, Unreadable}
-use Rattle.commands.specs.Book.{maxCommands, sizeOf, given, readKind, readCommand, also, andThen, readUpTo, orNone, commandsOf, countFrom, measureBook, placesFrom, placesOf, kindSize, sizeRead, walkSize, onward, walkedFrom, walkedPlaces}
+use Rattle.commands.specs.Book.{maxCommands, sizeOf, given, readKind, readCommand, also, andThen, readUpTo, orNone, commandsOf, countFrom, measureBook, placesFrom, placesOf, shortSize, sizeRead, walkSize, onward, walkedFrom, walkedPlaces}
 use Rattle.commands.proofs.Walk.{size-small, measure-all, measure-end, measure-full, measure-bad, measure-more, few-commands}
 use Rattle.commands.proofs.Places.{index-noted}
 
@@ -31,76 +31,77 @@ given-bad false = refl
 not-both : {A : Type 0} → false ≡ true → A
 not-both e = absurd (let z : _≡_ {A = ℕ} 0 1 = cc in omega arith)
 
--- The sizes by kind, out of the number that holds them all.
-pub size-packed : (k : ℕ) → k ≤ 4 → (272960 / 2 ^ (4 * k)) % 16 ≡ kindSize k
-size-packed zero h = refl
-size-packed (suc zero) h = refl
-size-packed (suc (suc zero)) h = refl
-size-packed (suc (suc (suc zero))) h = refl
-size-packed (suc (suc (suc (suc zero)))) h = refl
-size-packed (suc (suc (suc (suc (suc k))))) h = absurd (omega arith)
+-- The sizes by kind, a FIT left out.
+pub short-four : (k : ℕ) → (eqb k 1 || eqb k 4) ≡ true → 4 ≡ shortSize k
+short-four zero e = not-both e
+short-four (suc zero) e = refl
+short-four (suc (suc zero)) e = not-both e
+short-four (suc (suc (suc zero))) e = not-both e
+short-four (suc (suc (suc (suc zero)))) e = refl
+short-four (suc (suc (suc (suc (suc k))))) e =
+    not-both (rw (ne-eqb (suc (suc (suc (suc (suc k))))) 1 (λ q. omega arith), ne-eqb (suc (suc (suc (suc (suc k))))) 4 (λ q. omega arith)) at e)
 
-pub size-none : (k : ℕ) → 4 < k → 0 ≡ kindSize k
-size-none zero h = refl
-size-none (suc zero) h = absurd (omega arith)
-size-none (suc (suc zero)) h = absurd (omega arith)
-size-none (suc (suc (suc zero))) h = absurd (omega arith)
-size-none (suc (suc (suc (suc zero)))) h = absurd (omega arith)
-size-none (suc (suc (suc (suc (suc k))))) h = refl
+pub short-none : (k : ℕ) → (eqb k 1 || eqb k 4) ≡ false → (k ≡ 3 → ⊥) → 0 ≡ shortSize k
+short-none zero e n = refl
+short-none (suc zero) e n = not-both (sym e)
+short-none (suc (suc zero)) e n = refl
+short-none (suc (suc (suc zero))) e n = absurd (n refl)
+short-none (suc (suc (suc (suc zero)))) e n = not-both (sym e)
+short-none (suc (suc (suc (suc (suc k))))) e n = refl
 
--- A FIT with a start out of range, where there are bytes enough for any command.
-long-wild-of : (k : ℕ) (s : List ℕ) → 10 ≤ length s → (eqb k 2 && ltb maxReading (readLe 4 s 6)) ≡ true → 0 ≡ sizeRead (readKind k s)
+-- The size of a FIT with a start in range, where there are bytes enough for any command.
+long-fit-of : (k : ℕ) (s : List ℕ) → 10 ≤ length s → (eqb k 2 && leb (readLe 4 s 6) maxReading) ≡ true → 10 ≡ sizeRead (readKind k s)
 unfolding readKind
-long-wild-of zero s h e = not-both e
-long-wild-of (suc zero) s h e = not-both e
-long-wild-of (suc (suc zero)) s h e = rw (le-leb 10 (length s) h, lt-leb (readLe 4 s 6) maxReading (ltb-true maxReading (readLe 4 s 6) e)) refl
-long-wild-of (suc (suc (suc k))) s h e = not-both (rw (ne-eqb (suc (suc (suc k))) 2 (λ q. omega arith)) at e)
+long-fit-of zero s h e = not-both e
+long-fit-of (suc zero) s h e = not-both e
+long-fit-of (suc (suc zero)) s h e = rw (le-leb 10 (length s) h, e) refl
+long-fit-of (suc (suc (suc k))) s h e = not-both (rw (ne-eqb (suc (suc (suc k))) 2 (λ q. omega arith)) at e)
 
--- The sizes of all others there.
-long-other-of : (k : ℕ) (s : List ℕ) → 10 ≤ length s → (eqb k 2 && ltb maxReading (readLe 4 s 6)) ≡ false → kindSize k ≡ sizeRead (readKind k s)
+-- The sizes of the other kinds there.
+long-other-of : (k : ℕ) (s : List ℕ) → 10 ≤ length s → (eqb k 2 && leb (readLe 4 s 6) maxReading) ≡ false → shortSize k ≡ sizeRead (readKind k s)
 unfolding readKind
 long-other-of zero s h e = refl
 long-other-of (suc zero) s h e = rw (le-leb 4 (length s) (omega arith)) refl
-long-other-of (suc (suc zero)) s h e = rw (le-leb 10 (length s) h, le-leb (readLe 4 s 6) maxReading (ltb-false maxReading (readLe 4 s 6) e)) refl
+long-other-of (suc (suc zero)) s h e = rw (le-leb 10 (length s) h, e) refl
 long-other-of (suc (suc (suc zero))) s h e = refl
 long-other-of (suc (suc (suc (suc zero)))) s h e = rw (le-leb 4 (length s) (omega arith)) refl
 long-other-of (suc (suc (suc (suc (suc k))))) s h e = refl
 
 -- A kind's bytes are cut.
-last-cut-of : (k : ℕ) (s : List ℕ) → length s < kindSize k → 0 ≡ sizeRead (given (leb 2 (length s)) (readKind k s))
+last-cut-of : (k : ℕ) (s : List ℕ) → length s < shortSize k → 0 ≡ sizeRead (given (leb 2 (length s)) (readKind k s))
 unfolding readKind
 last-cut-of zero s h = absurd (omega arith)
 last-cut-of (suc zero) s h = rw (lt-leb 4 (length s) h, given-bad (leb 2 (length s))) refl
-last-cut-of (suc (suc zero)) s h = rw (lt-leb 10 (length s) h, given-bad (leb 2 (length s))) refl
+last-cut-of (suc (suc zero)) s h = absurd (omega arith)
 last-cut-of (suc (suc (suc zero))) s h = rw (lt-leb 2 (length s) h) refl
 last-cut-of (suc (suc (suc (suc zero)))) s h = rw (lt-leb 4 (length s) h, given-bad (leb 2 (length s))) refl
 last-cut-of (suc (suc (suc (suc (suc k))))) s h = absurd (omega arith)
 
 -- A kind's bytes are there, too few for a FIT.
-last-whole-of : (k : ℕ) (s : List ℕ) → length s < 10 → kindSize k ≤ length s → kindSize k ≡ sizeRead (given (leb 2 (length s)) (readKind k s))
+last-whole-of : (k : ℕ) (s : List ℕ) → length s < 10 → shortSize k ≤ length s → shortSize k ≡ sizeRead (given (leb 2 (length s)) (readKind k s))
 unfolding readKind
 last-whole-of zero s h l = rw (given-bad (leb 2 (length s))) refl
 last-whole-of (suc zero) s h l = rw (le-leb 2 (length s) (omega arith), le-leb 4 (length s) l) refl
-last-whole-of (suc (suc zero)) s h l = absurd (omega arith)
+last-whole-of (suc (suc zero)) s h l = rw (lt-leb 10 (length s) h, given-bad (leb 2 (length s))) refl
 last-whole-of (suc (suc (suc zero))) s h l = rw (le-leb 2 (length s) l) refl
 last-whole-of (suc (suc (suc (suc zero)))) s h l = rw (le-leb 2 (length s) (omega arith), le-leb 4 (length s) l) refl
 last-whole-of (suc (suc (suc (suc (suc k))))) s h l = rw (given-bad (leb 2 (length s))) refl
 
 -- The code's ways to a size.
 module _ (s : List ℕ) where
-  pub long-wild : 10 ≤ length s → (eqb (getD s 0 0) 2 && ltb maxReading (readLe 4 s 6)) ≡ true → 0 ≡ walkSize s
+  pub long-fit : 10 ≤ length s → (eqb (getD s 0 0) 2 && leb (readLe 4 s 6) maxReading) ≡ true → 10 ≡ walkSize s
   unfolding walkSize
-  long-wild h e = rw (le-leb 2 (length s) (omega arith)) (long-wild-of (getD s 0 0) s h e)
+  long-fit h e = rw (le-leb 2 (length s) (omega arith)) (long-fit-of (getD s 0 0) s h e)
 
-  pub long-other : 10 ≤ length s → (eqb (getD s 0 0) 2 && ltb maxReading (readLe 4 s 6)) ≡ false → kindSize (getD s 0 0) ≡ walkSize s
+  pub long-other : 10 ≤ length s → (eqb (getD s 0 0) 2 && leb (readLe 4 s 6) maxReading) ≡ false → shortSize (getD s 0 0) ≡ walkSize s
   unfolding walkSize
   long-other h e = rw (le-leb 2 (length s) (omega arith)) (long-other-of (getD s 0 0) s h e)
 
-  pub last-cut : length s < kindSize (getD s 0 0) → 0 ≡ walkSize s
+  pub last-cut : length s < shortSize (getD s 0 0) → 0 ≡ walkSize s
   unfolding walkSize
   last-cut h = last-cut-of (getD s 0 0) s h
 
-  pub last-whole : length s < 10 → kindSize (getD s 0 0) ≤ length s → kindSize (getD s 0 0) ≡ walkSize s
+  pub last-whole : length s < 10 → shortSize (getD s 0 0) ≤ length s → shortSize (getD s 0 0) ≡ walkSize s
   unfolding walkSize
   last-whole h l = last-whole-of (getD s 0 0) s h l
 

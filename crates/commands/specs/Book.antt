@@ -112,14 +112,14 @@ placesFrom at (c ∷ cs) = at ∷ placesFrom (at + sizeOf c) cs
 unfoldable pub placesOf : List ℕ → List ℕ
 placesOf s = placesFrom 0 (commandsOf s)
 
--- The bytes of a command of a kind; 0 where there is no such kind.
-abbrev pub kindSize : ℕ → ℕ
-kindSize zero = 0
-kindSize (suc zero) = 4
-kindSize (suc (suc zero)) = 10
-kindSize (suc (suc (suc zero))) = 2
-kindSize (suc (suc (suc (suc zero)))) = 4
-kindSize (suc (suc (suc (suc (suc n))))) = 0
+-- The bytes of a command of a kind, a FIT left out; 0 where there is no such kind.
+abbrev pub shortSize : ℕ → ℕ
+shortSize zero = 0
+shortSize (suc zero) = 4
+shortSize (suc (suc zero)) = 0
+shortSize (suc (suc (suc zero))) = 2
+shortSize (suc (suc (suc (suc zero)))) = 4
+shortSize (suc (suc (suc (suc (suc n))))) = 0
 
 -- The bytes of a reading, 0 where it is bad.
 abbrev pub sizeRead : Reading → ℕ

@@ -5,7 +5,7 @@ ghost use mathlib.Core.List.{_∷_, []};
 ghost use lib.ListN.{length, take};
 ghost use lib.Seq.{sets};
 ghost use Rattle.wire.specs.Wire.{splice};
-ghost use Rattle.commands.specs.Book.{sizeOf, readCommand, kindSize, walkSize, measureBook, commandsOf, commandOf, placesOf, walkedPlaces, headOf, encodeCommand, encodeBook};
+ghost use Rattle.commands.specs.Book.{sizeOf, readCommand, shortSize, walkSize, measureBook, commandsOf, commandOf, placesOf, walkedPlaces, headOf, encodeCommand, encodeBook};
 use register::Bike;
 use register::Command;
 
@@ -88,18 +88,17 @@ pub fn read_command(bytes: &[u8]) -> Reading
     }
 }
 
-// The bytes of a command of a kind; 0 where there is no such kind.
-// The sizes stand in one number, four bits a kind: kinds come in no order, so none has a branch.
-fn kind_size(kind: u8) -> usize
-    ensures { λ r. ⌜ r ≡ kindSize kind ⌝ }
+// The bytes of a command of a kind, a FIT left out; 0 where there is no such kind.
+fn short_size(kind: u8) -> usize
+    ensures { λ r. ⌜ r ≡ shortSize kind ⌝ }
 {
-    if kind > 4 {
-        return 0;
+    if (kind == 1) | (kind == 4) {
+        return 4;
     }
-    let sizes: usize = 0x42A40;
-    let place = 4 * (kind as usize);
-    let from = sizes >> place;
-    from % 16
+    if kind == 3 {
+        return 2;
+    }
+    0
 }
 
 // The bytes of the command at the front of bytes enough for any, whatever its bike; 0 where there is none.
@@ -110,10 +109,10 @@ fn long_size(bytes: &[u8]) -> usize
 {
     let kind = bytes[0];
     let start = wire::get4(bytes, 6);
-    if (kind == 2) & (start > Bike::MAX_READING) {
-        return 0;
+    if (kind == 2) & (start <= Bike::MAX_READING) {
+        return LONGEST;
     }
-    kind_size(kind)
+    short_size(kind)
 }
 
 // The same of bytes too few for a FIT.
@@ -121,7 +120,7 @@ fn last_size(bytes: &[u8]) -> usize
     requires { ⌜ (0 < length (now bytes)) × (length (now bytes) < 10) ⌝ }
     ensures { λ r. ⌜ r ≡ walkSize (now (bytes .entry)) ⌝ }
 {
-    let size = kind_size(bytes[0]);
+    let size = short_size(bytes[0]);
     if size > bytes.len() {
         return 0;
     }

@@ -1,7 +1,7 @@
 use borrow.Author.Needs.{needs}
 use mathlib.Core.Path.{_∙_}
 use native.Mathlib.Omega.{arith}
-use Rattle.commands.proofs.Noting.{long-wild, long-other}
+use Rattle.commands.proofs.Noting.{long-fit, long-other}
 use Rattle.commands.proofs.long_size.Statement.{statement}
 use Rattle.commands.proofs.long_size.Tie as tie
 
@@ -12,14 +12,14 @@ get4-requires : tie.Need-get4-requires
 get4-requires c κs = search needs
 
 returns : tie.Need-returns
-returns c = long-wild _ (omega arith) (rw (c .before .get4 .ensures) at (c .if1 .taken))
+returns c = long-fit _ (omega arith) (rw (c .before .get4 .ensures) at (c .if1 .taken))
 
-kind-size-requires : tie.Need-kind-size-requires
-kind-size-requires c κs = search needs
+short-size-requires : tie.Need-short-size-requires
+short-size-requires c κs = search needs
 
 returns-2 : tie.Need-returns-2
-returns-2 c = c .kind-size .ensures ∙ long-other _ (omega arith) (rw (c .before .before .get4 .ensures) at (c .before .if1 .left))
+returns-2 c = c .short-size .ensures ∙ long-other _ (omega arith) (rw (c .before .before .get4 .ensures) at (c .before .if1 .left))
 
 pub long-size-spec : {M : Type 1} → statement M
 long-size-spec =
-    tie.close (tie.spec shared-slice-read-kind get4-requires returns kind-size-requires returns-2)
+    tie.close (tie.spec shared-slice-read-kind get4-requires returns short-size-requires returns-2)
