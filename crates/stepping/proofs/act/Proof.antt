@@ -24,7 +24,7 @@ enum-known-step-2 c = search needs
 turn-requires : tie.Need-turn-requires
 turn-requires c κs =
     let o = c .before .before .before .before .before .before .before .before .before .before .before .before .before .before in
-    ((now (o .args .book), ready-as (o .args .table) (now (o .args .book)) (now (o .args .rows)) (lent (now (o .args .sites)) (now (o .args .log)) (o .args .entries) (now (o .args .sent))) (c .before .before .before .before .step2 .given .1) (o .pre .0)), o .pre .2, o .pre .4)
+    ((now (o .args .book), ready-as (o .args .table) (now (o .args .book)) (now (o .args .rows)) (lent (now (o .args .sites)) (now (o .args .log)) (o .args .entries) (now (o .args .sent))) (c .before .before .before .before .step2 .given .1) (o .pre .0)), o .pre .2)
 
 enum-known-step-3 : tie.Need-enum-known-step-3
 enum-known-step-3 c = search needs
