@@ -32,6 +32,21 @@ pub fn put_digits(out: &mut [u8], at: usize, n: usize, x: usize) -> usize
     at + n
 }
 
+// The last two digits of a number are written: where it has no more, as one number of two bytes, each 48 and a digit.
+pub fn put_two(out: &mut [u8], at: usize, x: usize) -> usize
+    requires { ⌜ at + 2 ≤ length (now out) ⌝ }
+    ensures { λ r. ⌜ Wrote (now (out .exit)) r (now (out .entry)) at (digits 2 x) ⌝ }
+{
+    if x >= 100 {
+        return put_digits(out, at, 2, x);
+    }
+    let y = x as u16;
+    let tens = y * 103 / 1024;
+    let word = 12336 + tens + 256 * (y - 10 * tens);
+    wire::put2(out, at, word);
+    at + 2
+}
+
 // The last four digits of a number are written as one number of four bytes, each 48 and a digit. The two pairs of digits
 // stand 16 bits apart and are parted together: 103 / 1024 of a pair is its tens, and what is left of it its ones. A division
 // by 10 for each digit would take twice the instructions.
@@ -59,7 +74,7 @@ pub fn put_decimal(out: &mut [u8], at: usize, x: usize) -> usize
             return put_digits(out, at, 1, x);
         }
         if x < 100 {
-            return put_digits(out, at, 2, x);
+            return put_two(out, at, x);
         }
         return put_digits(out, at, 3, x);
     }
@@ -71,7 +86,7 @@ pub fn put_decimal(out: &mut [u8], at: usize, x: usize) -> usize
         return put_four(out, middle, x % 10000);
     }
     if x < 1000000 {
-        let middle = put_digits(out, at, 2, x / 10000);
+        let middle = put_two(out, at, x / 10000);
         return put_four(out, middle, x % 10000);
     }
     let n = digit_count(x);

@@ -1,4 +1,4 @@
--- Laws of four digits that are written as one number of four bytes.
+-- Laws of two and of four digits that are written as one number of as many bytes.
 -- Assumes nothing.
 use mathlib.Core.Path.{_≡_, refl, sym, ap, _∙_}
 use mathlib.Core.List.{List, [], _∷_}
@@ -27,6 +27,20 @@ low-byte n b x h =
     let low : (b + 256 * x) % 256 ≡ b = omega arith in
     let high : (b + 256 * x) / 256 ≡ x = omega arith in
     λ i. low i ∷ bytes n (high i)
+
+-- Two digits in a byte each, 48 more.
+abbrev pub twoOf : ℕ → ℕ
+twoOf x = 12336 + x * 103 / 1024 + 256 * (x - 10 * (x * 103 / 1024))
+
+two-digits : (x : ℕ) → x < 100 → bytes 2 (twoOf x) ≡ digits 2 x
+unfolding bytes digits
+two-digits x h =
+    let t : x * 103 / 1024 ≡ x / 10 % 10 = omega arith in
+    let q : twoOf x ≡ 48 + x / 10 % 10 + 256 * (48 + x % 10 + 256 * 0) = omega (arith, t) in
+    ap (bytes 2) q ∙ low-byte 1 (48 + x / 10 % 10) (48 + x % 10 + 256 * 0) (omega arith) ∙ ap (λ (l : List ℕ). (48 + x / 10 % 10) ∷ l) (low-byte 0 (48 + x % 10) 0 (omega arith))
+
+pub wrote-two : {s₁ s : List ℕ} {at : ℕ} (x : ℕ) → x < 100 → s₁ ≡ splice s at (bytes 2 (twoOf x)) → Wrote s₁ (at + 2) s at (digits 2 x)
+wrote-two {s = s} {at = at} x h e = record { end = ap (λ (n : ℕ). at + n) (sym (length-digits 2 x)); bytes = e ∙ ap (splice s at) (two-digits x h) }
 
 module _ (a b c d : ℕ) (la : a < 10) (lb : b < 10) (lc : c < 10) (ld : d < 10) where
   tens-parted : tensOf (10 * a + b + 65536 * (10 * c + d)) ≡ a + 65536 * c
