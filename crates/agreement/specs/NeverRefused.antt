@@ -192,7 +192,8 @@ module _ (S : System) (f : ℕ) (sizes : Sizes S f) where
         v : Traced S (w .log) (w .site i .round) (w .site i .fast ∪ only m) (commandsOf (w .site i .ledger .deliveries ++ new))
         v = fast-traced S (w .log) (w .site i) m (ltb-true m commands lm) pm (not-true (w .site i .fast m) fm) (good .pending i) (good .traced i)
 
-    room-end : (i : ℕ) → isSome (decision S (w .site i) (w .log)) ≡ true → room S (w .site i) (length (due S (tallyOr (decision S (w .site i) (w .log))) (w .site i))) ≡ true
+    -- There is room for what a decided round delivers.
+    pub room-end : (i : ℕ) → isSome (decision S (w .site i) (w .log)) ≡ true → room S (w .site i) (length (due S (tallyOr (decision S (w .site i) (w .log))) (w .site i))) ≡ true
     room-end i h =
         le-leb (length (w .site i .ledger .deliveries) + length (due S t (w .site i))) commands
         (omega (

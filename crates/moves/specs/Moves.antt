@@ -13,7 +13,8 @@ use Rattle.commands.specs.Book.{commandsOf}
 use Rattle.conflicts.specs.Conflicts.{conflictRows}
 use Rattle.protocol.specs.System.{free}
 use Rattle.protocol.specs.Recovery as recovery
-use Rattle.protocol.specs.Site.{isAcknowledging}
+use Rattle.protocol.specs.Site as protocol
+use Rattle.protocol.specs.Site.{isAcknowledging, isSome, decision, tallyOr, due}
 use Rattle.protocol.specs.World.{Step, turn, logRead, step}
 use Rattle.system.specs.Dash.{dash}
 use Rattle.layout.specs.Layout.{view}
@@ -35,6 +36,14 @@ pub record Ready (t : SiteTable) (book rows : List ℕ) (b : Buffers) (u : Step)
   -- a correct site that acknowledges has no entry of its round in the log
   pub unspoken : (i : ℕ) → i < t .sites → faultyOf t i ≡ false → isAcknowledging (view t (commandsOf book) (siteAt (b .sites) i) .phase) ≡ true
       → recovery.entries i (view t (commandsOf book) (siteAt (b .sites) i) .round) (logTo (b .log) (b .entries)) ≡ 0
+  -- there is room for what the end of a decided round delivers at a site
+  pub ends : (i : ℕ) → i < t .sites
+      → isSome (decision (dash t (commandsOf book)) (view t (commandsOf book) (siteAt (b .sites) i)) (logTo (b .log) (b .entries))) ≡ true
+      → protocol.room (dash t (commandsOf book)) (view t (commandsOf book) (siteAt (b .sites) i))
+      (length
+      (due (dash t (commandsOf book)) (tallyOr (decision (dash t (commandsOf book)) (view t (commandsOf book) (siteAt (b .sites) i)) (logTo (b .log) (b .entries))))
+      (view t (commandsOf book) (siteAt (b .sites) i))))
+      ≡ true
   -- at most two entries of a site in a round
   pub twice : (j r : ℕ) → recovery.entries j r (logTo (b .log) (b .entries)) ≤ 2
   -- room for one log entry more,

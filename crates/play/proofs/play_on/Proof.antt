@@ -9,7 +9,7 @@ use Rattle.rounds.specs.Rounds.{Kept}
 use Rattle.world.specs.Parts.{lent}
 use Rattle.play.specs.Played.{lineRoom}
 use Rattle.play.proofs.Laws.{within, Playing, playing-none, playing-next, playing-end}
-use Rattle.play.proofs.Room.{entries-few, entries-twice, pending-free, not-spoken, acks-few}
+use Rattle.play.proofs.Room.{entries-few, entries-twice, pending-free, not-spoken, ends-room, acks-few}
 use Rattle.play.proofs.play_on.Statement.{statement}
 use Rattle.play.proofs.play_on.Tie as tie
 
@@ -66,6 +66,7 @@ carry-out-requires c κs =
         world = p .world .good;
         pending = pending-free t s g (p .past) (p .world);
         unspoken = not-spoken t s g (p .past) (p .world);
+        ends = ends-room t s g (p .past) (p .world);
         twice = entries-twice t s g (p .past) (p .world);
         room = omega (arith, a .pre .0 .log, l .inv .5);
         acks = acks-few t s g (p .past) (p .world) u;

@@ -49,7 +49,7 @@ enum-known-step-5 c = search needs
 round-end-requires : tie.Need-round-end-requires
 round-end-requires c κs =
     let o = c .before .before .before .before .before .before .before .before .before .before .before .before in
-    (good-sites (o .args .table) (now (o .args .book)) (o .args .commands) (lent (now (o .args .sites)) (now (o .args .log)) (o .args .entries) (now (o .args .sent))) (o .pre .3) (o .pre .0 .world), (now (o .args .log), o .args .entries, kept-log (o .args .table) (now (o .args .book)) (o .args .commands) (lent (now (o .args .sites)) (now (o .args .log)) (o .args .entries) (now (o .args .sent))) (o .pre .3) (o .pre .0 .world) (o .pre .0 .conflicts) (λ k. c .before .before .before .before .before .before .before .before .before .before .slice-known2 .given k .fits) (o .pre .4)), o .pre .0 .table, o .pre .2, o .pre .1, o .pre .3)
+    (good-sites (o .args .table) (now (o .args .book)) (o .args .commands) (lent (now (o .args .sites)) (now (o .args .log)) (o .args .entries) (now (o .args .sent))) (o .pre .3) (o .pre .0 .world), (now (o .args .log), o .args .entries, kept-log (o .args .table) (now (o .args .book)) (o .args .commands) (lent (now (o .args .sites)) (now (o .args .log)) (o .args .entries) (now (o .args .sent))) (o .pre .3) (o .pre .0 .world) (o .pre .0 .conflicts) (λ k. c .before .before .before .before .before .before .before .before .before .before .slice-known2 .given k .fits) (o .pre .4), o .pre .0 .ends _), o .pre .0 .table, o .pre .2, o .pre .1, o .pre .3)
 
 arrive-requires : tie.Need-arrive-requires
 arrive-requires c κs =
