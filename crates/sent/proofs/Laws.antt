@@ -19,8 +19,8 @@ use Rattle.sets.specs.declared.Set.{Set}
 use Rattle.sets.specs.Sets.{inSet, setBytes, readSet}
 use Rattle.table.specs.Table.{maxSites}
 use Rattle.sent.specs.declared.Message.the-variants.{Sent, Never}
-use Rattle.sent.specs.Sent.{sentRounds, cells, cellOf, countPlace, flagPlace, setPlace, checkPlace}
-use Rattle.sent.specs.Sent.{countIn, flagIn, acksIn, checkIn, inTable, acksOf, checksOf, numbered, acknowledgmentOf, checkOf, Read}
+use Rattle.sent.specs.Sent.{sentRounds, maxAcknowledgments, cells, cellOf, countPlace, flagPlace, setPlace, checkPlace}
+use Rattle.sent.specs.Sent.{countIn, flagIn, acksIn, checkIn, inTable, acksOf, checksOf, numbered, acknowledgmentOf, checkOf, GoodSent, Read}
 use Rattle.sent.proofs.Cells.{length-sets, nth-set, nth-none}
 
 -- ---- sites and rounds that have a cell
@@ -139,6 +139,18 @@ module _ (b : List ℕ) (j r : ℕ) (t : inTable j r ≡ true) where
             ap (λ (x : Set). some (inSet x)) (w ∙ ap (readSet b) e)
             ∙ sym (ap (λ (x : List theory.Set). nth x a) acks-at ∙ nth-set (countIn b (cellOf j r)) (setPlace (cellOf j r) 0) b a (omega arith));
       }
+
+  -- The number of an acknowledgment that was sent.
+  pub sent-number : (a : ℕ) {s : Set} → GoodSent b → Sent s ≡ acknowledgmentOf b j r a → (1 ≤ a) × (a ≤ maxAcknowledgments)
+  unfolding acknowledgmentOf
+  sent-number a {s} good h = go (leb 1 a && leb a (countIn b (cellOf j r))) refl h
+    where
+      go : (x : Bool) → (leb 1 a && leb a (countIn b (cellOf j r))) ≡ x → Sent s ≡ pick x (Sent (readSet b (setPlace (cellOf j r) (a - 1)))) Never
+          → (1 ≤ a) × (a ≤ maxAcknowledgments)
+      go true e l =
+          let few = leb-true a (countIn b (cellOf j r)) (right (leb 1 a) (leb a (countIn b (cellOf j r))) e) in
+          (leb-true 1 a (left (leb 1 a) (leb a (countIn b (cellOf j r))) e), omega (arith, good .counts (cellOf j r) (cell-inside j r t)))
+      go false e l = absurd (let z : _≡_ {A = ℕ} 0 1 = cc in omega arith)
 
   pub no-check : {p n : ℕ} → p ≡ flagPlace (cellOf j r) → n ≡ readLe 1 b p → (n ≡ 1 → ⊥) → Read Never (checkOf b j r) (checksOf b j r)
   unfolding checkIn checkOf
