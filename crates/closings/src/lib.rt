@@ -19,6 +19,7 @@ ghost use Rattle.world.specs.Parts.{AtSite};
 ghost use Rattle.closings.specs.Closings.{GoodSites, KeptLog, RoomToEnd, FastAt, Closed};
 use layout::Site;
 use recovery::Decision;
+use refusals::Refusal;
 use refusals::Verdict;
 use sets::Set;
 use table::SiteTable;
@@ -57,9 +58,11 @@ pub fn fast_delivery(
     ensures { λ v. ⌜ ((log : List ℕ) (entries : ℕ) → Closed table (commandsOf (now (book .entry))) (protocol.fastDelivery site command) log entries (now (sites .entry)) v (now (sites .exit))) ⌝ }
 {
     let m = command as usize;
-    let known = m < commands;
-    if !(roles::is_correct(roles, site) & known) {
-        return Verdict::Refused(roles::refusal(roles, site, known));
+    if m >= commands {
+        return Verdict::Refused(Refusal::Range);
+    }
+    if !roles::is_correct(roles, site) {
+        return Verdict::Refused(roles::refusal(roles, site, true));
     }
     fast_at(sites, table, book, places, commands, site as usize, m)
 }
