@@ -1,7 +1,6 @@
 -- `print::put_four`: the bytes of the number are the digits.
 -- Assumes nothing.
 use borrow.Author.Needs.{needs}
-use native.Mathlib.Omega.{arith}
 use Rattle.print.proofs.Together.{tens-below, wrote-four}
 use Rattle.print.proofs.put_four.Statement.{statement}
 use Rattle.print.proofs.put_four.Tie as tie
