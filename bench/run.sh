@@ -11,10 +11,18 @@ archive() { # CRATE
   fi
 }
 
-archive archive
-archive host
-export CARGO_TARGET_DIR="$PWD/target/cargo"
-export BEURILMA_ARCHIVE="$PWD/target/staticlib/libarchive.a"
-export BEURILMA_HOST_ARCHIVE="$PWD/target/staticlib/libhost.a"
+# A copy of the archive whose functions start at multiples of 64 bytes, as those of the Rust programs are made to.
+aligned() { # CRATE
+  archive "$1"
+  mkdir -p target/bench
+  objcopy --set-section-alignment '.text*=64' "target/staticlib/lib$1.a" "target/bench/lib$1.a"
+}
+
+aligned archive
+aligned host
+export CARGO_TARGET_DIR="$PWD/target/bench/cargo"
+export RUSTFLAGS="-C llvm-args=-align-all-functions=6"
+export BEURILMA_ARCHIVE="$PWD/target/bench/libarchive.a"
+export BEURILMA_HOST_ARCHIVE="$PWD/target/bench/libhost.a"
 cd bench
 cargo run --release --offline --quiet --features archive,host

@@ -1,7 +1,7 @@
 //! The tuned calls of one site give the reference's answers and leave the same bytes; with the feature `host` the
 //! archive's calls do so too, on the same lent bytes.
 
-use bench::tuned_calls::Tuned;
+use bench::tuned_calls::TUNED;
 use compare::lent_calls::{Call, Engine, Lent};
 use compare::lent_check::Met;
 use compare::lent_scenes::play;
@@ -17,8 +17,8 @@ impl Engine for Both {
     #[cfg(feature = "host")]
     fn call(&mut self, call: &Call, lent: &mut Lent) -> u32 {
         let mut found = lent.clone();
-        let proved = compare::engine::Host.call(call, &mut found);
-        let answer = Tuned.call(call, lent);
+        let proved = compare::engine::HOST.call(call, &mut found);
+        let answer = TUNED.call(call, lent);
         assert_eq!(answer, proved, "{call:?}");
         assert!(found == *lent, "{call:?} leaves other bytes: {found:?} and {lent:?}");
         answer
@@ -26,7 +26,7 @@ impl Engine for Both {
 
     #[cfg(not(feature = "host"))]
     fn call(&mut self, call: &Call, lent: &mut Lent) -> u32 {
-        Tuned.call(call, lent)
+        TUNED.call(call, lent)
     }
 }
 

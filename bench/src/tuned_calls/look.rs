@@ -5,7 +5,7 @@ use super::{judge, number};
 use crate::tuned::book::BIKES;
 use crate::tuned::{Refusal, RANGE, ROOM};
 
-#[inline(never)]
+#[inline(always)]
 pub fn status(sites: usize, faults: usize, book: &[u8], site: &[u8], out: &mut [u8]) -> Refusal {
     number((|| {
         let site = site.first_chunk::<SITE_BYTES>().ok_or(ROOM)?;
@@ -16,7 +16,7 @@ pub fn status(sites: usize, faults: usize, book: &[u8], site: &[u8], out: &mut [
     })())
 }
 
-#[inline(never)]
+#[inline(always)]
 pub fn bike(sites: usize, faults: usize, book: &[u8], site: &[u8], bike: usize, out: &mut [u8]) -> Refusal {
     number((|| {
         let site = site.first_chunk::<SITE_BYTES>().ok_or(ROOM)?;
@@ -28,7 +28,7 @@ pub fn bike(sites: usize, faults: usize, book: &[u8], site: &[u8], bike: usize, 
     })())
 }
 
-#[inline(never)]
+#[inline(always)]
 pub fn delivery(sites: usize, faults: usize, book: &[u8], site: &[u8], k: usize, out: &mut [u8]) -> Refusal {
     number((|| {
         let site = site.first_chunk::<SITE_BYTES>().ok_or(ROOM)?;

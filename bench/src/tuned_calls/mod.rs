@@ -15,7 +15,7 @@ mod receive;
 mod site;
 mod step;
 
-pub use engine::Tuned;
+pub use engine::TUNED;
 pub use look::{bike, delivery, status};
 pub use receive::{receive_acknowledgment, receive_check, receive_command};
 pub use step::{fast_delivery, log_read, round_end, turn};
@@ -45,7 +45,7 @@ fn is_table(sites: usize, faults: usize) -> bool {
     sites.wrapping_sub(1) < SITES && faults <= 2 && sites > 5 * faults
 }
 
-#[inline(never)]
+#[inline(always)]
 pub fn judge_table(sites: usize, faults: usize, mask: u16) -> Refusal {
     if is_table(sites, faults) && mask >> sites == 0 && mask.count_ones() as usize <= faults {
         TAKEN
@@ -54,7 +54,7 @@ pub fn judge_table(sites: usize, faults: usize, mask: u16) -> Refusal {
     }
 }
 
-#[inline(never)]
+#[inline(always)]
 pub fn judge_book(book: &[u8]) -> Refusal {
     match book::measure(book, &mut ()) {
         Some(_) => TAKEN,
@@ -62,7 +62,7 @@ pub fn judge_book(book: &[u8]) -> Refusal {
     }
 }
 
-#[inline(never)]
+#[inline(always)]
 pub fn fresh(site: &mut [u8]) -> Refusal {
     let Some(site) = site.first_chunk_mut::<SITE_BYTES>() else {
         return ROOM;

@@ -10,7 +10,7 @@ fn join(site: &mut Bytes, set: u64) {
     put_word(site, RECEIVED, word(site, RECEIVED) | set);
 }
 
-#[inline(never)]
+#[inline(always)]
 pub fn receive_command(sites: usize, faults: usize, book: &[u8], site: &mut [u8], command: usize) -> Refusal {
     number((|| {
         let site = site.first_chunk_mut::<SITE_BYTES>().ok_or(ROOM)?;
@@ -23,7 +23,7 @@ pub fn receive_command(sites: usize, faults: usize, book: &[u8], site: &mut [u8]
     })())
 }
 
-#[inline(never)]
+#[inline(always)]
 pub fn receive_acknowledgment(
     sites: usize,
     faults: usize,
@@ -44,7 +44,7 @@ pub fn receive_acknowledgment(
     })())
 }
 
-#[inline(never)]
+#[inline(always)]
 pub fn receive_check(sites: usize, faults: usize, book: &[u8], site: &mut [u8], set: u64) -> Refusal {
     number((|| {
         let site = site.first_chunk_mut::<SITE_BYTES>().ok_or(ROOM)?;

@@ -10,7 +10,7 @@ const TURN_BYTES: usize = 27;
 /// Where a turn's log entry stands.
 const ENTRY: usize = 9;
 
-#[inline(never)]
+#[inline(always)]
 pub fn turn(
     (sites, faults): (usize, usize),
     book: &[u8],
@@ -64,7 +64,7 @@ fn propose(site: &mut Bytes, own: u8, c: u64, out: &mut [u8; TURN_BYTES]) {
     put_word(site, C, c);
 }
 
-#[inline(never)]
+#[inline(always)]
 pub fn fast_delivery(sites: usize, faults: usize, book: &[u8], site: &mut [u8], command: usize) -> Refusal {
     number((|| {
         let site = site.first_chunk_mut::<SITE_BYTES>().ok_or(ROOM)?;
@@ -90,7 +90,7 @@ pub fn fast_delivery(sites: usize, faults: usize, book: &[u8], site: &mut [u8], 
     })())
 }
 
-#[inline(never)]
+#[inline(always)]
 pub fn log_read(sites: usize, faults: usize, book: &[u8], site: &mut [u8], log: &[u8]) -> Refusal {
     number((|| {
         let site = site.first_chunk_mut::<SITE_BYTES>().ok_or(ROOM)?;
@@ -110,7 +110,7 @@ pub fn log_read(sites: usize, faults: usize, book: &[u8], site: &mut [u8], log: 
     })())
 }
 
-#[inline(never)]
+#[inline(always)]
 pub fn round_end(sites: usize, faults: usize, book: &[u8], site: &mut [u8], log: &[u8]) -> Refusal {
     number((|| {
         let site = site.first_chunk_mut::<SITE_BYTES>().ok_or(ROOM)?;

@@ -192,7 +192,8 @@ module _ (S : System) (f : ℕ) (sizes : Sizes S f) where
         v : Traced S (w .log) (w .site i .round) (w .site i .fast ∪ only m) (commandsOf (w .site i .ledger .deliveries ++ new))
         v = fast-traced S (w .log) (w .site i) m (ltb-true m commands lm) pm (not-true (w .site i .fast m) fm) (good .pending i) (good .traced i)
 
-    room-end : (i : ℕ) → isSome (decision S (w .site i) (w .log)) ≡ true → room S (w .site i) (length (due S (tallyOr (decision S (w .site i) (w .log))) (w .site i))) ≡ true
+    -- There is room for what a decided round delivers.
+    pub room-end : (i : ℕ) → isSome (decision S (w .site i) (w .log)) ≡ true → room S (w .site i) (length (due S (tallyOr (decision S (w .site i) (w .log))) (w .site i))) ≡ true
     room-end i h =
         le-leb (length (w .site i .ledger .deliveries) + length (due S t (w .site i))) commands
         (omega (
@@ -226,7 +227,13 @@ module _ (S : System) (f : ℕ) (sizes : Sizes S f) where
         sizes-spared (logRead i) = unmentioned isSize (demands S w (logRead i)) refl
         sizes-spared (roundEnd i) = (quiet, λ a. (quiet, λ b. (quiet, λ c. (quiet, λ d. ((λ z. room-end i d), λ z. tt)))))
 
-    -- A correct site that acknowledges has no entry of its round in the log, so its append is never a third entry.
+    -- A correct site that acknowledges has no entry of its round in the log.
+    pub unspoken : (i : ℕ) → correct S i ≡ true → isAcknowledging (w .site i .phase) ≡ true → entries i (w .site i .round) (w .log) ≡ 0
+    unspoken i b c =
+        no-entries i (w .site i .round) (w .log)
+        (λ x l ex er. ⊎-elim (λ z. omega arith) (λ z. not-waiting (w .site i .phase) c (z .1)) (good .promises i b .spoke x l ex))
+
+    -- So its append is never a third entry.
     pub no-third : (i : ℕ) (r : Refusal) → judge S w (turn i) ≡ Refused r → isThird r ≡ false
     no-third i r e =
         spared isThird (demands S w (turn i))
@@ -234,13 +241,7 @@ module _ (S : System) (f : ℕ) (sizes : Sizes S f) where
         r e
       where
         first : correct S i ≡ true → isAcknowledging (w .site i .phase) ≡ true → ltb (entries i (w .site i .round) (w .log)) 2 ≡ true
-        first b c =
-            lt-ltb (entries i (w .site i .round) (w .log)) 2
-            (omega (
-              arith,
-              no-entries i (w .site i .round) (w .log)
-                  (λ x l ex er. ⊎-elim (λ z. omega arith) (λ z. not-waiting (w .site i .phase) c (z .1)) (good .promises i b .spoke x l ex)),
-            ))
+        first b c = lt-ltb (entries i (w .site i .round) (w .log)) 2 (omega (arith, unspoken i b c))
 
     -- In the round after the last that the log takes everything is delivered, so no turn is enabled there: refusal 8 is never met.
     pub no-last-round : Exchange machine → Limits S → Brought S w → (t : Step) (r : Refusal) → judge S w t ≡ Refused r → isLastRound r ≡ false

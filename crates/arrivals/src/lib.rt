@@ -15,7 +15,7 @@ ghost use Rattle.entries.specs.Entries.{entrySize};
 ghost use Rattle.rounds.specs.Rounds.{Kept};
 ghost use Rattle.sent.specs.Sent.{GoodSent};
 ghost use Rattle.world.specs.Parts.{AtSite, Arrived, Entered};
-ghost use Rattle.arrivals.specs.Messages.{messageVerdict};
+ghost use Rattle.arrivals.specs.Messages.{messageVerdict, unheardOf};
 use entries::Entry;
 use layout::Site;
 use refusals::Refusal;
@@ -24,9 +24,6 @@ use sent::Message;
 use sets::Set;
 use table::SiteTable;
 use world::Stepped;
-
-// The last round of a message.
-const LAST_ROUND: u8 = 33;
 
 // A set joins what site i received.
 fn receive(sites: &mut [u8], i: usize, set: Set)
@@ -49,25 +46,22 @@ fn hear(sites: &mut [u8], i: usize, j: usize, r: usize, set: Set)
 }
 
 // The verdict on a message to a site, by whether its other operands are in range and whether its sender is a site of the role that it is to have.
-// What refuses it is told apart only once it is known that something does.
+// Which site is out of range or has the wrong role is told apart only once it is known that one does.
 fn judge_message(roles: &[u8], site: u8, from: u8, round: u8, other: bool, role: bool) -> Verdict
     requires { ⌜ length (now roles) ≡ roleBytes ⌝ }
     ensures { λ v. ⌜ ((t : SiteTable) → Roles t (now (roles .entry)) → (role ≡ true → from < t .sites) → v ≡ messageVerdict t site from round other role) ⌝ }
 {
-    let taken = roles::is_correct(roles, site)
-        & role
-        & (1 <= round)
-        & (round <= LAST_ROUND)
-        & other;
-    if taken {
-        return Verdict::Taken;
-    }
-    let sites = roles::is_site(roles, site) & roles::is_site(roles, from);
-    let in_range = sites & (1 <= round) & (round <= LAST_ROUND) & other;
-    if !in_range {
+    let r = round as usize;
+    if !((1 <= r) & (r <= Site::ROUNDS) & other) {
         return Verdict::Refused(Refusal::Range);
     }
-    Verdict::Refused(Refusal::Role)
+    if roles::is_correct(roles, site) & role {
+        return Verdict::Taken;
+    }
+    if roles::is_site(roles, site) & roles::is_site(roles, from) {
+        return Verdict::Refused(Refusal::Role);
+    }
+    Verdict::Refused(Refusal::Range)
 }
 
 // 01: a command reaches a site.
@@ -83,14 +77,29 @@ pub fn command(
     ensures { λ v. ⌜ ((sent : List ℕ) → Arrived table commands (protocol.command site command) sent (now (sites .entry)) v (now (sites .exit))) ⌝ }
 {
     let m = command as usize;
-    let known = m < commands;
-    if !(roles::is_correct(roles, site) & known) {
-        return Verdict::Refused(roles::refusal(roles, site, known));
+    if m >= commands {
+        return Verdict::Refused(Refusal::Range);
+    }
+    if !roles::is_correct(roles, site) {
+        return Verdict::Refused(roles::refusal(roles, site, true));
     }
     let from = site as usize * Site::SIZE;
     let to = from + Site::SIZE;
     site::receive_command(&mut sites[from..to], m);
     Verdict::Taken
+}
+
+// What refuses an acknowledgment that a site does not hear, of a round in range: a site or the number out of range, and otherwise what is given.
+fn unheard(roles: &[u8], site: u8, from: u8, number: u8, otherwise: Refusal) -> Refusal
+    requires { ⌜ length (now roles) ≡ roleBytes ⌝ }
+    ensures { λ x. ⌜ ((t : SiteTable) → Roles t (now (roles .entry)) → x ≡ unheardOf t site from number otherwise) ⌝ }
+{
+    let a = number as usize;
+    let counted = (1 <= a) & (a <= Set::CAPACITY);
+    if roles::is_site(roles, site) & roles::is_site(roles, from) & counted {
+        return otherwise;
+    }
+    Refusal::Range
 }
 
 // 02: the acknowledgment of that number, from 1, that a correct site sent in a round reaches a site.
@@ -107,19 +116,18 @@ pub fn acknowledgment(
     requires { ⌜ (length (now sites) ≡ table .sites * siteSize) × (isGood table ≡ true) × Roles table (now roles) × GoodSent (now sent) ⌝ }
     ensures { λ v. ⌜ ((commands : ℕ) → Arrived table commands (protocol.acknowledgment site from round number) (now (sent .entry)) (now (sites .entry)) v (now (sites .exit))) ⌝ }
 {
+    let r = round as usize;
+    if !((1 <= r) & (r <= Site::ROUNDS)) {
+        return Verdict::Refused(Refusal::Range);
+    }
+    if !(roles::is_correct(roles, site) & roles::is_correct(roles, from)) {
+        return Verdict::Refused(unheard(roles, site, from, number, Refusal::Role));
+    }
     let i = site as usize;
     let j = from as usize;
-    let r = round as usize;
-    let a = number as usize;
-    let counted = (1 <= a) & (a <= Set::CAPACITY);
-    let correct = roles::is_correct(roles, from);
-    let verdict = judge_message(roles, site, from, round, counted, correct);
-    if let Verdict::Refused(refusal) = verdict {
-        return Verdict::Refused(refusal);
-    }
-    let message = sent::acknowledgment(sent, j, r, a);
+    let message = sent::acknowledgment(sent, j, r, number);
     let Message::Sent(set) = message else {
-        return Verdict::Refused(Refusal::Disabled);
+        return Verdict::Refused(unheard(roles, site, from, number, Refusal::Disabled));
     };
     hear(sites, i, j, r, set);
     Verdict::Taken
@@ -226,13 +234,8 @@ pub fn false_entry(
 {
     let j = from as usize;
     let r = round as usize;
-    let entry = Entry {
-        site: j,
-        round: r,
-        nc: nc,
-        c: c,
-    };
-    if !entries::in_range(entry, table.sites, commands) {
+    let sets = nc.within(commands) & c.within(commands);
+    if !((1 <= r) & (r <= Entry::ROUNDS) & sets) {
         return Stepped {
             code: refusals::number(Refusal::Range),
             entries: entries,
@@ -240,7 +243,7 @@ pub fn false_entry(
     }
     if !roles::is_faulty(roles, from) {
         return Stepped {
-            code: refusals::number(Refusal::Role),
+            code: refusals::number(roles::refusal(roles, from, true)),
             entries: entries,
         };
     }
@@ -250,9 +253,16 @@ pub fn false_entry(
             entries: entries,
         };
     }
+    let entry = Entry {
+        site: j,
+        round: r,
+        nc: nc,
+        c: c,
+    };
     entries::write_entry(log, entries, entry);
+    let more = entries + 1;
     Stepped {
         code: 0,
-        entries: entries + 1,
+        entries: more,
     }
 }

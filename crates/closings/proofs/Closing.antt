@@ -12,7 +12,7 @@ use Rattle.refusals.specs.declared.Refusal.{Refusal}
 use Rattle.refusals.specs.declared.Verdict.{Verdict}
 use Rattle.refusals.specs.declared.Verdict.the-variants.{Refused}
 use Rattle.refusals.specs.declared.Refusal.the-variants.{Range, Role}
-use Rattle.theory.specs.Counting.{not-true}
+use Rattle.theory.specs.Counting.{never, not-true}
 use Rattle.sets.specs.declared.Set.{Set}
 use Rattle.sets.specs.Sets.{withinOf}
 use Rattle.table.specs.declared.SiteTable.{SiteTable}
@@ -38,14 +38,14 @@ use Rattle.recovery.specs.declared.Decision.{Decision}
 use Rattle.recovery.specs.declared.Decision.the-variants.{Undecided, Decided}
 use Rattle.recovery.specs.Decisions.{decisionOf}
 use Rattle.recovery.proofs.Within.{sets-within}
-use Rattle.ending.specs.Ending.{Told, RoundEnded}
+use Rattle.ending.specs.Ending.{HasRoom, Told, RoundEnded}
 use Rattle.ending.proofs.Telling.{told-none, told-decided}
 use Rattle.rounds.specs.Rounds.{keptRounds, Kept}
 use Rattle.world.specs.World.{siteAt, worldOf}
 use Rattle.world.specs.Parts.{lent, AtSite}
 use Rattle.world.proofs.Sites.{lent-part}
 use Rattle.world.proofs.Hold.{seen, refused, carried-site}
-use Rattle.closings.specs.Closings.{GoodSites, GoodLog, KeptLog, FastAt, Closed}
+use Rattle.closings.specs.Closings.{GoodSites, GoodLog, KeptLog, FastAt, Closed, RoomToEnd}
 
 -- ---- 08
 
@@ -108,6 +108,11 @@ pub good-part : (t : SiteTable) (commands : ℕ) (sites : List ℕ) (i k : ℕ) 
     → Good (t .sites) commands (take k (drop (i * siteSize) sites))
 good-part t commands sites i k g a e = subst (Good (t .sites) commands) (sym (lent-part sites i k e)) (g .site i a)
 
+-- What is known of a site's room is known of the part that is lent.
+pub room-part : (book : List Command) (decided : Bool) (nc c : Set) (sites : List ℕ) (i k : ℕ) → HasRoom book decided nc c (siteAt sites i) → k ≡ siteSize
+    → HasRoom book decided nc c (take k (drop (i * siteSize) sites))
+room-part book decided nc c sites i k h e = subst (HasRoom book decided nc c) (sym (lent-part sites i k e)) h
+
 pub sites-room : (t : SiteTable) (commands : ℕ) (sites : List ℕ) (i : ℕ) → GoodSites t commands sites → i < t .sites → i * siteSize + siteSize ≤ length sites
 sites-room t commands sites i g a = let z = g .size in omega arith
 
@@ -149,6 +154,18 @@ module _ (t : SiteTable) (table : isGood t ≡ true) (bytes sites log : List ℕ
   site-decided x h =
       told-decided t table bytes rows log (good .bytes) k r (read .1) logged-read refl ed (view t (commandsOf bytes) (siteAt sites i)) (logTo log entries)
       same (sym round) x h
+
+  module _ (n : ℕ) (en : commands ≡ n) (sites-good : GoodSites t n sites) where
+    site-good : Good (t .sites) commands (siteAt sites i)
+    site-good = subst (λ (m : ℕ). Good (t .sites) m (siteAt sites i)) (sym en) (sites-good .site i a)
+
+    -- There is room for nothing.
+    pub room-undecided : (nc c : Set) → d ≡ Undecided → HasRoom (commandsOf bytes) false nc c (siteAt sites i)
+    room-undecided nc c h = record { table = t; log = logTo log entries; good = site-good; told = site-undecided nc c h; room = λ e. absurd (never false e refl) }
+
+    pub room-decided : RoomToEnd t (commandsOf bytes) sites (logTo log entries) i → (x : Sets) → d ≡ Decided x → HasRoom (commandsOf bytes) true (x .nc) (x .c) (siteAt sites i)
+    room-decided room x h =
+        record { table = t; log = logTo log entries; good = site-good; told = site-decided x h; room = λ e. room a (sym (site-decided x h .is)) }
 
   pub sets-fit : (n : ℕ) → commands ≡ n → (x : Sets) → d ≡ Decided x → (withinOf (x .nc) n ≡ true) × (withinOf (x .c) n ≡ true)
   sets-fit n e x h =

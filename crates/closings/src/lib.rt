@@ -11,13 +11,15 @@ ghost use Rattle.roles.specs.Roles.{Roles};
 ghost use Rattle.commands.specs.Book.{commandsOf};
 ghost use Rattle.protocol.specs.World as protocol;
 ghost use Rattle.layout.specs.Layout.{siteSize};
+ghost use Rattle.entries.specs.Entries.{logTo};
 ghost use Rattle.deliver.specs.Delivering.{Noted};
-ghost use Rattle.ending.specs.Ending.{RoundEnded};
+ghost use Rattle.ending.specs.Ending.{HasRoom, RoundEnded};
 ghost use Rattle.world.specs.World.{siteAt};
 ghost use Rattle.world.specs.Parts.{AtSite};
-ghost use Rattle.closings.specs.Closings.{GoodSites, KeptLog, FastAt, Closed};
+ghost use Rattle.closings.specs.Closings.{GoodSites, KeptLog, RoomToEnd, FastAt, Closed};
 use layout::Site;
 use recovery::Decision;
+use refusals::Refusal;
 use refusals::Verdict;
 use sets::Set;
 use table::SiteTable;
@@ -56,14 +58,16 @@ pub fn fast_delivery(
     ensures { λ v. ⌜ ((log : List ℕ) (entries : ℕ) → Closed table (commandsOf (now (book .entry))) (protocol.fastDelivery site command) log entries (now (sites .entry)) v (now (sites .exit))) ⌝ }
 {
     let m = command as usize;
-    let known = m < commands;
-    if !(roles::is_correct(roles, site) & known) {
-        return Verdict::Refused(roles::refusal(roles, site, known));
+    if m >= commands {
+        return Verdict::Refused(Refusal::Range);
+    }
+    if !roles::is_correct(roles, site) {
+        return Verdict::Refused(roles::refusal(roles, site, true));
     }
     fast_at(sites, table, book, places, commands, site as usize, m)
 }
 
-// The round of site i ends with the decided sets, or the step is refused.
+// The round of site i ends with the decided sets, or the step is refused. In a run there is room for them.
 fn end_at(
     sites: &mut [u8],
     book: &[u8],
@@ -75,12 +79,22 @@ fn end_at(
     c: Set,
 ) -> Verdict
     requires { ⌜ ((table : SiteTable) × GoodSites table commands (now sites) × (i < table .sites)) × Noted (now book) (now places)
-        × (length (commandsOf (now book)) ≡ commands) × (withinOf nc commands ≡ true) × (withinOf c commands ≡ true) ⌝ }
+        × (length (commandsOf (now book)) ≡ commands) × (withinOf nc commands ≡ true) × (withinOf c commands ≡ true)
+        × HasRoom (commandsOf (now book)) decided nc c (siteAt (now sites) i) ⌝ }
     ensures { λ v. ⌜ AtSite i (λ b after. RoundEnded (commandsOf (now (book .entry))) decided nc c b v after) (now (sites .entry)) (now (sites .exit)) ⌝ }
 {
     let from = i * Site::SIZE;
     let to = from + Site::SIZE;
-    ending::round_end(&mut sites[from..to], book, places, commands, decided, nc, c)
+    ending::round_end(
+        &mut sites[from..to],
+        book,
+        places,
+        commands,
+        decided,
+        nc,
+        c,
+        true,
+    )
 }
 
 // 0A: a site ends its round, as what is kept of the log decides it.
@@ -94,7 +108,7 @@ pub fn round_end(
     commands: usize,
     site: u8,
 ) -> Verdict
-    requires { ⌜ GoodSites table commands (now sites) × ((log : List ℕ) × (entries : ℕ) × KeptLog table (now book) (now sites) log entries (now kept))
+    requires { ⌜ GoodSites table commands (now sites) × ((log : List ℕ) × (entries : ℕ) × KeptLog table (now book) (now sites) log entries (now kept) × RoomToEnd table (commandsOf (now book)) (now sites) (logTo log entries) site)
         × (isGood table ≡ true) × Roles table (now roles) × Noted (now book) (now places) × (length (commandsOf (now book)) ≡ commands) ⌝ }
     ensures { λ v. ⌜ ((log : List ℕ) (entries : ℕ) → KeptLog table (now (book .entry)) (now (sites .entry)) log entries (now (kept .entry))
         → Closed table (commandsOf (now (book .entry))) (protocol.roundEnd site) log entries (now (sites .entry)) v (now (sites .exit))) ⌝ }

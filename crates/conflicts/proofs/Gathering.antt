@@ -3,87 +3,190 @@
 use mathlib.Core.Bool.{Bool, true, false, not, _&&_, _||_}
 use mathlib.Core.Path.{_≡_, refl, sym, ap, subst, _∙_}
 use mathlib.Core.List.{List}
-use Prim.Native.Nat.{ℕ, _+_, _-_, _≤_, _<_, _^_}
+use Prim.Native.Nat.{ℕ, zero, suc, _+_, _-_, _*_, _≤_, _<_, _^_}
 use native.Mathlib.Omega.{arith}
-use borrow.Author.Tests.{lt-ltb, le-ltb, eqb-true, eq-eqb}
+use borrow.Author.Tests.{lt-ltb, le-ltb, eqb-true, eqb-false, eq-eqb, ne-eqb}
 use lib.Dec.{eqb, ltb}
+use lib.Pow.{pow-mono}
 use lib.ListN.{length, getD, replicate, length-set, length-replicate, getD-replicate}
 use Rattle.theory.specs.Sets.{pick}
 use Rattle.theory.specs.Counting.{never}
 use Rattle.sets.specs.declared.Set.{Set}
-use Rattle.sets.specs.Sets.{capacity, inSet, emptyOf, setOf, withOf, withoutOf, loadSet, storeSet, word}
-use Rattle.sets.proofs.Laws.{in-empty, in-with, in-without, in-setOf, build-none, build-yes, build-no, load-stored, load-other, word-ext, word-lt, set-ext, with-fits, without-fits}
+use Rattle.sets.specs.Sets.{capacity, inSet, setOf, withOf, withoutOf, loadSet, storeSet, word}
+use Rattle.sets.proofs.Laws.{in-with, in-without, in-setOf, build-none, build-yes, build-no, load-stored, load-other, word-ext, word-lt, set-ext, with-fits, without-fits}
 use Rattle.register.specs.declared.Command.{Command}
 use Rattle.register.specs.declared.Command.the-variants.{Add, Fit, Read, Trim}
-use Rattle.register.specs.Register.{bikes, bikeOf, isAdd, isRead, alike}
+use Rattle.register.specs.Register.{bikes, bikeOf, alike}
 use Rattle.commands.specs.declared.Head.{Head}
 use Rattle.commands.specs.Book.{commandsOf, commandOf, headOf}
 use Rattle.commands.proofs.Places.{commands-valid}
-use Rattle.conflicts.specs.Conflicts.{conflictIn, conflictRow, isOn, anyKind, withNoted, Gathered, unopposed}
-use Rattle.conflicts.proofs.Laws.{no-more, and-false, conflict-in-sym, in-row, out-right, in-book}
+use Rattle.conflicts.specs.Conflicts.{conflictIn, conflictRow, isOn, anyKind, slots, slotKind, kindSlot, unopposedSlot, withNoted, Gathered}
+use Rattle.conflicts.proofs.Laws.{no-more, and-false, conflict-in-sym, in-row}
+
+-- ---- places
+
+-- Two places are the same where bike and slot are.
+place-same : (a b u v : ℕ) → u < slots → v < slots → eqb (slots * a + u) (slots * b + v) ≡ (eqb a b && eqb u v)
+place-same a b u v lu lv = go (eqb a b) (eqb u v) refl refl
+  where
+    go : (s t : Bool) → eqb a b ≡ s → eqb u v ≡ t → eqb (slots * a + u) (slots * b + v) ≡ (s && t)
+    go true true e f = let p = eqb-true a b e in let q = eqb-true u v f in eq-eqb (slots * a + u) (slots * b + v) (omega arith)
+    go true false e f = let n = eqb-false u v f in let p = eqb-true a b e in ne-eqb (slots * a + u) (slots * b + v) (λ h. n (omega arith))
+    go false t e f = let n = eqb-false a b e in ne-eqb (slots * a + u) (slots * b + v) (λ h. n (omega arith))
+
+-- The first place of a bike.
+bike-same : (a b v : ℕ) → v < slots → eqb (slots * a) (slots * b + v) ≡ (eqb a b && eqb 0 v)
+bike-same a b v lv =
+    let e : slots * a ≡ slots * a + 0 = omega arith in
+    ap (λ (p : ℕ). eqb p (slots * b + v)) e ∙ place-same a b 0 v (omega arith) lv
+
+kind-below : (c : Command) → kindSlot (headOf c) < slots
+kind-below (Add b km) = omega arith
+kind-below (Fit b dash start) = omega arith
+kind-below (Read b) = omega arith
+kind-below (Trim b km) = omega arith
+
+unopposed-below : (c : Command) → unopposedSlot (headOf c) < slots
+unopposed-below (Add b km) = omega arith
+unopposed-below (Fit b dash start) = omega arith
+unopposed-below (Read b) = omega arith
+unopposed-below (Trim b km) = omega arith
+
+-- A command is of the kinds of the slots where it is noted, and of no other.
+noted-kind : (c : Command) (v : ℕ) → v < slots → (eqb 0 v || eqb (kindSlot (headOf c)) v) ≡ slotKind v c
+noted-kind c zero h = refl
+noted-kind (Add b km) (suc zero) h = refl
+noted-kind (Fit b dash start) (suc zero) h = refl
+noted-kind (Read b) (suc zero) h = refl
+noted-kind (Trim b km) (suc zero) h = refl
+noted-kind (Add b km) (suc (suc zero)) h = refl
+noted-kind (Fit b dash start) (suc (suc zero)) h = refl
+noted-kind (Read b) (suc (suc zero)) h = refl
+noted-kind (Trim b km) (suc (suc zero)) h = refl
+noted-kind (Add b km) (suc (suc (suc zero))) h = refl
+noted-kind (Fit b dash start) (suc (suc (suc zero))) h = refl
+noted-kind (Read b) (suc (suc (suc zero))) h = refl
+noted-kind (Trim b km) (suc (suc (suc zero))) h = refl
+noted-kind c (suc (suc (suc (suc v)))) h = absurd (omega arith)
+
+-- Those that a command does not conflict with are of its own kind.
+unopposed-kind : (c d : Command) → slotKind (unopposedSlot (headOf c)) d ≡ alike d c
+unopposed-kind (Add b km) (Add b′ km′) = refl
+unopposed-kind (Add b km) (Fit b′ dash′ start′) = refl
+unopposed-kind (Add b km) (Read b′) = refl
+unopposed-kind (Add b km) (Trim b′ km′) = refl
+unopposed-kind (Fit b dash start) (Add b′ km′) = refl
+unopposed-kind (Fit b dash start) (Fit b′ dash′ start′) = refl
+unopposed-kind (Fit b dash start) (Read b′) = refl
+unopposed-kind (Fit b dash start) (Trim b′ km′) = refl
+unopposed-kind (Read b) (Add b′ km′) = refl
+unopposed-kind (Read b) (Fit b′ dash′ start′) = refl
+unopposed-kind (Read b) (Read b′) = refl
+unopposed-kind (Read b) (Trim b′ km′) = refl
+unopposed-kind (Trim b km) (Add b′ km′) = refl
+unopposed-kind (Trim b km) (Fit b′ dash′ start′) = refl
+unopposed-kind (Trim b km) (Read b′) = refl
+unopposed-kind (Trim b km) (Trim b′ km′) = refl
+
+-- ---- how the sets grow
 
 -- Nothing is gathered yet.
-pub gathered-none : (kind : Command → Bool) (s : List ℕ) → Gathered kind s 0 (replicate 32 0)
-gathered-none kind s =
+pub gathered-none : (s : List ℕ) → Gathered s 0 (replicate 128 0)
+gathered-none s =
     record {
-      size = length-replicate {0} {A = ℕ} 32 0;
-      at = λ b l. (λ i. record { bits = getD-replicate {0} {A = ℕ} 32 b 0 0 l i }) ∙ build-none (isOn kind s b);
+      size = length-replicate {0} {A = ℕ} 128 0;
+      at = λ b v lb lv. (λ i. record { bits = getD-replicate {0} {A = ℕ} 128 (slots * b + v) 0 0 (omega arith) i }) ∙ build-none (isOn (slotKind v) s b);
     }
 
--- One command more is gathered.
-pub gathered-more : (kind : Command → Bool) (s ws : List ℕ) (k b : ℕ) (test : Bool) → b ≡ bikeOf (commandOf s k) → b < bikes → test ≡ kind (commandOf s k)
-    → Gathered kind s k ws → Gathered kind s (k + 1) (withNoted ws b k test)
-gathered-more kind s ws k b test eb lb et g =
-    record {
-      size = length-set ws b _ ∙ g .size;
-      at = λ a la. go a la (eqb (bikeOf (commandOf s k)) a) refl;
-    }
+-- A command joins the set at its place, and no other.
+noted : (ws : List ℕ) (q k p : ℕ) {x : Set} → q < length ws → loadSet ws p ≡ x → loadSet (withNoted ws q k) p ≡ pick (eqb q p) (withOf x k) x
+noted ws q k p {x} h e = go (eqb q p) refl
   where
-    built : (test : Bool) → test ≡ kind (commandOf s k) → (a : ℕ) → bikeOf (commandOf s k) ≡ a
-        → pick test (withOf (setOf k (isOn kind s a)) k) (setOf k (isOn kind s a)) ≡ setOf (k + 1) (isOn kind s a)
-    built true e a q = build-yes k (isOn kind s a) ((λ i. eq-eqb (bikeOf (commandOf s k)) a q i && kind (commandOf s k)) ∙ sym e)
-    built false e a q = build-no k (isOn kind s a) ((λ i. eq-eqb (bikeOf (commandOf s k)) a q i && kind (commandOf s k)) ∙ sym e)
+    go : (t : Bool) → eqb q p ≡ t → loadSet (withNoted ws q k) p ≡ pick t (withOf x k) x
+    go true t =
+        let here = eqb-true q p t in
+        ap (loadSet (withNoted ws q k)) (sym here)
+        ∙ load-stored ws q (withOf (loadSet ws q) k) h
+        ∙ ap (λ (a : ℕ). withOf (loadSet ws a) k) here
+        ∙ ap (λ (y : Set). withOf y k) e
+    go false t = load-other ws q (withOf (loadSet ws q) k) p (λ z. never (eqb q p) (eq-eqb q p (sym z)) t) ∙ e
 
-    go : (a : ℕ) → a < bikes → (t : Bool) → eqb (bikeOf (commandOf s k)) a ≡ t → loadSet (withNoted ws b k test) a ≡ setOf (k + 1) (isOn kind s a)
-    go a la true e =
-        let q = eqb-true (bikeOf (commandOf s k)) a e in
-        let here : b ≡ a = eb ∙ q in
-        ap (loadSet (withNoted ws b k test)) (sym here)
-        ∙ load-stored ws b (pick test (withOf (loadSet ws b) k) (loadSet ws b)) (subst (λ (n : ℕ). b < n) (sym (g .size)) lb)
-        ∙ ap (λ (x : Set). pick test (withOf x k) x) (g .at b lb)
-        ∙ ap (λ (c : ℕ). pick test (withOf (setOf k (isOn kind s c)) k) (setOf k (isOn kind s c))) here
-        ∙ built test et a q
-    go a la false e =
-        load-other ws b (pick test (withOf (loadSet ws b) k) (loadSet ws b)) a (λ q. never (eqb (bikeOf (commandOf s k)) a) (eq-eqb (bikeOf (commandOf s k)) a (sym (q ∙ eb))) e)
-        ∙ g .at a la
-        ∙ build-no k (isOn kind s a) (λ i. e i && kind (commandOf s k))
+or-again : (x y : Bool) → ((x || y) || y) ≡ (x || y)
+or-again true y = refl
+or-again false true = refl
+or-again false false = refl
 
--- All commands are gathered, as the code counts them.
-pub gathered-all : (kind : Command → Bool) (s ws : List ℕ) {n : ℕ} → n ≡ length (commandsOf s) → Gathered kind s n ws → Gathered kind s (length (commandsOf s)) ws
-gathered-all kind s ws e g = subst (λ (k : ℕ). Gathered kind s k ws) e g
+with-again : (x : Set) (k : ℕ) → x .bits < 2 ^ 64 → k < 64 → withOf (withOf x k) k ≡ withOf x k
+with-again x k h l =
+    set-ext _ _ (with-fits (withOf x k) k (with-fits x k h l) l) (with-fits x k h l)
+    (λ j g. in-with (withOf x k) k j ∙ ap (λ (t : Bool). t || eqb j k) (in-with x k j) ∙ or-again (inSet x j) (eqb j k) ∙ sym (in-with x k j))
 
--- The same, as the code tells it.
-pub note-told : (ws : List ℕ) (at k : ℕ) (test : Bool) {x y : Set} {after : List ℕ} → x ≡ loadSet ws at → y ≡ pick test (withOf x k) x → after ≡ storeSet ws at y
-    → after ≡ withNoted ws at k test
-note-told ws at k test ex ey ea = ea ∙ ap (storeSet ws at) (ey ∙ ap (λ (x : Set). pick test (withOf x k) x) ex)
+-- To join once or twice is the same.
+joined : (a b : Bool) (k : ℕ) (f : ℕ → Bool) → k < 64 → f k ≡ (a || b)
+    → pick b (withOf (pick a (withOf (setOf k f) k) (setOf k f)) k) (pick a (withOf (setOf k f) k) (setOf k f)) ≡ setOf (k + 1) f
+joined true true k f l e = with-again (setOf k f) k (below k f l) l ∙ build-yes k f e
+  where
+    below : (k : ℕ) (f : ℕ → Bool) → k < 64 → word k f < 2 ^ 64
+    below k f l = let w = word-lt k f in let m = pow-mono {i = k} {j = 64} (omega arith) in omega arith
+joined true false k f l e = build-yes k f e
+joined false true k f l e = build-yes k f e
+joined false false k f l e = build-no k f e
+
+and-or : (x y z : Bool) → (x && y || x && z) ≡ x && (y || z)
+and-or true y z = refl
+and-or false y z = refl
 
 module _ (s : List ℕ) (k : ℕ) {c : Head} (inside : k < length (commandsOf s)) (ec : c ≡ headOf (commandOf s k)) where
   pub bike-below : c .bike < bikes
   bike-below = subst (λ (x : Head). x .bike < bikes) (sym ec) (commands-valid s k inside .bike)
 
-  pub bike-place : {n : ℕ} → n ≡ bikes → c .bike < n
-  bike-place e = subst (λ (x : ℕ). c .bike < x) (sym e) bike-below
+  slot-below : kindSlot c < slots
+  slot-below = subst (λ (x : Head). kindSlot x < slots) (sym ec) (kind-below (commandOf s k))
 
-  pub gathered-told : (kind : Command → Bool) (ws : List ℕ) (test : Bool) {after : List ℕ} → test ≡ kind (commandOf s k) → after ≡ withNoted ws (c .bike) k test
-      → Gathered kind s k ws → Gathered kind s (k + 1) after
-  gathered-told kind ws test et ea g =
-      subst (Gathered kind s (k + 1)) (sym ea) (gathered-more kind s ws k (c .bike) test (λ i. ec i .bike) bike-below et g)
+  slot-unopposed : unopposedSlot c < slots
+  slot-unopposed = subst (λ (x : Head). unopposedSlot x < slots) (sym ec) (unopposed-below (commandOf s k))
 
-  pub adds-told : c .add ≡ isAdd (commandOf s k)
-  adds-told = λ i. ec i .add
+  -- The places of a command in the sets.
+  pub bike-place : {n : ℕ} → n ≡ slots * bikes → slots * c .bike < n
+  bike-place e = let b = bike-below in omega arith
 
-  pub reads-told : c .read ≡ isRead (commandOf s k)
-  reads-told = λ i. ec i .read
+  pub kind-place : {n r : ℕ} → n ≡ slots * bikes → r ≡ kindSlot c → slots * c .bike + r < n
+  kind-place e h = let b = bike-below in let l = slot-below in omega arith
+
+  pub unopposed-place : {n r : ℕ} → n ≡ slots * bikes → r ≡ unopposedSlot c → slots * c .bike + r < n
+  unopposed-place e h = let b = bike-below in let l = slot-unopposed in omega arith
+
+  -- One command more is gathered.
+  pub gathered-more : (ws : List ℕ) {ws₁ ws₂ : List ℕ} {r : ℕ} → k < capacity → r ≡ kindSlot c
+      → ws₁ ≡ withNoted ws (slots * c .bike) k → ws₂ ≡ withNoted ws₁ (slots * c .bike + r) k → Gathered s k ws → Gathered s (k + 1) ws₂
+  gathered-more ws {ws₁} {ws₂} {r} l er e₁ e₂ g =
+      record {
+        size = ap length e₂ ∙ length-set ws₁ _ _ ∙ size₁;
+        at = λ b v lb lv.
+            ap (λ (x : List ℕ). loadSet x (slots * b + v)) e₂
+            ∙ noted ws₁ (slots * c .bike + r) k (slots * b + v) (kind-place size₁ er)
+            (ap (λ (x : List ℕ). loadSet x (slots * b + v)) e₁ ∙ noted ws (slots * c .bike) k (slots * b + v) (bike-place (g .size)) (g .at b v lb lv))
+            ∙ joined (eqb (slots * c .bike) (slots * b + v)) (eqb (slots * c .bike + r) (slots * b + v)) k (isOn (slotKind v) s b) l (sym (told b v lv));
+      }
+    where
+      size₁ : length ws₁ ≡ slots * bikes
+      size₁ = ap length e₁ ∙ length-set ws _ _ ∙ g .size
+
+      told : (b v : ℕ) → v < slots → (eqb (slots * c .bike) (slots * b + v) || eqb (slots * c .bike + r) (slots * b + v)) ≡ isOn (slotKind v) s b k
+      told b v lv =
+          (λ i. bike-same (c .bike) b v lv i || place-same (c .bike) b r v (subst (λ (x : ℕ). x < slots) (sym er) slot-below) lv i)
+          ∙ and-or (eqb (c .bike) b) (eqb 0 v) (eqb r v)
+          ∙ (λ i. eqb (ec i .bike) b && (eqb 0 v || eqb (er i) v))
+          ∙ (λ i. eqb (bikeOf (commandOf s k)) b && (eqb 0 v || eqb (kindSlot (ec i)) v))
+          ∙ ap (λ (t : Bool). eqb (bikeOf (commandOf s k)) b && t) (noted-kind (commandOf s k) v lv)
+
+-- All commands are gathered, as the code counts them.
+pub gathered-all : (s ws : List ℕ) {n : ℕ} → n ≡ length (commandsOf s) → Gathered s n ws → Gathered s (length (commandsOf s)) ws
+gathered-all s ws e g = subst (λ (k : ℕ). Gathered s k ws) e g
+
+-- A command is noted, as the code tells it.
+pub note-told : (ws : List ℕ) (at k : ℕ) {x y : Set} {after : List ℕ} → x ≡ loadSet ws at → y ≡ withOf x k → after ≡ storeSet ws at y → after ≡ withNoted ws at k
+note-told ws at k ex ey ea = ea ∙ ap (storeSet ws at) (ey ∙ ap (λ (x : Set). withOf x k) ex)
 
 -- ---- a row
 
@@ -121,66 +224,23 @@ module _ (s : List ℕ) (m : ℕ) (few : length (commandsOf s) ≤ capacity) (in
   gathered-in : (kind : Command → Bool) (k : ℕ) → k < capacity → inSet (gathered kind) k ≡ (ltb k n && (on k && kind (commandOf s k)))
   gathered-in kind k l = in-setOf capacity (upTo n (isOn kind s (bikeOf (commandOf s m)))) k l
 
-  right-true : (x : Bool) (y : Bool) → x ≡ x && true || y && false
-  right-true true true = refl
-  right-true true false = refl
-  right-true false true = refl
-  right-true false false = refl
-
-  left-true : (x : Bool) (y : Bool) → x ≡ y && false || x && true
-  left-true true true = refl
-  left-true true false = refl
-  left-true false true = refl
-  left-true false false = refl
-
-  none-true : (x y : Bool) → false ≡ x && false || y && false
-  none-true true true = refl
-  none-true true false = refl
-  none-true false true = refl
-  none-true false false = refl
-
-  nowhere : (x y : Bool) → false ≡ x && (y && false)
-  nowhere true true = refl
-  nowhere true false = refl
-  nowhere false y = refl
-
-  unopposed-in : (c : Command) (k : ℕ) → k < capacity
-      → inSet (unopposed (headOf c) (gathered isAdd) (gathered isRead)) k ≡ (ltb k n && (on k && alike (commandOf s k) c))
-  unopposed-in (Add b km) k l =
-      gathered-in isAdd k l ∙ ap (λ (t : Bool). ltb k n && (on k && t)) (right-true (isAdd (commandOf s k)) (isRead (commandOf s k)))
-  unopposed-in (Fit b dash start) k l =
-      in-empty k ∙ nowhere (ltb k n) (on k) ∙ ap (λ (t : Bool). ltb k n && (on k && t)) (none-true (isAdd (commandOf s k)) (isRead (commandOf s k)))
-  unopposed-in (Read b) k l =
-      gathered-in isRead k l ∙ ap (λ (t : Bool). ltb k n && (on k && t)) (left-true (isRead (commandOf s k)) (isAdd (commandOf s k)))
-  unopposed-in (Trim b km) k l =
-      in-empty k ∙ nowhere (ltb k n) (on k) ∙ ap (λ (t : Bool). ltb k n && (on k && t)) (none-true (isAdd (commandOf s k)) (isRead (commandOf s k)))
-
   fits : (p : ℕ → Bool) → setOf capacity p .bits < 2 ^ 64
   fits p = word-lt capacity p
 
-  unopposed-fits : (c : Command) → unopposed (headOf c) (gathered isAdd) (gathered isRead) .bits < 2 ^ 64
-  unopposed-fits (Add b km) = fits _
-  unopposed-fits (Fit b dash start) = omega arith
-  unopposed-fits (Read b) = fits _
-  unopposed-fits (Trim b km) = omega arith
+  -- Those of its own kind on its bike.
+  abbrev peaceful : Set
+  peaceful = gathered (λ d. alike d (commandOf s m))
 
-  row-same : withoutOf (gathered anyKind) (withOf (unopposed (headOf (commandOf s m)) (gathered isAdd) (gathered isRead)) m) ≡ conflictRow s m
+  row-same : withoutOf (gathered anyKind) (withOf peaceful m) ≡ conflictRow s m
   unfolding conflictRow conflictIn
   row-same =
-      set-ext _ (conflictRow s m)
-      (without-fits (gathered anyKind) (withOf (unopposed (headOf (commandOf s m)) (gathered isAdd) (gathered isRead)) m) (fits _)
-      (with-fits (unopposed (headOf (commandOf s m)) (gathered isAdd) (gathered isRead)) m (unopposed-fits (commandOf s m)) (omega arith)))
-      (fits (conflictIn s m))
-      same
+      set-ext _ (conflictRow s m) (without-fits (gathered anyKind) (withOf peaceful m) (fits _) (with-fits peaceful m (fits _) (omega arith))) (fits (conflictIn s m)) same
     where
-      U : Set
-      U = unopposed (headOf (commandOf s m)) (gathered isAdd) (gathered isRead)
-
-      same : (k : ℕ) → k < 64 → inSet (withoutOf (gathered anyKind) (withOf U m)) k ≡ inSet (conflictRow s m) k
+      same : (k : ℕ) → k < 64 → inSet (withoutOf (gathered anyKind) (withOf peaceful m)) k ≡ inSet (conflictRow s m) k
       same k l =
-          in-without (gathered anyKind) (withOf U m) k
-          ∙ (λ i. gathered-in anyKind k l i && not (in-with U m k i))
-          ∙ ap (λ (t : Bool). (ltb k n && (on k && true)) && not (t || eqb k m)) (unopposed-in (commandOf s m) k l)
+          in-without (gathered anyKind) (withOf peaceful m) k
+          ∙ (λ i. gathered-in anyKind k l i && not (in-with peaceful m k i))
+          ∙ ap (λ (t : Bool). (ltb k n && (on k && true)) && not (t || eqb k m)) (gathered-in (λ d. alike d (commandOf s m)) k l)
           ∙ row-table (ltb k n) (on k) (eqb k m) (alike (commandOf s k) (commandOf s m))
           ∙ ap (λ (t : Bool). ltb k n && (t && (not (eqb k m) && (on k && not (alike (commandOf s k) (commandOf s m)))))) (sym (lt-ltb m n inside))
           ∙ sym (conflict-in-sym s m k)
@@ -190,12 +250,19 @@ module _ (s : List ℕ) (m : ℕ) (few : length (commandsOf s) ≤ capacity) (in
   told kind bike e = e ∙ ap (λ (b : ℕ). setOf n (isOn kind s b)) bike ∙ up-to n (isOn kind s (bikeOf (commandOf s m))) few
 
   -- The row of a command, from the sets of its bike, as the code tells it.
-  pub row-told : {c : Head} {all adds reads peaceful with row : Set} → c ≡ headOf (commandOf s m)
-      → all ≡ setOf n (isOn anyKind s (c .bike)) → adds ≡ setOf n (isOn isAdd s (c .bike)) → reads ≡ setOf n (isOn isRead s (c .bike))
-      → peaceful ≡ unopposed c adds reads → with ≡ withOf peaceful m → row ≡ withoutOf all with → row ≡ conflictRow s m
-  row-told {c} {all} ec ea ed er ep ew ex =
+  pub row-told : {c : Head} {ws : List ℕ} {r : ℕ} {all free with row : Set} → c ≡ headOf (commandOf s m) → r ≡ unopposedSlot c → Gathered s n ws
+      → all ≡ loadSet ws (slots * c .bike) → free ≡ loadSet ws (slots * c .bike + r) → with ≡ withOf free m → row ≡ withoutOf all with → row ≡ conflictRow s m
+  row-told {c} {ws} {r} {all} {free} ec er g ea ef ew ex =
       let bike : c .bike ≡ bikeOf (commandOf s m) = λ i. ec i .bike in
+      let below = bike-below s m inside ec in
+      let first : slots * c .bike ≡ slots * c .bike + 0 = omega arith in
+      let a : all ≡ gathered anyKind = told anyKind bike (ea ∙ ap (loadSet ws) first ∙ g .at (c .bike) 0 below (omega arith)) in
+      let f : free ≡ gathered (slotKind (unopposedSlot (headOf (commandOf s m)))) =
+      told (slotKind (unopposedSlot (headOf (commandOf s m)))) bike
+      (ef
+      ∙ (λ i. loadSet ws (slots * c .bike + (er ∙ ap unopposedSlot ec) i))
+      ∙ g .at (c .bike) (unopposedSlot (headOf (commandOf s m))) below (unopposed-below (commandOf s m))) in
       ex
-      ∙ ap (withoutOf all) (ew ∙ ap (λ (x : Set). withOf x m) ep)
-      ∙ (λ i. withoutOf (told anyKind bike ea i) (withOf (unopposed (ec i) (told isAdd bike ed i) (told isRead bike er i)) m))
+      ∙ ap (withoutOf all) (ew ∙ ap (λ (x : Set). withOf x m) (f ∙ (λ i. gathered (λ d. unopposed-kind (commandOf s m) d i))))
+      ∙ ap (λ (x : Set). withoutOf x (withOf peaceful m)) a
       ∙ row-same

@@ -1,16 +1,16 @@
 -- Which commands of a book conflict (document 01: clash), as one set a command.
 -- Assumes nothing.
 use mathlib.Core.Path.{_≡_}
-use mathlib.Core.Bool.{Bool, true, _&&_}
+use mathlib.Core.Bool.{Bool, true, false, _&&_}
 use mathlib.Core.List.{List, [], _∷_}
-use Prim.Native.Nat.{ℕ, zero, suc, _<_}
+use Prim.Native.Nat.{ℕ, zero, suc, _+_, _-_, _*_, _<_}
 use lib.Dec.{eqb, ltb}
 use lib.ListN.{length}
-use Rattle.theory.specs.Sets.{pick}
+use Rattle.theory.specs.Sets.{pick, one}
 use Rattle.sets.specs.declared.Set.{Set}
 use Rattle.sets.specs.Sets.{capacity, setOf, emptyOf, withOf, loadSet, storeSet}
 use Rattle.register.specs.declared.Command.{Command}
-use Rattle.register.specs.Register.{bikes, bikeOf, conflictAt}
+use Rattle.register.specs.Register.{bikes, bikeOf, isAdd, isRead, conflictAt}
 use Rattle.commands.specs.declared.Head.{Head}
 use Rattle.commands.specs.Book.{maxCommands, commandsOf, commandOf}
 
@@ -33,9 +33,9 @@ conflictRows s = rowsFrom s maxCommands 0
 
 -- ---- how they are found: commands gathered by bike
 
--- The sets with command k more in the one at a place, where a test holds.
-abbrev pub withNoted : List ℕ → ℕ → ℕ → Bool → List ℕ
-withNoted sets at k test = storeSet sets at (pick test (withOf (loadSet sets at) k) (loadSet sets at))
+-- The sets with command k more in the one at a place.
+abbrev pub withNoted : List ℕ → ℕ → ℕ → List ℕ
+withNoted sets at k = storeSet sets at (withOf (loadSet sets at) k)
 
 -- Command j of the book is on a bike and of a kind.
 abbrev pub isOn : (Command → Bool) → List ℕ → ℕ → ℕ → Bool
@@ -44,10 +44,29 @@ isOn kind s b j = eqb (bikeOf (commandOf s j)) b && kind (commandOf s j)
 abbrev pub anyKind : Command → Bool
 anyKind c = true
 
--- One set a bike: those of the first n commands that are on it and of a kind.
-pub record Gathered (kind : Command → Bool) (s : List ℕ) (n : ℕ) (sets : List ℕ) : Type 0 where
-  pub size : length sets ≡ bikes
-  pub at : (b : ℕ) → b < bikes → loadSet sets b ≡ setOf n (isOn kind s b)
+-- The sets of a bike.
+abbrev pub slots : ℕ
+slots = 4
+
+-- The kind of a slot: all commands, ADD, none, READ.
+abbrev pub slotKind : ℕ → Command → Bool
+slotKind zero = anyKind
+slotKind (suc zero) = isAdd
+slotKind (suc (suc zero)) = λ c. false
+slotKind (suc (suc (suc v))) = isRead
+
+-- The slot of a command's own kind, that of all where the kind has none.
+abbrev pub kindSlot : Head → ℕ
+kindSlot c = one (c .add) + 3 * one (c .read)
+
+-- The slot of those on its bike that a command does not conflict with: its own kind's, or that of none.
+abbrev pub unopposedSlot : Head → ℕ
+unopposedSlot c = 2 + one (c .read) - one (c .add)
+
+-- Four sets a bike: those of the first n commands that are on it and of the slot's kind.
+pub record Gathered (s : List ℕ) (n : ℕ) (sets : List ℕ) : Type 0 where
+  pub size : length sets ≡ slots * bikes
+  pub at : (b v : ℕ) → b < bikes → v < slots → loadSet sets (slots * b + v) ≡ setOf n (isOn (slotKind v) s b)
 
 -- Of a bike's ADDs and READs those that a command of the bike does not conflict with.
 abbrev pub unopposed : Head → Set → Set → Set

@@ -4,9 +4,8 @@ ghost use Prim.Native.Nat.{_-_, _^_, _<_};
 ghost use lib.ListN.{length, take};
 ghost use Rattle.theory.specs.Sets.{pick, one};
 ghost use Rattle.sets.specs.Sets.{emptyOf, withOf, capacity};
-ghost use Rattle.register.specs.Register.{isAdd, isRead};
 ghost use Rattle.commands.specs.Book.{maxCommands, commandsOf, placesOf};
-ghost use Rattle.conflicts.specs.Conflicts.{conflictRow, conflictRows, withNoted, anyKind, Gathered, unopposed};
+ghost use Rattle.conflicts.specs.Conflicts.{conflictRow, conflictRows, withNoted, kindSlot, unopposedSlot, Gathered, unopposed};
 use commands::Head;
 use sets::Set;
 
@@ -17,6 +16,92 @@ fn one(test: bool) -> u64
     if test { 1 } else { 0 }
 }
 
+// Command k joins the set at a place.
+fn note(sets: &mut [u64], at: usize, k: usize)
+    requires { ⌜ (at < length (now sets)) × (k < capacity) ⌝ }
+    ensures { λ _. ⌜ now (sets .exit) ≡ withNoted (now (sets .entry)) at k ⌝ }
+{
+    let before = Set::load(&sets[..], at);
+    before.with(k).store(sets, at);
+}
+
+// The sets of a bike: of all its commands, of its ADDs, an empty one, and of its READs.
+const SLOTS: usize = 4;
+
+// The slot of a command's kind: 1 for ADD, 3 for READ, and for FIT and TRIM 0, that of all commands.
+fn kind_slot(head: Head) -> usize
+    ensures { λ r. ⌜ r ≡ kindSlot head ⌝ }
+{
+    (one(head.add) + 3 * one(head.read)) as usize
+}
+
+// The slot of those on its bike that a command does not conflict with: for FIT and TRIM the empty one.
+fn unopposed_slot(head: Head) -> usize
+    ensures { λ r. ⌜ r ≡ unopposedSlot head ⌝ }
+{
+    (2 + one(head.read) - one(head.add)) as usize
+}
+
+// All n commands are gathered, four sets a bike. Each is noted twice, as one of all and as one of its kind, so that no branch
+// is taken on the kind: FIT and TRIM are noted as one of all again.
+fn gather(book: &[u8], places: &[u16], n: usize, sets: &mut [u64])
+    requires { ⌜ (n ≡ length (commandsOf (now book))) × (take (length (commandsOf (now book))) (now places) ≡ placesOf (now book))
+        × Gathered (now book) 0 (now sets) ⌝ }
+    ensures { λ _. ⌜ Gathered (now (book .entry)) n (now (sets .exit)) ⌝ }
+{
+    let mut k: usize = 0;
+    while k < n {
+        let head = commands::head_at(book, places, k);
+        let bike = SLOTS * (head.bike as usize);
+        let kind = bike + kind_slot(head);
+        note(sets, bike, k);
+        note(sets, kind, k);
+        k += 1;
+    }
+}
+
+// The commands that conflict with the m-th: those on its bike but itself and the unopposed.
+fn row(book: &[u8], places: &[u16], m: usize, sets: &[u64]) -> Set
+    requires { ⌜ (m < length (commandsOf (now book))) × (take (length (commandsOf (now book))) (now places) ≡ placesOf (now book))
+        × Gathered (now book) (length (commandsOf (now book))) (now sets) ⌝ }
+    ensures { λ r. ⌜ r ≡ conflictRow (now (book .entry)) m ⌝ }
+{
+    let head = commands::head_at(book, places, m);
+    let bike = SLOTS * (head.bike as usize);
+    let kind = bike + unopposed_slot(head);
+    let all = Set::load(sets, bike);
+    let peaceful = Set::load(sets, kind);
+    all.without(peaceful.with(m))
+}
+
+// The rows of all 64 command numbers, from the sets of each bike; those past the n commands are empty.
+fn fill_rows(book: &[u8], places: &[u16], n: usize, sets: &[u64], rows: &mut [u64])
+    requires { ⌜ (length (now rows) ≡ maxCommands) × (n ≡ length (commandsOf (now book)))
+        × (take (length (commandsOf (now book))) (now places) ≡ placesOf (now book)) × Gathered (now book) n (now sets) ⌝ }
+    ensures { λ _. ⌜ now (rows .exit) ≡ conflictRows (now (book .entry)) ⌝ }
+{
+    let mut m: usize = 0;
+    while m < n {
+        let found = row(book, places, m, sets);
+        rows[m] = found.bits;
+        m += 1;
+    }
+    while m < commands::MAX_COMMANDS {
+        rows[m] = 0;
+        m += 1;
+    }
+}
+
+// The rows of all 64 command numbers, from the noted places of the n commands.
+pub fn conflict_rows(book: &[u8], places: &[u16], n: usize, rows: &mut [u64])
+    requires { ⌜ (length (now rows) ≡ maxCommands) × (n ≡ length (commandsOf (now book))) × (take (length (commandsOf (now book))) (now places) ≡ placesOf (now book)) ⌝ }
+    ensures { λ _. ⌜ now (rows .exit) ≡ conflictRows (now (book .entry)) ⌝ }
+{
+    let mut sets = [0u64; 128];
+    gather(book, places, n, &mut sets);
+    fill_rows(book, places, n, &sets, rows);
+}
+
 // The set with one command more, where a test holds. Kinds come in no order, so the test is no branch.
 pub fn with_if(row: Set, k: usize, test: bool) -> Set
     requires { ⌜ k < capacity ⌝ }
@@ -25,40 +110,6 @@ pub fn with_if(row: Set, k: usize, test: bool) -> Set
     let bit = one(test) << k;
     Set {
         bits: row.bits | bit,
-    }
-}
-
-// Command k joins the set at a place, where a test holds.
-fn note(sets: &mut [u64], at: usize, k: usize, test: bool)
-    requires { ⌜ (at < length (now sets)) × (k < capacity) ⌝ }
-    ensures { λ _. ⌜ now (sets .exit) ≡ withNoted (now (sets .entry)) at k test ⌝ }
-{
-    let before = Set::load(&sets[..], at);
-    with_if(before, k, test).store(sets, at);
-}
-
-// All n commands are gathered, one set a bike: its commands, its ADDs and its READs.
-fn gather(
-    book: &[u8],
-    places: &[u16],
-    n: usize,
-    on: &mut [u64],
-    adds: &mut [u64],
-    reads: &mut [u64],
-)
-    requires { ⌜ (n ≡ length (commandsOf (now book))) × (take (length (commandsOf (now book))) (now places) ≡ placesOf (now book))
-        × Gathered anyKind (now book) 0 (now on) × Gathered isAdd (now book) 0 (now adds) × Gathered isRead (now book) 0 (now reads) ⌝ }
-    ensures { λ _. ⌜ Gathered anyKind (now (book .entry)) n (now (on .exit)) × Gathered isAdd (now (book .entry)) n (now (adds .exit))
-        × Gathered isRead (now (book .entry)) n (now (reads .exit)) ⌝ }
-{
-    let mut k: usize = 0;
-    while k < n {
-        let head = commands::head_at(book, places, k);
-        let bike = head.bike as usize;
-        note(on, bike, k, true);
-        note(adds, bike, k, head.add);
-        note(reads, bike, k, head.read);
-        k += 1;
     }
 }
 
@@ -83,58 +134,4 @@ pub fn unopposed(head: Head, adds: Set, reads: Set) -> Set
     ensures { λ r. ⌜ r ≡ unopposed head adds reads ⌝ }
 {
     only_if(adds, head.add).union(only_if(reads, !head.add & head.read))
-}
-
-// The commands that conflict with the m-th: those on its bike but itself and the unopposed.
-fn row(book: &[u8], places: &[u16], m: usize, on: &[u64], adds: &[u64], reads: &[u64]) -> Set
-    requires { ⌜ (m < length (commandsOf (now book))) × (take (length (commandsOf (now book))) (now places) ≡ placesOf (now book))
-        × Gathered anyKind (now book) (length (commandsOf (now book))) (now on)
-        × Gathered isAdd (now book) (length (commandsOf (now book))) (now adds)
-        × Gathered isRead (now book) (length (commandsOf (now book))) (now reads) ⌝ }
-    ensures { λ r. ⌜ r ≡ conflictRow (now (book .entry)) m ⌝ }
-{
-    let head = commands::head_at(book, places, m);
-    let bike = head.bike as usize;
-    let all = Set::load(on, bike);
-    let peaceful = unopposed(head, Set::load(adds, bike), Set::load(reads, bike));
-    all.without(peaceful.with(m))
-}
-
-// The rows of all 64 command numbers, from the sets of each bike; those past the n commands are empty.
-fn fill_rows(
-    book: &[u8],
-    places: &[u16],
-    n: usize,
-    on: &[u64],
-    adds: &[u64],
-    reads: &[u64],
-    rows: &mut [u64],
-)
-    requires { ⌜ (length (now rows) ≡ maxCommands) × (n ≡ length (commandsOf (now book)))
-        × (take (length (commandsOf (now book))) (now places) ≡ placesOf (now book))
-        × Gathered anyKind (now book) n (now on) × Gathered isAdd (now book) n (now adds) × Gathered isRead (now book) n (now reads) ⌝ }
-    ensures { λ _. ⌜ now (rows .exit) ≡ conflictRows (now (book .entry)) ⌝ }
-{
-    let mut m: usize = 0;
-    while m < n {
-        let found = row(book, places, m, on, adds, reads);
-        rows[m] = found.bits;
-        m += 1;
-    }
-    while m < commands::MAX_COMMANDS {
-        rows[m] = 0;
-        m += 1;
-    }
-}
-
-// The rows of all 64 command numbers, from the noted places of the n commands.
-pub fn conflict_rows(book: &[u8], places: &[u16], n: usize, rows: &mut [u64])
-    requires { ⌜ (length (now rows) ≡ maxCommands) × (n ≡ length (commandsOf (now book))) × (take (length (commandsOf (now book))) (now places) ≡ placesOf (now book)) ⌝ }
-    ensures { λ _. ⌜ now (rows .exit) ≡ conflictRows (now (book .entry)) ⌝ }
-{
-    let mut on = [0u64; 32];
-    let mut adds = [0u64; 32];
-    let mut reads = [0u64; 32];
-    gather(book, places, n, &mut on, &mut adds, &mut reads);
-    fill_rows(book, places, n, &on, &adds, &reads, rows);
 }

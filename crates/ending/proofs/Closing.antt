@@ -7,6 +7,7 @@ use Prim.Native.Nat.{ℕ, _+_, _^_, _≤_, _<_}
 use native.Mathlib.Numerals.{add-one}
 use native.Mathlib.Omega.{arith}
 use lib.Dec.{leb, lit<}
+use borrow.Author.Tests.{leb-true}
 use lib.ListN.{length, getD, length-append}
 use Rattle.refusals.specs.declared.Refusal.{Refusal}
 use Rattle.refusals.specs.declared.Verdict.{Verdict}
@@ -89,6 +90,9 @@ module _ (t : SiteTable) (book : List Command) (few : length book ≤ capacity) 
       due-order book few (headOf b) f nc lnc wnc (ncSet (dash t book) tally) (told .inNc d) i
       ++ due-order book few (headOf b) f c lc wc (cSet (dash t book) tally) (told .inC d) i
 
+  sizes-are : moreOf (headOf b) nc c ≡ length (inOrder (dueOf (headOf b) nc)) + length (inOrder (dueOf (headOf b) c))
+  sizes-are = λ i. size-order (dueOf (headOf b) nc) refl i + size-order (dueOf (headOf b) c) refl i
+
   pub end-verdict : {more : ℕ} → more ≡ length (inOrder (dueOf (headOf b) nc)) + length (inOrder (dueOf (headOf b) c))
       → judgedEnd (headOf b) (length book) decided more ≡ verdict (protocol.forRoundEnd (dash t book) (view t book b) log)
   unfolding tally
@@ -97,6 +101,15 @@ module _ (t : SiteTable) (book : List Command) (few : length book ≤ capacity) 
       (protocol.room (dash t book) (view t book b) (length (protocol.due (dash t book) tally (view t book b)))) (told .is)
       (λ d i.
       leb (sym (counted b) i + (em ∙ sym (length-append (inOrder (dueOf (headOf b) nc)) (inOrder (dueOf (headOf b) c))) ∙ ap length (all-due d)) i) (length book))
+
+  -- Room for what is due, as the code counts it.
+  pub enough-room : decided ≡ true
+      → protocol.room (dash t book) (view t book b) (length (protocol.due (dash t book) (protocol.tallyOr (protocol.decision (dash t book) (view t book b) log)) (view t book b))) ≡ true
+      → headOf b .deliveries + moreOf (headOf b) nc c ≤ length book
+  unfolding tally
+  enough-room d h =
+      leb-true (headOf b .deliveries + moreOf (headOf b) nc c) (length book)
+      ((λ i. leb (sym (counted b) i + (sizes-are ∙ sym (length-append (inOrder (dueOf (headOf b) nc)) (inOrder (dueOf (headOf b) c))) ∙ ap length (all-due d)) i) (length book)) ∙ h)
 
   pub end-refused : {r : Verdict} (x : Refusal) → r ≡ verdict (protocol.forRoundEnd (dash t book) (view t book b) log) → r ≡ Refused x
       → Carried t book (verdict (protocol.forRoundEnd (dash t book) (view t book b) log)) (protocol.finish (dash t book) (protocol.tallyOr (protocol.decision (dash t book) (view t book b) log)) (view t book b)) (view t book b) r b
@@ -171,11 +184,8 @@ module _ (t : SiteTable) (book : List Command) (few : length book ≤ capacity) 
 
   -- What the code of round_end does, in one step: where the round does not end, and where it does.
   module _ {commands : ℕ} {r : Verdict} (en : length book ≡ commands) (er : r ≡ judgedEnd (headOf b) commands decided (moreOf (headOf b) nc c)) where
-    more-is : moreOf (headOf b) nc c ≡ length (inOrder (dueOf (headOf b) nc)) + length (inOrder (dueOf (headOf b) c))
-    more-is = λ i. size-order (dueOf (headOf b) nc) refl i + size-order (dueOf (headOf b) c) refl i
-
     verdict-is : r ≡ verdict (protocol.forRoundEnd (dash t book) (view t book b) log)
-    verdict-is = er ∙ (λ i. judgedEnd (headOf b) (sym en i) decided (moreOf (headOf b) nc c)) ∙ end-verdict more-is
+    verdict-is = er ∙ (λ i. judgedEnd (headOf b) (sym en i) decided (moreOf (headOf b) nc c)) ∙ end-verdict sizes-are
 
     pub round-refused : (z : Refusal) → r ≡ Refused z
         → Carried t book (verdict (protocol.forRoundEnd (dash t book) (view t book b) log)) (protocol.finish (dash t book) (protocol.tallyOr (protocol.decision (dash t book) (view t book b) log)) (view t book b)) (view t book b) r b

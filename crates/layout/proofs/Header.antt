@@ -1,4 +1,4 @@
--- Laws of a site's header: what is read, what is written, and that each gives the other back.
+-- Laws of a site's header: its bytes and what is read of them give each other back.
 -- Assumes nothing.
 use mathlib.Core.Path.{_≡_, refl, sym, ap, _∙_}
 use mathlib.Core.List.{List, _++_, append-assoc}
@@ -9,9 +9,8 @@ use lib.ListN.{length, drop, getD}
 use Rattle.wire.specs.Wire.{value, bytes, readLe, splice}
 use Rattle.wire.proofs.Laws.{value-bytes, read-lt, peel, splice-two}
 use Rattle.sets.specs.declared.Set.{Set}
-use Rattle.sets.specs.Sets.{readSet, writeSet}
+use Rattle.sets.specs.Sets.{readSet}
 use Rattle.sets.proofs.Laws.{set-of-members}
-use Rattle.layout.specs.declared.Proposal.{Proposal}
 use Rattle.layout.specs.declared.Phase.{Phase}
 use Rattle.layout.specs.declared.Phase.the-variants.{Acknowledging, Waiting}
 use Rattle.layout.specs.declared.Site.{Site}
@@ -22,45 +21,11 @@ pub phase-waiting : (n : ℕ) (nc c : Set) → (n ≡ 0 → ⊥) → Waiting (re
 phase-waiting zero nc c h = absurd (h refl)
 phase-waiting (suc n) nc c h = refl
 
--- ---- writing
-
 -- A write right after another.
 pub next : (s : List ℕ) (at : ℕ) (a b : List ℕ) (k : ℕ) {l l′ : List ℕ} → at + length a ≡ k → at ≤ length s → l ≡ splice s at a → l′ ≡ splice l k b
     → l′ ≡ splice s at (a ++ b)
 next s at a b k e h p q =
     q ∙ ap (λ (l : List ℕ). splice l k b) p ∙ ap (λ (m : ℕ). splice (splice s at a) m b) (sym e) ∙ splice-two s at a b h
-
-module _ (b : List ℕ) (h : Site) (size : length b ≡ siteSize) where
-  pub numbers-written : {l₁ l₂ l₃ l₄ : List ℕ} {tag : ℕ} → l₁ ≡ splice b 0 (bytes 1 (h .round)) → tag ≡ tagOf (h .phase) → l₂ ≡ splice l₁ phasePlace (bytes 1 tag)
-      → l₃ ≡ splice l₂ positionPlace (bytes 2 (h .position)) → l₄ ≡ splice l₃ countPlace (bytes 4 (h .deliveries)) → l₄ ≡ splice b 0 (numbersBytes h)
-  unfolding numbersBytes bytes
-  numbers-written {l₁ = l₁} e₁ et e₂ e₃ e₄ =
-      next b 0 ((bytes 1 (h .round) ++ bytes 1 (tagOf (h .phase))) ++ bytes 2 (h .position)) (bytes 4 (h .deliveries)) countPlace refl (omega arith)
-      (next b 0 (bytes 1 (h .round) ++ bytes 1 (tagOf (h .phase))) (bytes 2 (h .position)) positionPlace refl (omega arith)
-      (next b 0 (bytes 1 (h .round)) (bytes 1 (tagOf (h .phase))) phasePlace refl (omega arith) e₁
-      (e₂ ∙ ap (λ (x : ℕ). splice l₁ phasePlace (bytes 1 x)) et)) e₃) e₄
-
-  pub sets-written : {l₁ l₂ l₃ l₄ l₅ l₆ : List ℕ} {p : Proposal} → p ≡ proposalOf (h .phase) → l₁ ≡ writeSet b receivedPlace (h .received) → l₂ ≡ writeSet l₁ deliveredPlace (h .delivered)
-      → l₃ ≡ writeSet l₂ pendingPlace (h .pending) → l₄ ≡ writeSet l₃ fastPlace (h .fast) → l₅ ≡ writeSet l₄ ncPlace (p .nc) → l₆ ≡ writeSet l₅ cPlace (p .c)
-      → l₆ ≡ splice b receivedPlace (setsBytes h)
-  unfolding setsBytes writeSet bytes
-  sets-written {l₄ = l₄} {l₅ = l₅} ep e₁ e₂ e₃ e₄ e₅ e₆ =
-      let r : List ℕ = bytes 8 (h .received .bits) in
-      let d : List ℕ = bytes 8 (h .delivered .bits) in
-      let p : List ℕ = bytes 8 (h .pending .bits) in
-      let f : List ℕ = bytes 8 (h .fast .bits) in
-      let n : List ℕ = bytes 8 (proposalOf (h .phase) .nc .bits) in
-      let c : List ℕ = bytes 8 (proposalOf (h .phase) .c .bits) in
-      next b receivedPlace ((((r ++ d) ++ p) ++ f) ++ n) c cPlace refl (omega arith)
-      (next b receivedPlace (((r ++ d) ++ p) ++ f) n ncPlace refl (omega arith)
-      (next b receivedPlace ((r ++ d) ++ p) f fastPlace refl (omega arith)
-      (next b receivedPlace (r ++ d) p pendingPlace refl (omega arith) (next b receivedPlace r d deliveredPlace refl (omega arith) e₁ e₂) e₃) e₄)
-      (e₅ ∙ ap (λ (q : Proposal). splice l₄ ncPlace (bytes 8 (q .nc .bits))) ep))
-      (e₆ ∙ ap (λ (q : Proposal). splice l₅ cPlace (bytes 8 (q .c .bits))) ep)
-
-  pub head-written : {l₁ l₂ : List ℕ} → l₁ ≡ splice b 0 (numbersBytes h) → l₂ ≡ splice l₁ receivedPlace (setsBytes h) → l₂ ≡ splice b 0 (headBytes h)
-  unfolding numbersBytes bytes
-  head-written e₁ e₂ = next b 0 (numbersBytes h) (setsBytes h) receivedPlace refl (omega arith) e₁ e₂
 
 pub length-head : (h : Site) → length (headBytes h) ≡ heardPlace
 unfolding numbersBytes setsBytes bytes

@@ -1,11 +1,11 @@
-// One site's state in lent bytes at fixed places: a header read and written as a struct or field by field, and the sets heard, the register and the deliveries in place.
+// One site's state in lent bytes at fixed places: a header read as a struct, and read and written field by field, and the sets heard, the register and the deliveries in place.
 ghost use mathlib.Core.Path.{_≡_};
 ghost use Prim.Native.Nat.{_+_, _≤_, _<_};
 ghost use lib.ListN.{length};
 ghost use Rattle.wire.specs.Wire.{bytes, splice};
 ghost use Rattle.sets.specs.Sets.{capacity, readSet, writeSet};
 ghost use Rattle.table.specs.Table.{maxSites};
-ghost use Rattle.layout.specs.Layout.{siteSize, siteRounds, registerPlace, cell, slot, headOf, phaseFrom, tagOf, proposalOf, numbersBytes, setsBytes, headBytes, deliveryOf, deliveryBytes, deliverySeen, heardMore};
+ghost use Rattle.layout.specs.Layout.{siteSize, siteRounds, registerPlace, cell, slot, headOf, phaseFrom, deliveryOf, deliveryBytes, deliverySeen, heardMore};
 ghost use Rattle.layout.specs.Layout.{roundPlace, countPlace, positionPlace, receivedPlace, deliveredPlace, pendingPlace, fastPlace, isWaiting, waitsWith, acknowledges};
 use sets::Set;
 
@@ -104,15 +104,6 @@ impl Site {
             fast,
         }
     }
-
-    // The header is written over the one that stands in lent bytes.
-    pub fn write(self, site: &mut [u8])
-        requires { ⌜ length (now site) ≡ siteSize ⌝ }
-        ensures { λ _. ⌜ now (site .exit) ≡ splice (now (site .entry)) 0 (headBytes self) ⌝ }
-    {
-        write_numbers(site, self);
-        write_sets(site, self);
-    }
 }
 
 fn phase_of(tag: u8, nc: Set, c: Set) -> Phase
@@ -122,53 +113,6 @@ fn phase_of(tag: u8, nc: Set, c: Set) -> Phase
         return Phase::Acknowledging;
     }
     Phase::Waiting(Proposal { nc, c })
-}
-
-fn tag(phase: Phase) -> u8
-    ensures { λ r. ⌜ r ≡ tagOf phase ⌝ }
-{
-    match phase {
-        Phase::Acknowledging => 0,
-        Phase::Waiting(_) => 1,
-    }
-}
-
-// The sets that a phase waits with, empty while it acknowledges.
-pub fn proposal_of(phase: Phase) -> Proposal
-    ensures { λ r. ⌜ r ≡ proposalOf phase ⌝ }
-{
-    match phase {
-        Phase::Acknowledging => Proposal {
-            nc: Set { bits: 0 },
-            c: Set { bits: 0 },
-        },
-        Phase::Waiting(proposed) => proposed,
-    }
-}
-
-fn write_numbers(site: &mut [u8], header: Site)
-    requires { ⌜ length (now site) ≡ siteSize ⌝ }
-    ensures { λ _. ⌜ now (site .exit) ≡ splice (now (site .entry)) 0 (numbersBytes header) ⌝ }
-{
-    let phase = header.phase;
-    wire::put1(site, Site::ROUND, header.round);
-    wire::put1(site, Site::PHASE, tag(phase));
-    wire::put2(site, Site::POSITION, header.position);
-    wire::put4(site, Site::COUNT, header.deliveries);
-}
-
-fn write_sets(site: &mut [u8], header: Site)
-    requires { ⌜ length (now site) ≡ siteSize ⌝ }
-    ensures { λ _. ⌜ now (site .exit) ≡ splice (now (site .entry)) receivedPlace (setsBytes header) ⌝ }
-{
-    let phase = header.phase;
-    let proposed = proposal_of(phase);
-    header.received.write(site, Site::RECEIVED);
-    header.delivered.write(site, Site::DELIVERED);
-    header.pending.write(site, Site::PENDING);
-    header.fast.write(site, Site::FAST);
-    proposed.nc.write(site, Site::NC);
-    proposed.c.write(site, Site::C);
 }
 
 // The fields of the header, one at a time.

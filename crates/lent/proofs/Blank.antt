@@ -1,19 +1,19 @@
--- Bytes that are all 0: a fresh site, once its header is written.
+-- Bytes that are all 0: a fresh site, once its round is written.
 -- Assumes nothing.
 use mathlib.Core.Path.{_≡_, refl, sym, ap, subst, _∙_}
 use mathlib.Core.Bool.{Bool, true, false, _&&_}
-use mathlib.Core.List.{List, []}
+use mathlib.Core.List.{List, [], _∷_, _++_}
 use mathlib.Core.Logic.{⊎-elim}
 use Prim.Native.Nat.{ℕ, zero, suc, _+_, _*_, _≤_, _<_}
 use native.Mathlib.Omega.{arith}
 use native.Mathlib.Decide.{ℕ-discrete}
 use lib.Dec.{ltb, lit<, lit≤}
-use lib.ListN.{length, getD, set, List·getD-eq-default}
-use lib.Seq.{getD-set-same, getD-set-other}
+use lib.ListN.{length, getD, drop, set, replicate, List·getD-eq-default}
+use lib.Seq.{drop-cons, getD-set-same, getD-set-other}
 use borrow.Author.Tests.{ltb-true}
 use Rattle.theory.specs.Sets.{pick}
 use Rattle.theory.specs.Counting.{lt-or-le}
-use Rattle.wire.specs.Wire.{readLe, splice}
+use Rattle.wire.specs.Wire.{bytes, readLe, splice}
 use Rattle.wire.proofs.Laws.{read-none, read-suc}
 use Rattle.sets.specs.declared.Set.{Set}
 use Rattle.sets.specs.Sets.{has, emptyOf, withinOf, readSet}
@@ -25,13 +25,27 @@ use Rattle.register.specs.Lent.{bikeSize, bikeIn, registerOf}
 use Rattle.register.proofs.Laws.{initial-within}
 use Rattle.protocol.specs.Site as protocol
 use Rattle.system.specs.Dash.{dash}
+use Rattle.layout.specs.declared.Phase.the-variants.{Acknowledging}
 use Rattle.layout.specs.declared.Site.{Site}
-use Rattle.layout.specs.Layout.{siteSize, registerPlace, heardAt, inTable, cell, slot, headBytes, heardOf, deliveriesOf}
+use Rattle.layout.specs.Layout.{siteSize, registerPlace, heardAt, inTable, cell, slot, numbersBytes, setsBytes, headBytes, heardOf, deliveriesOf}
 use Rattle.layout.specs.Good.{Fit, GoodHead, GoodTables, Holds}
 use Rattle.layout.proofs.Agree.{cell-inside}
 use Rattle.layout.proofs.Tables.{within-empty}
 use Rattle.layout.proofs.Finish.{finish}
-use Rattle.lent.specs.Fresh.{freshHead}
+
+-- The header of a fresh site.
+abbrev freshHead : Site
+freshHead =
+    record {
+      round = 1;
+      phase = Acknowledging;
+      position = 0;
+      deliveries = 0;
+      received = emptyOf;
+      delivered = emptyOf;
+      pending = emptyOf;
+      fast = emptyOf;
+    }
 
 -- One more byte is 0.
 pub clear-more : (l : List ℕ) (k : ℕ) → k < length l → ((j : ℕ) → j < k → getD l j 0 ≡ 0) → (j : ℕ) → j < k + 1 → getD (set l k 0) j 0 ≡ 0
@@ -105,11 +119,22 @@ module _ (b : List ℕ) (blank : (i : ℕ) → getD b i 0 ≡ 0) (size : length 
   unfolding deliveriesOf
   none t book = refl
 
-  -- A fresh header over bytes that are 0 makes a fresh site.
-  pub fresh-holds : (t : SiteTable) (book : List Command) {h : Site} {b′ : List ℕ} → h ≡ freshHead → b′ ≡ splice b 0 (headBytes h) → ((i : ℕ) → getD b′ i 0 < 256)
+  zeros : (n k : ℕ) → k + n ≤ siteSize → drop k b ≡ replicate n 0 ++ drop (k + n) b
+  zeros zero k h = let e : k ≡ k + 0 = omega arith in ap (λ (m : ℕ). drop m b) e
+  zeros (suc n) k h =
+      let e : suc k + n ≡ k + suc n = omega arith in
+      drop-cons b k 0 (omega arith) ∙ (λ i. blank k i ∷ zeros n (suc k) (omega arith) i) ∙ ap (λ (m : ℕ). 0 ∷ (replicate n 0 ++ drop m b)) e
+
+  -- The round alone is written of a fresh header: the rest of it is 0.
+  round-only : splice b 0 (bytes 1 1) ≡ splice b 0 (headBytes freshHead)
+  unfolding splice bytes numbersBytes setsBytes
+  round-only = ap (λ (l : List ℕ). 1 ∷ l) (zeros 55 1 (omega arith))
+
+  -- The first round over bytes that are 0 makes a fresh site.
+  pub fresh-holds : (t : SiteTable) (book : List Command) {b′ : List ℕ} → b′ ≡ splice b 0 (bytes 1 1) → ((i : ℕ) → getD b′ i 0 < 256)
       → Holds t book b′ (protocol.fresh (dash t book))
-  fresh-holds t book eh eb small =
-      finish t book b freshHead size (eb ∙ ap (λ (x : Site). splice b 0 (headBytes x)) eh) small fresh-fit (fresh-good (length book))
+  fresh-holds t book eb small =
+      finish t book b freshHead size (eb ∙ round-only) small fresh-fit (fresh-good (length book))
       (tables-blank (t .sites) (length book))
       (λ i.
       record {

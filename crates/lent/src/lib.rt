@@ -13,10 +13,8 @@ ghost use Rattle.register.specs.declared.Command.{Command};
 ghost use Rattle.protocol.specs.Site as protocol;
 ghost use Rattle.system.specs.Dash.{dash};
 ghost use Rattle.layout.specs.Layout.{siteSize, siteRounds, heardSets, heardAt, deliverySize, headOf};
-ghost use Rattle.lent.specs.Fresh.{freshHead};
 ghost use Rattle.lent.specs.Clear.{clearFrom, unionFrom, recordedAt};
 ghost use Rattle.layout.specs.Good.{goodHead, goodHeard, goodSlot, goodPhase, goodSite, Holds};
-use layout::Phase;
 use layout::Site;
 use sets::Set;
 use table::SiteTable;
@@ -211,22 +209,6 @@ pub fn judge(site: &[u8], sites: usize, commands: usize, entries: usize) -> bool
     judge_deliveries(site, commands, recorded)
 }
 
-// The header of a fresh site.
-fn fresh_header() -> Site
-    ensures { λ r. ⌜ r ≡ freshHead ⌝ }
-{
-    Site {
-        round: 1,
-        phase: Phase::Acknowledging,
-        position: 0,
-        deliveries: 0,
-        received: Set { bits: 0 },
-        delivered: Set { bits: 0 },
-        pending: Set { bits: 0 },
-        fast: Set { bits: 0 },
-    }
-}
-
 // Every byte becomes 0.
 pub fn clear(site: &mut [u8])
     ensures { λ _. ⌜ ((k : ℕ) → getD (now (site .exit)) k 0 ≡ 0) ⌝ }
@@ -238,12 +220,12 @@ pub fn clear(site: &mut [u8])
     }
 }
 
-// A fresh header is written over bytes that are all 0: they are a fresh site.
+// The first round is written over bytes that are all 0: they are a fresh site, whose other numbers and sets are all 0.
 pub fn begin(site: &mut [u8])
     requires { ⌜ (length (now site) ≡ siteSize) × ((k : ℕ) → getD (now site) k 0 ≡ 0) ⌝ }
     ensures { λ _. ⌜ ((t : SiteTable) (book : List Command) → Holds t book (now (site .exit)) (protocol.fresh (dash t book))) ⌝ }
 {
-    fresh_header().write(site);
+    layout::set_round(site, 1);
 }
 
 // A fresh site is written over the whole buffer.

@@ -19,7 +19,7 @@ fn put_numbered(out: &mut [u8], at: usize, x: usize, text: &[u8]) -> usize
     requires { ⌜ at + length (numbered x (now text)) ≤ length (now out) ⌝ }
     ensures { λ r. ⌜ Wrote (now (out .exit)) r (now (out .entry)) at (numbered x (now (text .entry))) ⌝ }
 {
-    let end = print::put_digits(out, at, 2, x);
+    let end = print::put_two(out, at, x);
     print::put_text(out, end, text)
 }
 

@@ -34,7 +34,7 @@ use Rattle.calm.proofs.Between.{free-grown}
 use Rattle.protocol.specs.System.{granted, _else_⨾_, verdict, correct, free}
 use Rattle.protocol.specs.Recovery as recovery
 use Rattle.protocol.specs.Site as protocol
-use Rattle.protocol.specs.Site.{undelivered, unacknowledged, acknowledges, acknowledge, propose, forTurn}
+use Rattle.protocol.specs.Site.{isAcknowledging, undelivered, unacknowledged, acknowledges, acknowledge, propose, forTurn}
 use Rattle.protocol.specs.World.{World, turn, judge, step, settle, put, append, sendCheck, entryOf, acknowledgingTurn, proposingTurn}
 use Rattle.register.specs.declared.Command.{Command}
 use Rattle.system.specs.Dash.{dash, lastRound}
@@ -45,7 +45,6 @@ use Rattle.layout.specs.Step.{settled}
 use Rattle.site.specs.declared.Turn.{Turn}
 use Rattle.site.specs.declared.Turn.the-variants as turns
 use Rattle.site.specs.Steps.{undeliveredOf, TookTurn, Turned, answerTo}
-use Rattle.rounds.specs.Rounds.{Kept}
 use Rattle.entries.specs.declared.Entry.{Entry}
 use Rattle.entries.specs.Entries.{logTo, writeEntry, viewEntry, inRangeOf}
 use Rattle.entries.proofs.Bytes.{Fits}
@@ -75,19 +74,48 @@ free-new t bytes u p calm =
     (λ m k. ⊎-map (λ e. e) (λ e. in-without u p m ∙ e) (new-or-pending (inSet u m) (inSet p m) k))
     ∙ free-rows bytes t (inSet u)
 
--- The conflict test by the rows and the number of entries by what is kept of the log are those that the turn asks for.
-pub turned-by : (rows kept : List ℕ) (i : ℕ) (b : List ℕ) {u p n : Set} {f third : Bool} {round : ℕ} {r : Turn} {after : List ℕ}
-    → u ≡ undeliveredOf (headOf b) → p ≡ headOf b .pending → n ≡ withoutOf u p → f ≡ freeBetween rows (inSet n) (inSet u) → round ≡ headOf b .round
-    → ((t : SiteTable) (rows log : List ℕ) (k : ℕ) → Kept t rows log k kept → third ≡ not (ltb (recovery.entries i round (logTo log k)) 2))
-    → TookTurn f third b r after → TurnedBy rows kept i r b after
-turned-by rows kept i b {u} {p} eu ep en ef er et took =
-    λ t book log entries ec ek g calm.
-    took t (commandsOf book) i (logTo log entries) g
+-- An empty log has no entry.
+none : (i r : ℕ) → recovery.entries i r [] ≡ 0
+unfolding recovery.entries
+none i r = refl
+
+-- The verdict on a turn does not look at the entries of a site that waits.
+same-verdict : (a n k x y d : Bool) → (a ≡ true → x ≡ y)
+    → verdict (a else Disabled ⨾ n else Disabled ⨾ k || x else ThirdEntry ⨾ k || d else LastRound ⨾ granted)
+    ≡ verdict (a else Disabled ⨾ n else Disabled ⨾ k || y else ThirdEntry ⨾ k || d else LastRound ⨾ granted)
+same-verdict true n k x y d h = λ j. verdict (true else Disabled ⨾ n else Disabled ⨾ k || h refl j else ThirdEntry ⨾ k || d else LastRound ⨾ granted)
+same-verdict false n k x y d h = refl
+
+-- A turn by an empty log is that by any log without an entry of the site and its round, where the site acknowledges.
+by-any-log : (t : SiteTable) (book : List Command) (i : ℕ) (log : recovery.Log) (s : protocol.Site (dash t book)) {r : Turn} {after : List ℕ}
+    → (isAcknowledging (s .phase) ≡ true → recovery.entries i (s .round) log ≡ 0) → Turned t book i [] s r after → Turned t book i log s r after
+by-any-log t book i log s {r} {after} h w =
+    record {
+      answer = w .answer ∙ ap (λ (v : Verdict). answerTo t book v (acknowledges (dash t book) s) s) same;
+      site =
+          subst (λ (v : Verdict). Holds t book after (settled v (pick (acknowledges (dash t book) s) (acknowledge (dash t book) s) (propose (dash t book) s)) s)) same
+          (w .site);
+    }
+  where
+    same : verdict (forTurn (dash t book) i s []) ≡ verdict (forTurn (dash t book) i s log)
+    same =
+        same-verdict (isAcknowledging (s .phase)) (any (length book) (unacknowledged (dash t book) s)) (acknowledges (dash t book) s)
+        (ltb (recovery.entries i (s .round) []) 2) (ltb (recovery.entries i (s .round) log) 2) (leb (s .round) lastRound)
+        (λ a. ap (λ (n : ℕ). ltb n 2) (none i (s .round) ∙ sym (h a)))
+
+-- The conflict test by the rows is the one that the turn asks for, and its entry would be no third.
+pub turned-by : (rows : List ℕ) (i : ℕ) (b : List ℕ) {u p n : Set} {f : Bool} {r : Turn} {after : List ℕ}
+    → u ≡ undeliveredOf (headOf b) → p ≡ headOf b .pending → n ≡ withoutOf u p → f ≡ freeBetween rows (inSet n) (inSet u)
+    → TookTurn f false b r after → TurnedBy rows i r b after
+turned-by rows i b {u} {p} eu ep en ef took =
+    λ t book log ec g calm quiet.
+    by-any-log t (commandsOf book) i log (view t (commandsOf book) b) quiet
+    (took t (commandsOf book) i [] g
     (ef
     ∙ (λ k. freeBetween (ec k) (inSet (en k)) (inSet u))
     ∙ free-new t book u p (ap (λ (x : Set). free (dash t (commandsOf book)) (inSet x)) ep ∙ calm)
     ∙ ap (free (dash t (commandsOf book))) (ap inSet eu ∙ (λ k m. in-without (headOf b .received) (headOf b .delivered) m k)))
-    (ap not (et t rows log entries ek) ∙ not-not (ltb (recovery.entries i _ (logTo log entries)) 2) ∙ (λ k. ltb (recovery.entries i (er k) (logTo log entries)) 2))
+    (ap (λ (m : ℕ). ltb m 2) (sym (none i (headOf b .round)))))
 
 -- ---- what an answer tells
 
@@ -169,11 +197,11 @@ module _ (t : SiteTable) (bytes rows : List ℕ) (b : Buffers) (i : ℕ) (ready 
         subst (λ (s : protocol.Site (dash t book)). knownTo (length book) (some (undelivered (dash t book) s)) ≡ true) (sym at)
         (undelivered-known t book (siteAt (b .sites) i) part-good part-small)
 
-    module _ (hf : faultyOf t i ≡ false) {r : Turn} {sites kept : List ℕ} (ek : Kept t rows (b .log) (b .entries) kept)
-        (h : AtSite i (TurnedBy rows kept i r) (b .sites) sites) where
+    module _ (hf : faultyOf t i ≡ false) {r : Turn} {sites : List ℕ} (h : AtSite i (TurnedBy rows i r) (b .sites) sites) where
       turned : Turned t book i (world .log) (world .site i) r (h .new)
       turned =
-          subst (λ (s : protocol.Site (dash t book)). Turned t book i (world .log) s r (h .new)) (sym at) (h .did t bytes (b .log) (b .entries) (ready .conflicts) ek part-good (ready .pending i inside))
+          subst (λ (s : protocol.Site (dash t book)). Turned t book i (world .log) s r (h .new)) (sym at)
+          (h .did t bytes (world .log) (ready .conflicts) part-good (ready .pending i inside) (ready .unspoken i inside hf))
 
       judged : judge (dash t book) world (turn i) ≡ verdict (forTurn (dash t book) i (world .site i) (world .log))
       judged =
@@ -287,7 +315,7 @@ module _ (t : SiteTable) (bytes rows : List ℕ) (b : Buffers) (i : ℕ) (ready 
             (unacknowledged-known t book (siteAt (b .sites) i) part-good part-small) in
             all-five (ltb i (t .sites)) (leb 1 (s .round)) (leb (s .round) lastRound) (withinOf (setOf capacity (s .pending)) (length book))
             (withinOf (setOf capacity (unacknowledged (dash t book) s)) (length book)) (lt-ltb i (t .sites) inside) (le-leb 1 (s .round) (omega arith))
-            (told-round (protocol.isAcknowledging (s .phase)) (any (length book) (unacknowledged (dash t book) s)) (acknowledges (dash t book) s)
+            (told-round (isAcknowledging (s .phase)) (any (length book) (unacknowledged (dash t book) s)) (acknowledges (dash t book) s)
             (ltb (recovery.entries i (s .round) (world .log)) 2) (leb (s .round) lastRound) (proposal-told .0) (proposal-told .1))
             (ap (λ (y : recovery.Entry). knownTo (length book) (some (y .nc))) entry-seen ∙ n)
             (ap (λ (y : recovery.Entry). knownTo (length book) (some (y .c))) entry-seen ∙ m)

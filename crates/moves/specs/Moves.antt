@@ -1,25 +1,26 @@
 -- What the moves of a correct site ask of the buffers and promise: a turn, and a log read.
 -- Assumes nothing.
 use mathlib.Core.Path.{_≡_}
-use mathlib.Core.Bool.{true}
+use mathlib.Core.Bool.{true, false}
 use mathlib.Core.List.{List}
 use Prim.Native.Nat.{ℕ, _+_, _*_, _≤_, _<_}
 use lib.ListN.{length}
 use Rattle.refusals.specs.declared.Verdict.{Verdict}
 use Rattle.table.specs.declared.SiteTable.{SiteTable}
-use Rattle.table.specs.Table.{isGood}
+use Rattle.table.specs.Table.{isGood, faultyOf}
 use Rattle.register.specs.declared.Command.{Command}
 use Rattle.commands.specs.Book.{commandsOf}
 use Rattle.conflicts.specs.Conflicts.{conflictRows}
 use Rattle.protocol.specs.System.{free}
 use Rattle.protocol.specs.Recovery as recovery
+use Rattle.protocol.specs.Site as protocol
+use Rattle.protocol.specs.Site.{isAcknowledging, isSome, decision, tallyOr, due}
 use Rattle.protocol.specs.World.{Step, turn, logRead, step}
 use Rattle.system.specs.Dash.{dash}
 use Rattle.layout.specs.Layout.{view}
 use Rattle.layout.specs.Good.{Good}
 use Rattle.site.specs.declared.Turn.{Turn}
 use Rattle.site.specs.Steps.{Turned}
-use Rattle.rounds.specs.Rounds.{Kept}
 use Rattle.entries.specs.Entries.{entrySize, logTo}
 use Rattle.sent.specs.Sent.{maxAcknowledgments}
 use Rattle.world.specs.World.{Buffers, siteAt, GoodWorld, worldOf, Outcome}
@@ -32,6 +33,17 @@ pub record Ready (t : SiteTable) (book rows : List ℕ) (b : Buffers) (u : Step)
   pub world : GoodWorld t (length (commandsOf book)) b
   -- what is pending at a site is free of conflicts
   pub pending : (i : ℕ) → i < t .sites → free (dash t (commandsOf book)) (view t (commandsOf book) (siteAt (b .sites) i) .pending) ≡ true
+  -- a correct site that acknowledges has no entry of its round in the log
+  pub unspoken : (i : ℕ) → i < t .sites → faultyOf t i ≡ false → isAcknowledging (view t (commandsOf book) (siteAt (b .sites) i) .phase) ≡ true
+      → recovery.entries i (view t (commandsOf book) (siteAt (b .sites) i) .round) (logTo (b .log) (b .entries)) ≡ 0
+  -- there is room for what the end of a decided round delivers at a site
+  pub ends : (i : ℕ) → i < t .sites
+      → isSome (decision (dash t (commandsOf book)) (view t (commandsOf book) (siteAt (b .sites) i)) (logTo (b .log) (b .entries))) ≡ true
+      → protocol.room (dash t (commandsOf book)) (view t (commandsOf book) (siteAt (b .sites) i))
+      (length
+      (due (dash t (commandsOf book)) (tallyOr (decision (dash t (commandsOf book)) (view t (commandsOf book) (siteAt (b .sites) i)) (logTo (b .log) (b .entries))))
+      (view t (commandsOf book) (siteAt (b .sites) i))))
+      ≡ true
   -- at most two entries of a site in a round
   pub twice : (j r : ℕ) → recovery.entries j r (logTo (b .log) (b .entries)) ≤ 2
   -- room for one log entry more,
@@ -39,12 +51,13 @@ pub record Ready (t : SiteTable) (book rows : List ℕ) (b : Buffers) (u : Step)
   -- and for the acknowledgments that there are after the step
   pub acks : (j r : ℕ) → length (step (dash t (commandsOf book)) (worldOf t (commandsOf book) b) u .acks j r) ≤ maxAcknowledgments
 
--- The turn of a site with the bytes b, by the rows of a book and what is kept of a log, where what is pending is free of conflicts.
-abbrev pub TurnedBy : List ℕ → List ℕ → ℕ → Turn → List ℕ → List ℕ → Type 0
-TurnedBy rows kept i r b after =
-    (t : SiteTable) (book log : List ℕ) (entries : ℕ) → rows ≡ conflictRows book → Kept t rows log entries kept → Good (t .sites) (length (commandsOf book)) b
+-- The turn of site i with the bytes b, by the rows of a book, where what is pending is free of conflicts and the site has no entry of its round in the log while it acknowledges.
+abbrev pub TurnedBy : List ℕ → ℕ → Turn → List ℕ → List ℕ → Type 0
+TurnedBy rows i r b after =
+    (t : SiteTable) (book : List ℕ) (log : recovery.Log) → rows ≡ conflictRows book → Good (t .sites) (length (commandsOf book)) b
     → free (dash t (commandsOf book)) (view t (commandsOf book) b .pending) ≡ true
-    → Turned t (commandsOf book) i (logTo log entries) (view t (commandsOf book) b) r after
+    → (isAcknowledging (view t (commandsOf book) b .phase) ≡ true → recovery.entries i (view t (commandsOf book) b .round) log ≡ 0)
+    → Turned t (commandsOf book) i log (view t (commandsOf book) b) r after
 
 -- A log read, which changes a site only, of any log with so many entries, at most two of a site in a round.
 abbrev pub LogRead : SiteTable → ℕ → ℕ → List ℕ → Verdict → List ℕ → Type 0

@@ -5,13 +5,11 @@ ghost use mathlib.Core.List.{List};
 ghost use Prim.Native.Nat.{_+_, _*_, _≤_, _<_, ℕ};
 ghost use lib.ListN.{length};
 ghost use Rattle.sets.specs.Sets.{capacity};
-ghost use Rattle.table.specs.Table.{maxSites};
 ghost use Rattle.roles.specs.Roles.{Roles};
 ghost use Rattle.commands.specs.Book.{commandsOf};
 ghost use Rattle.protocol.specs.World as protocol;
 ghost use Rattle.layout.specs.Layout.{siteSize, headOf};
 ghost use Rattle.site.specs.Steps.{ReadEntry};
-ghost use Rattle.rounds.specs.Rounds.{keptRounds, keptWords, Kept};
 ghost use Rattle.world.specs.World.{siteAt, Answered};
 ghost use Rattle.world.specs.Parts.{lent, AtSite};
 ghost use Rattle.moves.specs.Moves.{Ready, TurnedBy, LogRead};
@@ -23,11 +21,10 @@ use site::Turn;
 use table::SiteTable;
 use world::Stepped;
 
-// Site i takes its turn, by the rows of conflicts and what is kept of the log.
-fn turn_at(sites: &mut [u8], kept: &[u64], rows: &[u64], i: usize) -> Turn
-    requires { ⌜ (i * siteSize + siteSize ≤ length (now sites)) × (length (now kept) ≡ keptWords) × (length (now rows) ≡ capacity) × (i < maxSites)
-        × (headOf (siteAt (now sites) i) .round < keptRounds) ⌝ }
-    ensures { λ r. ⌜ AtSite i (TurnedBy (now (rows .entry)) (now (kept .entry)) i r) (now (sites .entry)) (now (sites .exit)) ⌝ }
+// Site i takes its turn, by the rows of conflicts. In a run its entry is never a third.
+fn turn_at(sites: &mut [u8], rows: &[u64], i: usize) -> Turn
+    requires { ⌜ (i * siteSize + siteSize ≤ length (now sites)) × (length (now rows) ≡ capacity) ⌝ }
+    ensures { λ r. ⌜ AtSite i (TurnedBy (now (rows .entry)) i r) (now (sites .entry)) (now (sites .exit)) ⌝ }
 {
     let from = i * Site::SIZE;
     let to = from + Site::SIZE;
@@ -35,9 +32,7 @@ fn turn_at(sites: &mut [u8], kept: &[u64], rows: &[u64], i: usize) -> Turn
     let pending = layout::pending(&sites[from..to]);
     let new = undelivered.without(pending);
     let free = calm::is_free_between(rows, new, undelivered);
-    let round = layout::round(&sites[from..to]);
-    let third = rounds::third(kept, i, round as usize);
-    site::take_turn(&mut sites[from..to], free, third)
+    site::take_turn(&mut sites[from..to], free, false)
 }
 
 // 07: site i takes its turn. What it sends is kept, and what it proposes is appended to the log.
@@ -46,14 +41,13 @@ pub fn turn(
     log: &mut [u8],
     sent: &mut [u8],
     entries: usize,
-    kept: &[u64],
     table: SiteTable,
     roles: &[u8],
     rows: &[u64],
     site: u8,
 ) -> Stepped
     requires { ⌜ ((book : List ℕ) × Ready table book (now rows) (lent (now sites) (now log) entries (now sent)) (protocol.turn site))
-        × Roles table (now roles) × Kept table (now rows) (now log) entries (now kept) ⌝ }
+        × Roles table (now roles) ⌝ }
     ensures { λ r. ⌜ ((book : List ℕ) → Ready table book (now (rows .entry)) (lent (now (sites .entry)) (now (log .entry)) entries (now (sent .entry))) (protocol.turn site)
         → Answered table (commandsOf book) (protocol.turn site) (lent (now (sites .entry)) (now (log .entry)) entries (now (sent .entry)))
         (r .code) (lent (now (sites .exit)) (now (log .exit)) (r .entries) (now (sent .exit)))) ⌝ }
@@ -66,7 +60,7 @@ pub fn turn(
     }
     let i = site as usize;
     let round = world::round_of(&sites[..], i);
-    let answer = turn_at(sites, kept, rows, i);
+    let answer = turn_at(sites, rows, i);
     match answer {
         Turn::Refused(refusal) => Stepped {
             code: refusals::number(refusal),

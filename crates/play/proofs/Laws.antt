@@ -27,7 +27,7 @@ use Rattle.steps.proofs.Walk.{more-at, bad-at, end-at, inside}
 use Rattle.lines.specs.Lines.{stepLine}
 use Rattle.runs.specs.Run.{report, stepLines, worldAfter}
 use Rattle.world.specs.World.{Buffers, worldOf, HoldsWorld, Outcome, Answered}
-use Rattle.play.specs.Played.{linesRoom, extentOf, CarriedOut, PlayedAll}
+use Rattle.play.specs.Played.{linesRoom, afterOf, CarriedOut, PlayedAll}
 
 -- ---- the line of a step
 
@@ -68,17 +68,26 @@ pub loud : (number : ℕ) {s after : List ℕ} {at past code : ℕ} → (code �
 loud number n w Taken q = absurd (n q)
 loud number {s} {after} {at} {past} n w (Refused r) q = subst (λ (k : ℕ). Wrote after past s at (stepLine number k)) q w
 
--- ---- the bytes of a reading
+-- ---- the position after a reading
 
 -- A reading has a byte at least, and two where others follow it.
-pub record Within (steps : List ℕ) (at z : ℕ) : Type 0 where
-  pub some-byte : 1 ≤ z
-  pub inside : at + z ≤ length steps
-  pub two : at + z < length steps → 2 ≤ z
+pub record Within (steps : List ℕ) (at next : ℕ) : Type 0 where
+  pub some-byte : at + 1 ≤ next
+  pub inside : next ≤ length steps
+  pub two : next < length steps → at + 2 ≤ next
 
-pub within : (steps : List ℕ) (at : ℕ) (r : Reading) {z : ℕ} → at < length steps → readStep (drop at steps) ≡ r → z ≡ extentOf r (length steps - at) → Within steps at z
-within steps at (Whole u) h e q = let i = inside steps at (omega arith) e q in record { some-byte = omega arith; inside = i .1; two = λ l. i .0 }
+pub within : (steps : List ℕ) (at : ℕ) (r : Reading) {next : ℕ} → at < length steps → readStep (drop at steps) ≡ r → next ≡ afterOf r at (length steps) → Within steps at next
+within steps at (Whole u) h e q =
+    let same : sizeOf u ≡ sizeOf u = refl in
+    let i = inside steps at (omega arith) e same in
+    record { some-byte = omega (arith, i .0); inside = omega (arith, i .1); two = λ l. omega (arith, i .0) }
 within steps at Unreadable h e q = record { some-byte = omega arith; inside = omega arith; two = λ l. absurd (omega arith) }
+
+pub after-whole : (at n : ℕ) {r : Reading} {u : Step} {z : ℕ} → r ≡ Whole u → z ≡ sizeOf u → at + z ≡ afterOf r at n
+after-whole at n e q = ap (λ (z : ℕ). at + z) q ∙ sym (ap (λ (x : Reading). afterOf x at n) e)
+
+pub after-unreadable : (at n : ℕ) {r : Reading} → r ≡ Unreadable → n ≡ afterOf r at n
+after-unreadable at n e = sym (ap (λ (x : Reading). afterOf x at n) e)
 
 module _ (t : SiteTable) (book : List Command) {r : Reading} where
   pub carried-none : (b : Buffers) → r ≡ Unreadable → {n : ℕ} → n ≡ numberOf Form → CarriedOut t book r b n b
@@ -114,9 +123,9 @@ module _ (t : SiteTable) (book : List Command) where
     now-world = p .world .says
 
     -- One step more.
-    playing-more : {u : Step} {z : ℕ} {v : Verdict} {b′ : Buffers} {out′ : List ℕ} {end′ : ℕ} → end ≤ length out → readStep (drop at steps) ≡ Whole u → z ≡ sizeOf u
-        → Outcome t book (meaning u) b v b′ → Wrote out′ end′ out end (report number v) → Playing steps before from b′ out′ end′ (at + z) (number + 1)
-    playing-more {u} {z} {v} {b′} {out′} {end′} h e q o w =
+    playing-more : {u : Step} {next : ℕ} {v : Verdict} {b′ : Buffers} {out′ : List ℕ} {end′ : ℕ} → end ≤ length out → readStep (drop at steps) ≡ Whole u → next ≡ at + sizeOf u
+        → Outcome t book (meaning u) b v b′ → Wrote out′ end′ out end (report number v) → Playing steps before from b′ out′ end′ next (number + 1)
+    playing-more {u} {next} {v} {b′} {out′} {end′} h e q o w =
         record {
           past = p .past ++ (meaning u ∷ []);
           world = subst (λ (x : World (dash t book)). HoldsWorld t book b′ x) (ap (λ (x : World (dash t book)). step (dash t book) x (meaning u)) now-world ∙ sym grown) (o .holds);
@@ -136,13 +145,15 @@ module _ (t : SiteTable) (book : List Command) where
         past = play (dash t book) (start (dash t book)) (p .past)
 
         rest : List Reading
-        rest = stepsOf (drop (at + z) steps)
+        rest = stepsOf (drop next steps)
 
         whole : List ℕ
         whole = stepLines t book 1 (start (dash t book)) (stepsOf steps)
 
         left : stepsOf (drop at steps) ≡ Whole u ∷ rest
-        left = more-at steps at e q
+        left =
+            let same : sizeOf u ≡ sizeOf u = refl in
+            more-at steps at e same ∙ ap (λ (k : ℕ). Whole u ∷ stepsOf (drop k steps)) (sym q)
 
         grown : play (dash t book) (start (dash t book)) (p .past ++ (meaning u ∷ [])) ≡ step (dash t book) past (meaning u)
         grown = foldl-append (step (dash t book)) (start (dash t book)) (p .past) (meaning u ∷ [])
@@ -151,9 +162,9 @@ module _ (t : SiteTable) (book : List Command) where
         judged = o .verdict ∙ ap (λ (x : World (dash t book)). judge (dash t book) x (meaning u)) now-world
 
     -- A step that cannot be read is the last.
-    playing-last : {z : ℕ} {v : Verdict} {b′ : Buffers} {out′ : List ℕ} {end′ : ℕ} → end ≤ length out → at < length steps → readStep (drop at steps) ≡ Unreadable → z ≡ length steps - at
-        → (v ≡ Refused Form) × (b′ ≡ b) → Wrote out′ end′ out end (report number v) → Playing steps before from b′ out′ end′ (at + z) (number + 1)
-    playing-last {z} {v} {b′} {out′} {end′} h g e q o w =
+    playing-last : {next : ℕ} {v : Verdict} {b′ : Buffers} {out′ : List ℕ} {end′ : ℕ} → end ≤ length out → at < length steps → readStep (drop at steps) ≡ Unreadable → next ≡ length steps
+        → (v ≡ Refused Form) × (b′ ≡ b) → Wrote out′ end′ out end (report number v) → Playing steps before from b′ out′ end′ next (number + 1)
+    playing-last {next} {v} {b′} {out′} {end′} h g e q o w =
         record {
           past = p .past;
           world = subst (λ (x : Buffers). HoldsWorld t book x past) (sym (o .1)) (p .world);
@@ -174,13 +185,13 @@ module _ (t : SiteTable) (book : List Command) where
         left : stepsOf (drop at steps) ≡ Unreadable ∷ []
         left = bad-at steps at g e
 
-        none : stepsOf (drop (at + z) steps) ≡ []
-        none = end-at steps (at + z) (omega arith)
+        none : stepsOf (drop next steps) ≡ []
+        none = end-at steps next (omega arith)
 
     -- One reading more.
-    pub playing-next : (r : Reading) {z n : ℕ} {b′ : Buffers} {out′ : List ℕ} {end′ : ℕ} → end ≤ length out → at < length steps → readStep (drop at steps) ≡ r
-        → z ≡ extentOf r (length steps - at) → CarriedOut t book r b n b′ → ((v : Verdict) → n ≡ codeOf v → Wrote out′ end′ out end (report number v))
-        → Playing steps before from b′ out′ end′ (at + z) (number + 1)
+    pub playing-next : (r : Reading) {next n : ℕ} {b′ : Buffers} {out′ : List ℕ} {end′ : ℕ} → end ≤ length out → at < length steps → readStep (drop at steps) ≡ r
+        → next ≡ afterOf r at (length steps) → CarriedOut t book r b n b′ → ((v : Verdict) → n ≡ codeOf v → Wrote out′ end′ out end (report number v))
+        → Playing steps before from b′ out′ end′ next (number + 1)
     playing-next (Whole u) h g e q o w = playing-more h e q (o .did) (w (o .verdict) (o .number))
     playing-next Unreadable h g e q o w = playing-last h g e q (o .did) (w (o .verdict) (o .number))
 

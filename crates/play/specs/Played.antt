@@ -34,10 +34,10 @@ lineRoom = 21
 abbrev pub linesRoom : ℕ
 linesRoom = maxRun / 2 * lineRoom
 
--- The bytes of a reading, of so many that are left: a step's own, and all where it cannot be read, so that nothing is read after it.
-abbrev pub extentOf : Reading → ℕ → ℕ
-extentOf (Whole u) left = sizeOf u
-extentOf Unreadable left = left
+-- The position after a reading at a position: past a step's own bytes, and the end of all n where it cannot be read, so that nothing is read after it.
+abbrev pub afterOf : Reading → ℕ → ℕ → ℕ
+afterOf (Whole u) at n = at + sizeOf u
+afterOf Unreadable at n = n
 
 -- What becomes of a reading on lent buffers: a step is taken or refused as the protocol has it, and refusal 3 changes nothing.
 abbrev pub carried : SiteTable → List Command → Reading → Buffers → Verdict → Buffers → Type 0

@@ -7,13 +7,14 @@ ghost use Rattle.refusals.specs.declared.Verdict.{Verdict};
 ghost use Rattle.refusals.specs.Refusals.{codeOf};
 ghost use Rattle.print.specs.Print.{Wrote};
 ghost use Rattle.runs.specs.Run as runs;
+ghost use Rattle.runs.specs.Run.{maxRun};
 ghost use Rattle.world.specs.Parts.{lent};
 ghost use Rattle.protocol.specs.World as protocol;
 ghost use Rattle.deliver.specs.Delivering.{Noted};
 ghost use Rattle.moves.specs.Moves.{Ready};
 ghost use Rattle.roles.specs.Roles.{Roles};
 ghost use Rattle.rounds.specs.Rounds.{Kept};
-ghost use Rattle.play.specs.Played.{lineRoom, extentOf, CarriedOut, Playable, PlayedAll};
+ghost use Rattle.play.specs.Played.{lineRoom, afterOf, CarriedOut, Playable, PlayedAll};
 use refusals::Refusal;
 use steps::Reading;
 use table::SiteTable;
@@ -36,13 +37,14 @@ fn report(out: &mut [u8], at: usize, number: usize, code: u32) -> usize
     lines::put_step_line(out, at, number, code as usize)
 }
 
-// The bytes of a reading: all that are left where it cannot be read.
-fn extent(reading: Reading, left: usize) -> usize
-    ensures { λ r. ⌜ r ≡ extentOf reading left ⌝ }
+// The position after a reading: the end of all n bytes where it cannot be read.
+fn after(reading: Reading, at: usize, n: usize) -> usize
+    requires { ⌜ (at ≤ n) × (n < maxRun) ⌝ }
+    ensures { λ r. ⌜ r ≡ afterOf reading at n ⌝ }
 {
     match reading {
-        Reading::Whole(step) => steps::size(step),
-        Reading::Unreadable => left,
+        Reading::Whole(step) => at + steps::size(step),
+        Reading::Unreadable => n,
     }
 }
 
@@ -117,7 +119,7 @@ fn play_on(
     let mut number: usize = 1;
     while at < n {
         let reading = steps::read_step(steps, at);
-        let size = extent(reading, n - at);
+        let next = after(reading, at, n);
         let stepped = carry_out(
             sites,
             log,
@@ -135,7 +137,7 @@ fn play_on(
         let code = stepped.code;
         end = report(out, end, number, code);
         entries = stepped.entries;
-        at += size;
+        at = next;
         number += 1;
     }
     Played {

@@ -117,7 +117,7 @@ digits-none s at zero x h = splice-none s at
 digits-none s at (suc i) x h = absurd (omega arith)
 
 -- The last two digits apart from those before them.
-pub digits-parted : (n x : ℕ) → digits n (x / 100) ++ digits 2 (x % 100) ≡ digits (n + 2) x
+digits-parted : (n x : ℕ) → digits n (x / 100) ++ digits 2 (x % 100) ≡ digits (n + 2) x
 unfolding digits
 digits-parted n x =
     let e : n + 2 ≡ suc (suc n) = omega arith in
@@ -127,6 +127,20 @@ digits-parted n x =
     (λ i. digits n (high i) ++ ((48 + tens i) ∷ (48 + ones i) ∷ []))
     ∙ sym (append-assoc (digits n (x / 10 / 10)) ((48 + x / 10 % 10) ∷ []) ((48 + x % 10) ∷ []))
     ∙ ap (λ (k : ℕ). digits k x) (sym e)
+
+-- The last four in the same way.
+four-parted : (n x : ℕ) → digits n (x / 10000) ++ digits 4 (x % 10000) ≡ digits (n + 4) x
+four-parted n x =
+    let high : x / 10000 ≡ x / 100 / 100 = omega arith in
+    let middle : x % 10000 / 100 ≡ x / 100 % 100 = omega arith in
+    let low : x % 10000 % 100 ≡ x % 100 = omega arith in
+    let e : n + 2 + 2 ≡ n + 4 = omega arith in
+    ap (λ (t : List ℕ). digits n (x / 10000) ++ t) (sym (digits-parted 2 (x % 10000)))
+    ∙ (λ i. digits n (high i) ++ (digits 2 (middle i) ++ digits 2 (low i)))
+    ∙ sym (append-assoc (digits n (x / 100 / 100)) (digits 2 (x / 100 % 100)) (digits 2 (x % 100)))
+    ∙ ap (λ (t : List ℕ). t ++ digits 2 (x % 100)) (digits-parted n (x / 100))
+    ∙ digits-parted (n + 2) x
+    ∙ ap (λ (k : ℕ). digits k x) e
 
 -- ---- the copy of a text
 
@@ -148,9 +162,9 @@ both {s} {s₁} {s₂} {at} {r₁} {r₂} {a} {b} h p q =
       bytes = q .bytes ∙ (λ i. splice (p .bytes i) (p .end i) b) ∙ splice-two s at a b h;
     }
 
-pub wrote-parted : {s₁ s₂ s : List ℕ} {r₁ r₂ at : ℕ} (n x : ℕ) → at ≤ length s → Wrote s₁ r₁ s at (digits n (x / 100)) → Wrote s₂ r₂ s₁ r₁ (digits 2 (x % 100))
-    → Wrote s₂ r₂ s at (digits (n + 2) x)
-wrote-parted {s₁} {s₂} {s} {r₁} {r₂} {at} n x h v w = subst (Wrote s₂ r₂ s at) (digits-parted n x) (both h v w)
+pub wrote-parted : {s₁ s₂ s : List ℕ} {r₁ r₂ at : ℕ} (n x : ℕ) → at ≤ length s → Wrote s₁ r₁ s at (digits n (x / 10000)) → Wrote s₂ r₂ s₁ r₁ (digits 4 (x % 10000))
+    → Wrote s₂ r₂ s at (digits (n + 4) x)
+wrote-parted {s₁} {s₂} {s} {r₁} {r₂} {at} n x h v w = subst (Wrote s₂ r₂ s at) (four-parted n x) (both h v w)
 
 pub wrote-decimal : {s₁ s : List ℕ} {r at n : ℕ} (x : ℕ) → n ≡ width x → Wrote s₁ r s at (digits n x) → Wrote s₁ r s at (decimal x)
 unfolding decimal

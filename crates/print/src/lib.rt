@@ -1,6 +1,6 @@
 // Numbers and texts in ASCII, written into a lent buffer. Each function answers the position after what it wrote.
 ghost use mathlib.Core.Path.{_≡_};
-ghost use Prim.Native.Nat.{_+_, _≤_};
+ghost use Prim.Native.Nat.{_+_, _≤_, _<_};
 ghost use lib.ListN.{length};
 ghost use Rattle.print.specs.Print.{digits, width, decimal, signedDecimal, Wrote};
 
@@ -32,8 +32,39 @@ pub fn put_digits(out: &mut [u8], at: usize, n: usize, x: usize) -> usize
     at + n
 }
 
-// A number is written without leading zeros. A number of up to five digits is written by a count that the compiler knows,
-// and the last two of four or five digits apart from the others, so that neither waits for the other.
+// The last two digits of a number are written: where it has no more, as one number of two bytes, each 48 and a digit.
+pub fn put_two(out: &mut [u8], at: usize, x: usize) -> usize
+    requires { ⌜ at + 2 ≤ length (now out) ⌝ }
+    ensures { λ r. ⌜ Wrote (now (out .exit)) r (now (out .entry)) at (digits 2 x) ⌝ }
+{
+    if x >= 100 {
+        return put_digits(out, at, 2, x);
+    }
+    let y = x as u16;
+    let tens = y * 103 / 1024;
+    let word = 12336 + tens + 256 * (y - 10 * tens);
+    wire::put2(out, at, word);
+    at + 2
+}
+
+// The last four digits of a number are written as one number of four bytes, each 48 and a digit. The two pairs of digits
+// stand 16 bits apart and are parted together: 103 / 1024 of a pair is its tens, and what is left of it its ones. A division
+// by 10 for each digit would take twice the instructions.
+fn put_four(out: &mut [u8], at: usize, x: usize) -> usize
+    requires { ⌜ (x < 10000) × (at + 4 ≤ length (now out)) ⌝ }
+    ensures { λ r. ⌜ Wrote (now (out .exit)) r (now (out .entry)) at (digits 4 x) ⌝ }
+{
+    let y = x as u32;
+    let pairs = y / 100 + 65536 * (y % 100);
+    let tenths = pairs * 103 / 1024;
+    let tens = tenths % 16 + 65536 * (tenths / 65536);
+    let word = 808464432 + tens + 256 * (pairs - 10 * tens);
+    wire::put4(out, at, word);
+    at + 4
+}
+
+// A number is written without leading zeros. A number of up to six digits is written by a count that the compiler knows,
+// and its last four digits at once.
 pub fn put_decimal(out: &mut [u8], at: usize, x: usize) -> usize
     requires { ⌜ at + length (decimal x) ≤ length (now out) ⌝ }
     ensures { λ r. ⌜ Wrote (now (out .exit)) r (now (out .entry)) at (decimal x) ⌝ }
@@ -43,17 +74,20 @@ pub fn put_decimal(out: &mut [u8], at: usize, x: usize) -> usize
             return put_digits(out, at, 1, x);
         }
         if x < 100 {
-            return put_digits(out, at, 2, x);
+            return put_two(out, at, x);
         }
         return put_digits(out, at, 3, x);
     }
     if x < 10000 {
-        let middle = put_digits(out, at, 2, x / 100);
-        return put_digits(out, middle, 2, x % 100);
+        return put_four(out, at, x);
     }
     if x < 100000 {
-        let middle = put_digits(out, at, 3, x / 100);
-        return put_digits(out, middle, 2, x % 100);
+        let middle = put_digits(out, at, 1, x / 10000);
+        return put_four(out, middle, x % 10000);
+    }
+    if x < 1000000 {
+        let middle = put_two(out, at, x / 10000);
+        return put_four(out, middle, x % 10000);
     }
     let n = digit_count(x);
     put_digits(out, at, n, x)

@@ -130,11 +130,6 @@ correct t i e =
       not-faulty = not-true (faultyOf t i) (right (ltb i (t .sites)) (not (faultyOf t i)) e);
     }
 
--- A step that is not turned down for its site or another operand.
-pub correct-and : (t : SiteTable) (i : ℕ) {q other : Bool} → q ≡ isCorrectSite t i → not (q && other) ≡ false → Correct t i × (other ≡ true)
-correct-and t i {q} {other} e h =
-    (correct t i (sym e ∙ left q other (not-false (q && other) h)), right q other (not-false (q && other) h))
-
 -- A sender that has its role is a site of the table.
 pub sent-by-correct : (t : SiteTable) (j : ℕ) {q : Bool} → q ≡ isCorrectSite t j → q ≡ true → j < t .sites
 sent-by-correct t j e h = ltb-true j (t .sites) (left (ltb j (t .sites)) (not (faultyOf t j)) (sym e ∙ h))

@@ -30,9 +30,6 @@ pub record Agree (b b′ : List ℕ) (from to : ℕ) : Type 0 where
 pub agree-trans : {a b c : List ℕ} {from to : ℕ} → Agree a b from to → Agree b c from to → Agree a c from to
 agree-trans p q = record { reads = λ n k l m. q .reads n k l m ∙ p .reads n k l m }
 
-pub agree-part : {a b : List ℕ} {from to : ℕ} (from′ to′ : ℕ) → Agree a b from to → from ≤ from′ → to′ ≤ to → Agree a b from′ to′
-agree-part from′ to′ p h l = record { reads = λ n k m o. p .reads n k (omega arith) (omega arith) }
-
 -- A write of n bytes changes nothing before it and nothing after it.
 pub agree-splice : (b : List ℕ) (at : ℕ) (bs : List ℕ) (n from to : ℕ) → length bs ≡ n → at + n ≤ length b → (to ≤ at) ⊎ (at + n ≤ from)
     → Agree b (splice b at bs) from to
@@ -52,7 +49,7 @@ sets-agree zero at g h l = refl
 sets-agree (suc n) at g h l =
     λ i. inSet (agree-set at g h (omega arith) i) ∷ sets-agree n (at + setBytes) g (omega arith) (omega arith) i
 
-pub acks-agree : (k : ℕ) {b b′ : List ℕ} → countIn b′ k ≡ countIn b k → Agree b b′ (setPlace k 0) (checkPlace k) → countIn b k ≤ maxAcknowledgments → acksIn b′ k ≡ acksIn b k
+pub acks-agree : (k : ℕ) {b b′ : List ℕ} → countIn b′ k ≡ countIn b k → Agree b b′ (setPlace k 0) (setPlace k maxAcknowledgments) → countIn b k ≤ maxAcknowledgments → acksIn b′ k ≡ acksIn b k
 unfolding acksIn
 acks-agree k {b} {b′} e g h = ap (λ (n : ℕ). setsFrom n (setPlace k 0) b′) e ∙ sets-agree (countIn b k) (setPlace k 0) g (omega arith) (omega arith)
 
@@ -171,4 +168,4 @@ module _ (b : List ℕ) (k : ℕ) (s : Set) (size : length b ≡ sentSize) (insi
   pub acks-checked : countIn b k ≤ maxAcknowledgments → acksIn (checkedIn b k s) k ≡ acksIn b k
   acks-checked =
       acks-agree k count-checked
-      (sets-kept b (checkPlace k) s (flagPlace k) 1 size (omega arith) (omega arith) (omega arith) (setPlace k 0) (checkPlace k) (omega arith) (inl (omega arith)))
+      (sets-kept b (checkPlace k) s (flagPlace k) 1 size (omega arith) (omega arith) (omega arith) (setPlace k 0) (setPlace k maxAcknowledgments) (omega arith) (inl (omega arith)))

@@ -5,7 +5,7 @@ use mathlib.Core.Bool.{Bool, true, false, _&&_}
 use mathlib.Core.Logic.{⊎-elim}
 use mathlib.Core.List.{List, []}
 use mathlib.Core.Option.{none, some}
-use Prim.Native.Nat.{ℕ, zero, suc, pred, _+_, _*_, _-_, _≤_, _<_}
+use Prim.Native.Nat.{ℕ, zero, suc, pred, _+_, _*_, _-_, _%_, _^_, _≤_, _<_}
 use native.Mathlib.Omega.{arith}
 use lib.Dec.{eqb, leb, ltb}
 use lib.ListN.{length}
@@ -14,12 +14,13 @@ use Rattle.theory.specs.Sets.{pick}
 use Rattle.theory.specs.Sets as theory
 use Rattle.theory.specs.Lists.{nth}
 use Rattle.theory.specs.Counting.{both, left, right, known, never}
+use Rattle.wire.specs.Wire.{readLe}
 use Rattle.sets.specs.declared.Set.{Set}
 use Rattle.sets.specs.Sets.{inSet, setBytes, readSet}
 use Rattle.table.specs.Table.{maxSites}
 use Rattle.sent.specs.declared.Message.the-variants.{Sent, Never}
-use Rattle.sent.specs.Sent.{sentRounds, cells, cellOf, setPlace, checkPlace}
-use Rattle.sent.specs.Sent.{countIn, flagIn, acksIn, checkIn, inTable, acksOf, checksOf, acknowledgmentOf, checkOf, Read}
+use Rattle.sent.specs.Sent.{sentRounds, maxAcknowledgments, cells, cellOf, countPlace, flagPlace, setPlace, checkPlace}
+use Rattle.sent.specs.Sent.{countIn, flagIn, acksIn, checkIn, inTable, acksOf, checksOf, numbered, acknowledgmentOf, checkOf, GoodSent, Read}
 use Rattle.sent.proofs.Cells.{length-sets, nth-set, nth-none}
 
 -- ---- sites and rounds that have a cell
@@ -88,6 +89,15 @@ other-view {A} f g d new i s t here there j r = ⊎-elim same other (known (eqb 
 
 -- ---- messages read
 
+-- From 1 on the a-th of a list is the one that the protocol looks for.
+pub numbered-nth : (l : List theory.Set) (a : ℕ) → 1 ≤ a → numbered l a ≡ nth l (pred a)
+numbered-nth l zero h = absurd (omega arith)
+numbered-nth l (suc n) h = refl
+
+-- A byte that 1 was taken off, where none was borrowed.
+pub one-less : (n a : ℕ) → (n + 1) % 2 ^ 8 ≡ a → n < 255 → n + 1 ≡ a
+one-less n a e h = omega arith
+
 module _ (b : List ℕ) (j r : ℕ) (t : inTable j r ≡ true) where
   pub acks-at : acksOf b j r ≡ acksIn b (cellOf j r)
   unfolding acksOf
@@ -102,47 +112,62 @@ module _ (b : List ℕ) (j r : ℕ) (t : inTable j r ≡ true) where
   unfolding acksIn
   length-acks = ap length acks-at ∙ length-sets (countIn b (cellOf j r)) (setPlace (cellOf j r) 0) b
 
-  module _ {k : ℕ} (e : k ≡ cellOf j r) where
-    pub no-acknowledgment : (a : ℕ) {n : ℕ} → n ≡ countIn b k → 1 ≤ a → n < a → Read Never (acknowledgmentOf b j r a) (nth (acksOf b j r) (pred a))
-    unfolding acksIn acknowledgmentOf
-    no-acknowledgment zero c h l = absurd (omega arith)
-    no-acknowledgment (suc a) {n} c h l =
-        let d : n ≡ countIn b (cellOf j r) = c ∙ ap (countIn b) e in
-        record {
-          answer = sym (λ i. pick (lt-leb (suc a) (countIn b (cellOf j r)) (omega arith) i) (Sent (readSet b (setPlace (cellOf j r) (suc a - 1)))) Never);
-          means = sym (ap (λ (x : List theory.Set). nth x a) acks-at ∙ nth-none (countIn b (cellOf j r)) (setPlace (cellOf j r) 0) b a (omega arith));
-        }
+  pub no-acknowledgment : (a : ℕ) {p n : ℕ} → p ≡ countPlace (cellOf j r) → n ≡ readLe 1 b p → (1 ≤ a → n < a) → Read Never (acknowledgmentOf b j r a) (numbered (acksOf b j r) a)
+  unfolding acksIn acknowledgmentOf
+  no-acknowledgment zero q c l = record { answer = refl; means = refl }
+  no-acknowledgment (suc a) {p} {n} q c l =
+      let d : n ≡ countIn b (cellOf j r) = c ∙ ap (readLe 1 b) q in
+      let f : countIn b (cellOf j r) < suc a = omega (arith, l (omega arith)) in
+      record {
+        answer = sym (λ i. pick (le-leb 1 (suc a) (omega arith) i && lt-leb (suc a) (countIn b (cellOf j r)) f i) (Sent (readSet b (setPlace (cellOf j r) (suc a - 1)))) Never);
+        means = sym (ap (λ (x : List theory.Set). nth x a) acks-at ∙ nth-none (countIn b (cellOf j r)) (setPlace (cellOf j r) 0) b a (omega arith));
+      }
 
-    pub some-acknowledgment : (a : ℕ) {n p : ℕ} {s : Set} → n ≡ countIn b k → 1 ≤ a → a ≤ n → p ≡ setPlace k (a - 1) → s ≡ readSet b p
-        → Read (Sent s) (acknowledgmentOf b j r a) (nth (acksOf b j r) (pred a))
-    unfolding acksIn acknowledgmentOf
-    some-acknowledgment zero c h l q m = absurd (omega arith)
-    some-acknowledgment (suc a) {n} {p} {s} c h l q m =
-        let d : n ≡ countIn b (cellOf j r) = c ∙ ap (countIn b) e in
-        let o : setPlace (cellOf j r) (suc a - 1) ≡ setPlace (cellOf j r) 0 + a * setBytes = omega arith in
-        let w : s ≡ readSet b (setPlace (cellOf j r) (suc a - 1)) = m ∙ ap (readSet b) (q ∙ ap (λ (x : ℕ). setPlace x (suc a - 1)) e) in
-        record {
-          answer = ap Sent w ∙ sym (λ i. pick (le-leb (suc a) (countIn b (cellOf j r)) (omega arith) i) (Sent (readSet b (setPlace (cellOf j r) (suc a - 1)))) Never);
-          means =
-              ap (λ (x : Set). some (inSet x)) (w ∙ ap (readSet b) o)
-              ∙ sym (ap (λ (x : List theory.Set). nth x a) acks-at ∙ nth-set (countIn b (cellOf j r)) (setPlace (cellOf j r) 0) b a (omega arith));
-        }
+  pub some-acknowledgment : (a : ℕ) {p n at : ℕ} {s : Set} → p ≡ countPlace (cellOf j r) → n ≡ readLe 1 b p → 1 ≤ a → a ≤ n → at ≡ setPlace (cellOf j r) (a - 1) → s ≡ readSet b at
+      → Read (Sent s) (acknowledgmentOf b j r a) (numbered (acksOf b j r) a)
+  unfolding acksIn acknowledgmentOf
+  some-acknowledgment zero q c h l o m = absurd (omega arith)
+  some-acknowledgment (suc a) {p} {n} {at} {s} q c h l o m =
+      let d : n ≡ countIn b (cellOf j r) = c ∙ ap (readLe 1 b) q in
+      let e : setPlace (cellOf j r) (suc a - 1) ≡ setPlace (cellOf j r) 0 + a * setBytes = omega arith in
+      let w : s ≡ readSet b (setPlace (cellOf j r) (suc a - 1)) = m ∙ ap (readSet b) o in
+      record {
+        answer =
+            ap Sent w
+            ∙ sym (λ i. pick (le-leb 1 (suc a) (omega arith) i && le-leb (suc a) (countIn b (cellOf j r)) (omega arith) i) (Sent (readSet b (setPlace (cellOf j r) (suc a - 1)))) Never);
+        means =
+            ap (λ (x : Set). some (inSet x)) (w ∙ ap (readSet b) e)
+            ∙ sym (ap (λ (x : List theory.Set). nth x a) acks-at ∙ nth-set (countIn b (cellOf j r)) (setPlace (cellOf j r) 0) b a (omega arith));
+      }
 
-    pub no-check : {n : ℕ} → n ≡ flagIn b k → (n ≡ 1 → ⊥) → Read Never (checkOf b j r) (checksOf b j r)
-    unfolding checkIn checkOf
-    no-check {n} c h =
-        let f = ne-eqb (flagIn b (cellOf j r)) 1 (λ x. h (c ∙ ap (flagIn b) e ∙ x)) in
-        record {
-          answer = sym (λ i. pick (f i) (Sent (readSet b (checkPlace (cellOf j r)))) Never);
-          means = sym (checks-at ∙ (λ i. pick (f i) (some (inSet (readSet b (checkPlace (cellOf j r))))) none));
-        }
+  -- The number of an acknowledgment that was sent.
+  pub sent-number : (a : ℕ) {s : Set} → GoodSent b → Sent s ≡ acknowledgmentOf b j r a → (1 ≤ a) × (a ≤ maxAcknowledgments)
+  unfolding acknowledgmentOf
+  sent-number a {s} good h = go (leb 1 a && leb a (countIn b (cellOf j r))) refl h
+    where
+      go : (x : Bool) → (leb 1 a && leb a (countIn b (cellOf j r))) ≡ x → Sent s ≡ pick x (Sent (readSet b (setPlace (cellOf j r) (a - 1)))) Never
+          → (1 ≤ a) × (a ≤ maxAcknowledgments)
+      go true e l =
+          let few = leb-true a (countIn b (cellOf j r)) (right (leb 1 a) (leb a (countIn b (cellOf j r))) e) in
+          (leb-true 1 a (left (leb 1 a) (leb a (countIn b (cellOf j r))) e), omega (arith, good .counts (cellOf j r) (cell-inside j r t)))
+      go false e l = absurd (let z : _≡_ {A = ℕ} 0 1 = cc in omega arith)
 
-    pub some-check : {n p : ℕ} {s : Set} → n ≡ flagIn b k → n ≡ 1 → p ≡ checkPlace k → s ≡ readSet b p → Read (Sent s) (checkOf b j r) (checksOf b j r)
-    unfolding checkIn checkOf
-    some-check {n} {p} {s} c h q m =
-        let f = eq-eqb (flagIn b (cellOf j r)) 1 (sym (c ∙ ap (flagIn b) e) ∙ h) in
-        let w : s ≡ readSet b (checkPlace (cellOf j r)) = m ∙ ap (readSet b) (q ∙ ap checkPlace e) in
-        record {
-          answer = ap Sent w ∙ sym (λ i. pick (f i) (Sent (readSet b (checkPlace (cellOf j r)))) Never);
-          means = ap (λ (x : Set). some (inSet x)) w ∙ sym (checks-at ∙ (λ i. pick (f i) (some (inSet (readSet b (checkPlace (cellOf j r))))) none));
-        }
+  pub no-check : {p n : ℕ} → p ≡ flagPlace (cellOf j r) → n ≡ readLe 1 b p → (n ≡ 1 → ⊥) → Read Never (checkOf b j r) (checksOf b j r)
+  unfolding checkIn checkOf
+  no-check q c h =
+      let f = ne-eqb (flagIn b (cellOf j r)) 1 (λ x. h (c ∙ ap (readLe 1 b) q ∙ x)) in
+      record {
+        answer = sym (λ i. pick (f i) (Sent (readSet b (checkPlace (cellOf j r)))) Never);
+        means = sym (checks-at ∙ (λ i. pick (f i) (some (inSet (readSet b (checkPlace (cellOf j r))))) none));
+      }
+
+  pub some-check : {p n at : ℕ} {s : Set} → p ≡ flagPlace (cellOf j r) → n ≡ readLe 1 b p → n ≡ 1 → at ≡ checkPlace (cellOf j r) → s ≡ readSet b at
+      → Read (Sent s) (checkOf b j r) (checksOf b j r)
+  unfolding checkIn checkOf
+  some-check {p} {n} {at} {s} q c h o m =
+      let f = eq-eqb (flagIn b (cellOf j r)) 1 (sym (c ∙ ap (readLe 1 b) q) ∙ h) in
+      let w : s ≡ readSet b (checkPlace (cellOf j r)) = m ∙ ap (readSet b) o in
+      record {
+        answer = ap Sent w ∙ sym (λ i. pick (f i) (Sent (readSet b (checkPlace (cellOf j r)))) Never);
+        means = ap (λ (x : Set). some (inSet x)) w ∙ sym (checks-at ∙ (λ i. pick (f i) (some (inSet (readSet b (checkPlace (cellOf j r))))) none));
+      }

@@ -17,10 +17,10 @@ use Rattle.wire.specs.Wire.{readLe, bytes, splice}
 use Rattle.wire.proofs.Laws.{length-splice, splice-two, read-one}
 use Rattle.sets.specs.declared.Set.{Set}
 use Rattle.sets.specs.Sets.{inSet, setBytes, readSet, writeSet}
-use Rattle.sent.specs.Sent.{maxAcknowledgments, cells, countsOffset, cellSize, sentSize, cellOf, countPlace, setPlace, flagPlace, checkPlace}
+use Rattle.sent.specs.Sent.{maxAcknowledgments, cells, countsOffset, sentSize, cellOf, countPlace, setPlace, flagPlace, checkPlace}
 use Rattle.sent.specs.Sent.{countIn, flagIn, setsFrom, acksIn, checkIn, inTable, acksOf, checksOf, GoodSent}
 use Rattle.sent.specs.Sent.{clearedTo, cleared, written, acknowledgedIn, checkedIn, oneMore, checked, Holds}
-use Rattle.sent.proofs.Cells.{Agree, agree-part, acks-agree, check-agree, length-written, number-kept, sets-kept}
+use Rattle.sent.proofs.Cells.{Agree, acks-agree, check-agree, length-written, number-kept, sets-kept}
 use Rattle.sent.proofs.Cells.{count-acknowledged, acks-acknowledged, flag-acknowledged, check-acknowledged, flag-checked, check-checked, count-checked, acks-checked}
 use Rattle.sent.proofs.Laws.{cell-inside, same-view, other-view, length-acks}
 
@@ -28,13 +28,14 @@ use Rattle.sent.proofs.Laws.{cell-inside, same-view, other-view, length
 record Same (b b′ : List ℕ) (k : ℕ) : Type 0 where
   count : countIn b′ k ≡ countIn b k
   flag : flagIn b′ k ≡ flagIn b k
-  sets : Agree b b′ (setPlace k 0) (setPlace k 0 + cellSize)
+  sets : Agree b b′ (setPlace k 0) (setPlace k maxAcknowledgments)
+  check : Agree b b′ (checkPlace k) (checkPlace k + setBytes)
 
 same-acks : (k : ℕ) {b b′ : List ℕ} → Same b b′ k → countIn b k ≤ maxAcknowledgments → acksIn b′ k ≡ acksIn b k
-same-acks k g h = acks-agree k (g .count) (agree-part (setPlace k 0) (checkPlace k) (g .sets) (omega arith) (omega arith)) h
+same-acks k g h = acks-agree k (g .count) (g .sets) h
 
 same-check : (k : ℕ) {b b′ : List ℕ} → Same b b′ k → checkIn b′ k ≡ checkIn b k
-same-check k g = check-agree k (g .flag) (agree-part (checkPlace k) (checkPlace k + setBytes) (g .sets) (omega arith) (omega arith))
+same-check k g = check-agree k (g .flag) (g .check)
 
 -- ---- a message sent
 
@@ -65,19 +66,32 @@ module _ (k : ℕ) {b b′ : List ℕ} (old : GoodSent b) (size : length b′ �
       same-view (acksIn b′) (acksIn b) []
       (λ m l. elim (ℕ-discrete m k) [ yes e ↦ ap (acksIn b′) e ∙ h ∙ ap (acksIn b) (sym e) | no n ↦ same-acks m (there m l n) (old .counts m l) ]) j r i
 
--- A write inside a cell leaves the others.
-elsewhere : (b : List ℕ) (p : ℕ) (s : Set) (q x k m : ℕ) → length b ≡ sentSize → k < cells → m < cells → setPlace k 0 ≤ p → p + setBytes ≤ setPlace k 0 + cellSize
+-- Two parts that share no byte.
+abbrev Apart : ℕ → ℕ → ℕ → ℕ → Type 0
+Apart from to p n = (to ≤ p) ⊎ (p + n ≤ from)
+
+-- A write that meets no set of another cell leaves that cell.
+elsewhere : (b : List ℕ) (p : ℕ) (s : Set) (q x k m : ℕ) → length b ≡ sentSize → k < cells → m < cells → p + setBytes ≤ countsOffset
+    → Apart (setPlace m 0) (setPlace m maxAcknowledgments) p setBytes → Apart (checkPlace m) (checkPlace m + setBytes) p setBytes
     → (q ≡ countPlace k) ⊎ (q ≡ flagPlace k) → (m ≡ k → ⊥) → Same b (written b p s q x) m
-elsewhere b p s q x k m size inside there lo hi at n =
+elsewhere b p s q x k m size inside there among sets check at n =
     let lower : countsOffset ≤ q = ⊎-elim (λ e. omega arith) (λ e. omega arith) at in
     let upper : q < sentSize = ⊎-elim (λ e. omega arith) (λ e. omega arith) at in
-    let apart : (setPlace m 0 + cellSize ≤ p) ⊎ (p + setBytes ≤ setPlace m 0) =
-    ⊎-elim {C = (setPlace m 0 + cellSize ≤ p) ⊎ (p + setBytes ≤ setPlace m 0)} (λ l. inl (omega arith)) (λ l. inr (omega arith)) (lt-or-le m k) in
     record {
-      count = number-kept b p s q x size (omega arith) lower upper (countPlace m) (omega arith) (λ e. ⊎-elim (λ f. omega arith) (λ f. omega arith) at);
-      flag = number-kept b p s q x size (omega arith) lower upper (flagPlace m) (omega arith) (λ e. ⊎-elim (λ f. omega arith) (λ f. omega arith) at);
-      sets = sets-kept b p s q x size (omega arith) lower upper (setPlace m 0) (setPlace m 0 + cellSize) (omega arith) apart;
+      count = number-kept b p s q x size among lower upper (countPlace m) (omega arith) (λ e. ⊎-elim (λ f. omega arith) (λ f. omega arith) at);
+      flag = number-kept b p s q x size among lower upper (flagPlace m) (omega arith) (λ e. ⊎-elim (λ f. omega arith) (λ f. omega arith) at);
+      sets = sets-kept b p s q x size among lower upper (setPlace m 0) (setPlace m maxAcknowledgments) (omega arith) sets;
+      check = sets-kept b p s q x size among lower upper (checkPlace m) (checkPlace m + setBytes) (omega arith) check;
     }
+
+-- An acknowledgment of one cell stands apart from those of another, and a check message from another's.
+module _ (k m : ℕ) (other : m ≡ k → ⊥) where
+  sets-apart : (n : ℕ) → n < maxAcknowledgments → Apart (setPlace m 0) (setPlace m maxAcknowledgments) (setPlace k n) setBytes
+  sets-apart n h =
+      ⊎-elim {C = Apart (setPlace m 0) (setPlace m maxAcknowledgments) (setPlace k n) setBytes} (λ l. inl (omega arith)) (λ l. inr (omega arith)) (lt-or-le m k)
+
+  checks-apart : Apart (checkPlace m) (checkPlace m + setBytes) (checkPlace k) setBytes
+  checks-apart = ⊎-elim {C = Apart (checkPlace m) (checkPlace m + setBytes) (checkPlace k) setBytes} (λ l. inl (omega arith)) (λ l. inr (omega arith)) (lt-or-le m k)
 
 module _ (b : List ℕ) (j r : ℕ) (s : Set) (old : GoodSent b) (t : inTable j r ≡ true) (fits : s .bits < 2 ^ 64) where
   -- One acknowledgment more.
@@ -91,7 +105,7 @@ module _ (b : List ℕ) (j r : ℕ) (s : Set) (old : GoodSent b) (t : inTable j 
       let few : countIn b k < maxAcknowledgments = subst (λ (x : ℕ). x < maxAcknowledgments) (length-acks b j r t) h in
       let new = acknowledgedIn b k s in
       let there : (m : ℕ) → m < cells → (m ≡ k → ⊥) → Same b new m =
-      λ m l n. elsewhere b (setPlace k (countIn b k)) s (countPlace k) (countIn b k + 1) k m z inside l (omega arith) (omega arith) (inl refl) n in
+      λ m l n. elsewhere b (setPlace k (countIn b k)) s (countPlace k) (countIn b k + 1) k m z inside l (omega arith) (sets-apart k m n (countIn b k) few) (inr (omega arith)) (inl refl) n in
       let size : length new ≡ sentSize = length-written b (setPlace k (countIn b k)) s (countPlace k) (countIn b k + 1) (omega arith) (omega arith) ∙ z in
       let c = count-acknowledged b k s z inside few in
       let f : flagIn new k ≤ 1 = omega (arith, flag-acknowledged b k s z inside few, old .flags k inside) in
@@ -115,7 +129,7 @@ module _ (b : List ℕ) (j r : ℕ) (s : Set) (old : GoodSent b) (t : inTable j 
       let inside = cell-inside j r t in
       let new = checkedIn b k s in
       let there : (m : ℕ) → m < cells → (m ≡ k → ⊥) → Same b new m =
-      λ m l n. elsewhere b (checkPlace k) s (flagPlace k) 1 k m z inside l (omega arith) (omega arith) (inr refl) n in
+      λ m l n. elsewhere b (checkPlace k) s (flagPlace k) 1 k m z inside l (omega arith) (inl (omega arith)) (checks-apart k m n) (inr refl) n in
       let size : length new ≡ sentSize = length-written b (checkPlace k) s (flagPlace k) 1 (omega arith) (omega arith) ∙ z in
       let c : countIn new k ≤ maxAcknowledgments = omega (arith, count-checked b k s z inside, old .counts k inside) in
       let f = flag-checked b k s z inside in
@@ -131,15 +145,15 @@ module _ (b : List ℕ) (j r : ℕ) (s : Set) (old : GoodSent b) (t : inTable j 
       })
 
 -- The writes as they are made, from the cell.
-pub acknowledged-bytes : (b : List ℕ) (s : Set) {k cell n at : ℕ} {c d : List ℕ} → cell ≡ k → n ≡ countIn b cell → at ≡ setPlace cell n → c ≡ writeSet b at s
-    → d ≡ splice c (countPlace cell) (bytes 1 (n + 1)) → d ≡ acknowledgedIn b k s
+pub acknowledged-bytes : (b : List ℕ) (k : ℕ) (s : Set) {counted n at : ℕ} {c d : List ℕ} → counted ≡ countPlace k → n ≡ readLe 1 b counted → at ≡ setPlace k n → c ≡ writeSet b at s
+    → d ≡ splice c counted (bytes 1 (n + 1)) → d ≡ acknowledgedIn b k s
 unfolding written
-acknowledged-bytes b s q e f g h = rw (h, g, f, e, q) refl
+acknowledged-bytes b k s q e f g h = rw (h, g, f, e, q) refl
 
-pub checked-bytes : (b : List ℕ) (s : Set) {k cell at : ℕ} {c d : List ℕ} → cell ≡ k → at ≡ checkPlace cell → c ≡ writeSet b at s → d ≡ splice c (flagPlace cell) (bytes 1 1)
+pub checked-bytes : (b : List ℕ) (k : ℕ) (s : Set) {flagged at : ℕ} {c d : List ℕ} → flagged ≡ flagPlace k → at ≡ checkPlace k → c ≡ writeSet b at s → d ≡ splice c flagged (bytes 1 1)
     → d ≡ checkedIn b k s
 unfolding written
-checked-bytes b s q e f g = rw (g, f, e, q) refl
+checked-bytes b k s q e f g = rw (g, f, e, q) refl
 
 -- ---- nothing sent
 

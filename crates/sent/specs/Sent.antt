@@ -1,6 +1,7 @@
 -- What correct sites have sent, in bytes: one cell for each site and round, all rounds of a site together.
 -- A cell has the number of its acknowledgments and a flag, 1 byte each, room for 64 sets of which that many are meant, and the check message's set.
--- The sets come first, cell by cell, so that each stands at a multiple of 8; then the counts of all cells and then all flags, so that what a start clears stands together.
+-- The acknowledgments' sets come first, 512 bytes a cell, then the check messages' sets of all cells, 8 bytes each, so that each set stands at a multiple of 8.
+-- Then come the counts of all cells and then all flags, so that what a start clears stands together.
 -- Assumes nothing.
 use mathlib.Core.Path.{_≡_}
 use mathlib.Core.Bool.{Bool, _&&_}
@@ -11,6 +12,7 @@ use lib.Dec.{eqb, leb, ltb}
 use lib.ListN.{length, replicate}
 use Rattle.theory.specs.Sets as theory
 use Rattle.theory.specs.Sets.{pick}
+use Rattle.theory.specs.Lists.{nth}
 use Rattle.wire.specs.Wire.{bytes, readLe, splice}
 use Rattle.sets.specs.declared.Set.{Set}
 use Rattle.sets.specs.Sets.{inSet, setBytes, readSet, writeSet}
@@ -30,13 +32,17 @@ maxAcknowledgments = 64
 abbrev pub cells : ℕ
 cells = maxSites * sentRounds
 
--- The bytes of a cell's sets: 520.
+-- The bytes of a cell's acknowledgments: 512.
 abbrev pub cellSize : ℕ
-cellSize = (maxAcknowledgments + 1) * setBytes
+cellSize = maxAcknowledgments * setBytes
 
--- The counts stand after the sets of all cells: from 188,760 on.
+-- The check messages' sets stand after the acknowledgments of all cells: from 185,856 on.
+abbrev pub checksOffset : ℕ
+checksOffset = cells * cellSize
+
+-- The counts stand after all sets: from 188,760 on.
 abbrev pub countsOffset : ℕ
-countsOffset = cells * cellSize
+countsOffset = checksOffset + cells * setBytes
 
 -- The flags stand after the counts: from 189,123 on.
 abbrev pub flagsOffset : ℕ
@@ -60,13 +66,13 @@ countPlace k = countsOffset + k
 abbrev pub flagPlace : ℕ → ℕ
 flagPlace k = flagsOffset + k
 
--- Its sets, oldest first, counted from 0.
+-- Its acknowledgments' sets, oldest first, counted from 0.
 abbrev pub setPlace : ℕ → ℕ → ℕ
 setPlace k n = k * cellSize + n * setBytes
 
--- After the last of them stands the check message's set.
+-- Its check message's set.
 abbrev pub checkPlace : ℕ → ℕ
-checkPlace k = setPlace k maxAcknowledgments
+checkPlace k = checksOffset + k * setBytes
 
 -- ---- what the bytes say
 
@@ -113,9 +119,14 @@ abbrev pub said : Message → Option theory.Set
 said (Sent s) = some (inSet s)
 said Never = none
 
--- The a-th acknowledgment of site j and round r, a from 1.
+-- The a-th of a list, a from 1: there is no 0-th.
+abbrev pub numbered : List theory.Set → ℕ → Option theory.Set
+numbered l zero = none
+numbered l (suc n) = nth l n
+
+-- The a-th acknowledgment of site j and round r, a from 1: the 0-th was never sent.
 unfoldable pub acknowledgmentOf : List ℕ → ℕ → ℕ → ℕ → Message
-acknowledgmentOf b j r a = pick (leb a (countIn b (cellOf j r))) (Sent (readSet b (setPlace (cellOf j r) (a - 1)))) Never
+acknowledgmentOf b j r a = pick (leb 1 a && leb a (countIn b (cellOf j r))) (Sent (readSet b (setPlace (cellOf j r) (a - 1)))) Never
 
 -- The check message of site j and round r.
 unfoldable pub checkOf : List ℕ → ℕ → ℕ → Message

@@ -2,13 +2,12 @@
 ghost use mathlib.Core.Path.{_≡_};
 ghost use mathlib.Core.List.{[]};
 ghost use mathlib.Core.Option.{none};
-ghost use Prim.Native.Nat.{pred, _≤_, _<_};
+ghost use Prim.Native.Nat.{suc, pred, _≤_, _<_};
 ghost use lib.ListN.{length};
-ghost use Rattle.theory.specs.Lists.{nth};
 ghost use Rattle.sets.specs.Sets.{inSet};
 ghost use Rattle.table.specs.Table.{maxSites};
-ghost use Rattle.sent.specs.Sent.{sentRounds, sentSize, cells, cellOf, setPlace, maxAcknowledgments, GoodSent, Read, Holds};
-ghost use Rattle.sent.specs.Sent.{acksOf, checksOf, acknowledgmentOf, checkOf, cleared, acknowledgedIn, checkedIn, oneMore, checked};
+ghost use Rattle.sent.specs.Sent.{sentRounds, sentSize, cells, cellOf, countPlace, flagPlace, setPlace, checkPlace, maxAcknowledgments};
+ghost use Rattle.sent.specs.Sent.{acksOf, checksOf, numbered, acknowledgmentOf, checkOf, cleared, acknowledgedIn, checkedIn, oneMore, checked, GoodSent, Read, Holds};
 use sets::Set;
 use table::SiteTable;
 
@@ -28,28 +27,54 @@ impl Message {
 
     // A cell for each site and round.
     const CELLS: usize = SiteTable::MAX_SITES * Message::ROUNDS;
-    // The bytes of a cell's sets: its acknowledgments, then its check message. They come first, so that every set stands at a multiple of 8.
-    const CELL: usize = (Message::MAX_ACKNOWLEDGMENTS + 1) * Set::BYTES;
+    // The bytes of a cell's acknowledgments. They come first, so that every set stands at a multiple of 8.
+    const CELL: usize = Message::MAX_ACKNOWLEDGMENTS * Set::BYTES;
+    // After them stand the check messages of all cells.
+    const CHECKS: usize = Message::CELLS * Message::CELL;
     // After the sets stand the counts of all cells.
-    const COUNTS: usize = Message::CELLS * Message::CELL;
+    const COUNTS: usize = Message::CHECKS + Message::CELLS * Set::BYTES;
     // After the counts stand their flags.
     const FLAGS: usize = Message::COUNTS + Message::CELLS;
 }
 
-// The cell of a site and round.
-fn cell_of(j: usize, r: usize) -> usize
+// The cell of a site and round, counted from 1: the functions below take the 1 off in their constants.
+fn key_of(j: usize, r: usize) -> usize
     requires { ⌜ (j < maxSites) × (1 ≤ r) × (r ≤ sentRounds) ⌝ }
-    ensures { λ k. ⌜ (k ≡ cellOf j r) × (k < cells) ⌝ }
+    ensures { λ key. ⌜ (key ≡ suc (cellOf j r)) × (key ≤ cells) ⌝ }
 {
-    j * Message::ROUNDS + (r - 1)
+    j * Message::ROUNDS + r
 }
 
-// Where the n-th set of a cell stands, counted from 0: the check message's is the last.
-fn set_at(cell: usize, n: usize) -> usize
-    requires { ⌜ (cell < cells) × (n ≤ maxAcknowledgments) ⌝ }
-    ensures { λ p. ⌜ p ≡ setPlace cell n ⌝ }
+// Where the number of a cell's acknowledgments stands.
+fn count_at(key: usize) -> usize
+    requires { ⌜ (1 ≤ key) × (key ≤ cells) ⌝ }
+    ensures { λ p. ⌜ p ≡ countPlace (pred key) ⌝ }
 {
-    cell * Message::CELL + n * Set::BYTES
+    Message::COUNTS - 1 + key
+}
+
+// Where a cell's flag stands.
+fn flag_at(key: usize) -> usize
+    requires { ⌜ (1 ≤ key) × (key ≤ cells) ⌝ }
+    ensures { λ p. ⌜ p ≡ flagPlace (pred key) ⌝ }
+{
+    Message::FLAGS - 1 + key
+}
+
+// Where the n-th acknowledgment of a cell stands, counted from 0.
+fn set_at(key: usize, n: usize) -> usize
+    requires { ⌜ (1 ≤ key) × (key ≤ cells) × (n < maxAcknowledgments) ⌝ }
+    ensures { λ p. ⌜ p ≡ setPlace (pred key) n ⌝ }
+{
+    key * Message::CELL + n * Set::BYTES - Message::CELL
+}
+
+// Where a cell's check message stands.
+fn check_at(key: usize) -> usize
+    requires { ⌜ (1 ≤ key) × (key ≤ cells) ⌝ }
+    ensures { λ p. ⌜ p ≡ checkPlace (pred key) ⌝ }
+{
+    Message::CHECKS - Set::BYTES + key * Set::BYTES
 }
 
 // Nothing is sent: the counts and the flags become 0, the sets stay as they were.
@@ -64,17 +89,18 @@ pub fn clear(sent: &mut [u8])
     }
 }
 
-// The a-th acknowledgment of a site and round, counted from 1.
-pub fn acknowledgment(sent: &[u8], j: usize, r: usize, a: usize) -> Message
-    requires { ⌜ GoodSent (now sent) × (j < maxSites) × (1 ≤ r) × (r ≤ sentRounds) × (1 ≤ a) ⌝ }
-    ensures { λ m. ⌜ Read m (acknowledgmentOf (now (sent .entry)) j r a) (nth (acksOf (now (sent .entry)) j r) (pred a)) ⌝ }
+// The a-th acknowledgment of a site and round, counted from 1. There is no 0-th: 0 becomes 255, which no count is above.
+pub fn acknowledgment(sent: &[u8], j: usize, r: usize, a: u8) -> Message
+    requires { ⌜ GoodSent (now sent) × (j < maxSites) × (1 ≤ r) × (r ≤ sentRounds) ⌝ }
+    ensures { λ m. ⌜ Read m (acknowledgmentOf (now (sent .entry)) j r a) (numbered (acksOf (now (sent .entry)) j r) a) ⌝ }
 {
-    let cell = cell_of(j, r);
-    let count = wire::get1(sent, Message::COUNTS + cell);
-    if a > count as usize {
+    let key = key_of(j, r);
+    let count = wire::get1(sent, count_at(key));
+    let n = std::num::wrapping_sub_u8(a, 1);
+    if n >= count {
         return Message::Never;
     }
-    let set = Set::read(sent, set_at(cell, a - 1));
+    let set = Set::read(sent, set_at(key, n as usize));
     Message::Sent(set)
 }
 
@@ -83,12 +109,12 @@ pub fn check(sent: &[u8], j: usize, r: usize) -> Message
     requires { ⌜ GoodSent (now sent) × (j < maxSites) × (1 ≤ r) × (r ≤ sentRounds) ⌝ }
     ensures { λ m. ⌜ Read m (checkOf (now (sent .entry)) j r) (checksOf (now (sent .entry)) j r) ⌝ }
 {
-    let cell = cell_of(j, r);
-    let flag = wire::get1(sent, Message::FLAGS + cell);
+    let key = key_of(j, r);
+    let flag = wire::get1(sent, flag_at(key));
     if flag != 1 {
         return Message::Never;
     }
-    let set = Set::read(sent, set_at(cell, Message::MAX_ACKNOWLEDGMENTS));
+    let set = Set::read(sent, check_at(key));
     Message::Sent(set)
 }
 
@@ -98,10 +124,10 @@ pub fn add_acknowledgment(sent: &mut [u8], j: usize, r: usize, set: Set)
     ensures { λ _. ⌜ Holds (now (sent .exit)) (acknowledgedIn (now (sent .entry)) (cellOf j r) set)
         (oneMore j r (inSet set) (acksOf (now (sent .entry)))) (checksOf (now (sent .entry))) ⌝ }
 {
-    let cell = cell_of(j, r);
-    let counted = Message::COUNTS + cell;
+    let key = key_of(j, r);
+    let counted = count_at(key);
     let count = wire::get1(&sent[..], counted);
-    let at = set_at(cell, count as usize);
+    let at = set_at(key, count as usize);
     set.write(sent, at);
     wire::put1(sent, counted, count + 1);
 }
@@ -112,7 +138,7 @@ pub fn put_check(sent: &mut [u8], j: usize, r: usize, set: Set)
     ensures { λ _. ⌜ Holds (now (sent .exit)) (checkedIn (now (sent .entry)) (cellOf j r) set)
         (acksOf (now (sent .entry))) (checked j r (inSet set) (checksOf (now (sent .entry)))) ⌝ }
 {
-    let cell = cell_of(j, r);
-    set.write(sent, set_at(cell, Message::MAX_ACKNOWLEDGMENTS));
-    wire::put1(sent, Message::FLAGS + cell, 1);
+    let key = key_of(j, r);
+    set.write(sent, check_at(key));
+    wire::put1(sent, flag_at(key), 1);
 }

@@ -117,17 +117,7 @@ fn act(
             nc,
             c,
         ),
-        Step::Turn { site } => moves::turn(
-            sites,
-            log,
-            sent,
-            entries,
-            kept,
-            table,
-            roles,
-            rows,
-            site,
-        ),
+        Step::Turn { site } => moves::turn(sites, log, sent, entries, table, roles, rows, site),
         Step::FastDelivery { site, command } => {
             let verdict = closings::fast_delivery(
                 sites,

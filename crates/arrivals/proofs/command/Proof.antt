@@ -2,17 +2,20 @@
 -- Assumes nothing.
 use borrow.Author.Needs.{needs}
 use denote.Ref.{now}
-use Prim.Native.Nat.{_+_, _*_, _-_, _≤_}
-use lib.ListN.{length}
+use Prim.Native.Nat.{_+_, _*_, _-_}
 use native.Mathlib.Omega.{arith}
-use borrow.Author.Tests.{ltb-true}
 use Rattle.site.specs.Steps.{Commanded}
 use Rattle.layout.specs.Layout.{siteSize}
-use Rattle.roles.proofs.Laws.{correct-and}
+use Rattle.roles.proofs.Laws.{correct-site}
 use Rattle.world.proofs.Sites.{at-site}
-use Rattle.arrivals.proofs.Arriving.{command-turned-down, commanded}
+use Rattle.arrivals.proofs.Arriving.{command-past, command-turned-down, commanded}
 use Rattle.arrivals.proofs.command.Statement.{statement}
 use Rattle.arrivals.proofs.command.Tie as tie
+
+returns : tie.Need-returns
+returns c =
+    let o = c .before .before .before in
+    λ sent. command-past (o .args .table) (o .args .commands) sent (now (o .args .sites)) (λ k. c .before .before .slice-known .given k .fits) (o .args .site) (o .args .command) (omega arith)
 
 is-correct-requires : tie.Need-is-correct-requires
 is-correct-requires c κs = search needs
@@ -20,10 +23,10 @@ is-correct-requires c κs = search needs
 refusal-requires : tie.Need-refusal-requires
 refusal-requires c κs = search needs
 
-returns : tie.Need-returns
-returns c =
-    let o = c .before .before .before .before .before in
-    λ sent. command-turned-down (o .args .table) (o .args .commands) sent (now (o .args .sites)) (λ k. c .before .before .before .before .slice-known .given k .fits) (o .args .site) (o .args .command) (c .before .before .is-correct .ensures (o .args .table) (o .pre .1)) (c .before .if1 .taken) (c .refusal .ensures (o .args .table) (o .pre .1))
+returns-2 : tie.Need-returns-2
+returns-2 c =
+    let o = c .before .before .before .before .before .before in
+    λ sent. command-turned-down (o .args .table) (o .args .commands) sent (now (o .args .sites)) (λ k. c .before .before .before .before .before .slice-known .given k .fits) (o .args .site) (o .args .command) (omega arith) (c .before .before .is-correct .ensures (o .args .table) (o .pre .1)) (c .before .if2 .taken) (c .refusal .ensures (o .args .table) (o .pre .1))
 
 mul-from : tie.Need-mul-from
 mul-from c = search needs
@@ -39,28 +42,22 @@ part-receive-command-start c = search needs
 
 part-receive-command-end : tie.Need-part-receive-command-end
 part-receive-command-end c =
-    let o = c .before .before .before .before in
-    let l = correct-and (o .args .table) (o .args .site) (c .before .is-correct .ensures (o .args .table) (o .pre .1)) (c .if1 .left) .0 .inside in
+    let o = c .before .before .before .before .before in
+    let l = correct-site (o .args .table) (o .args .site) (c .before .is-correct .ensures (o .args .table) (o .pre .1)) (c .if2 .left) .inside in
     omega (arith, o .pre .0)
 
 receive-command-requires : tie.Need-receive-command-requires
-receive-command-requires c κs =
-    let o = c .before .before .before .before .before in
-    let l = correct-and (o .args .table) (o .args .site) (c .before .before .is-correct .ensures (o .args .table) (o .pre .1)) (c .before .if1 .left) in
-    let q = l .0 .inside in
-    let m = ltb-true (o .args .command) (o .args .commands) (l .1) in
-    let fit : o .args .site * siteSize + siteSize ≤ length (now (o .args .sites)) = omega (arith, o .pre .0) in
-    (search needs, omega (arith, o .pre .2))
+receive-command-requires c κs = search needs
 
 same-length : tie.Need-same-length
 same-length c = search needs
 
-returns-2 : tie.Need-returns-2
-returns-2 c =
-    let o = c .before .before .before .before .before .before .before .before in
-    let l = correct-and (o .args .table) (o .args .site) (c .before .before .before .before .before .is-correct .ensures (o .args .table) (o .pre .1)) (c .before .before .before .before .if1 .left) in
-    let q = l .0 .inside in
-    λ sent. commanded (o .args .table) (o .args .commands) sent (now (o .args .sites)) (λ k. c .before .before .before .before .before .before .before .slice-known .given k .fits) (o .args .site) (o .args .command) q (ltb-true (o .args .command) (o .args .commands) (l .1)) (l .0 .not-faulty)
+returns-3 : tie.Need-returns-3
+returns-3 c =
+    let o = c .before .before .before .before .before .before .before .before .before in
+    let l = correct-site (o .args .table) (o .args .site) (c .before .before .before .before .before .is-correct .ensures (o .args .table) (o .pre .1)) (c .before .before .before .before .if2 .left) in
+    let q = l .inside in
+    λ sent. commanded (o .args .table) (o .args .commands) sent (now (o .args .sites)) (λ k. c .before .before .before .before .before .before .before .before .slice-known .given k .fits) (o .args .site) (o .args .command) q (omega arith) (l .not-faulty)
     (at-site (Commanded (o .args .command)) (now (o .args .sites)) (o .args .site) ((o .args .site * siteSize + siteSize) - o .args .site * siteSize) _ (omega arith) (omega (arith, o .pre .0))
     (c .before .before .receive-command .kept .0) (c .before .before .receive-command .ensures))
 
@@ -68,9 +65,10 @@ pub command-spec : {M : Type 1} → statement M
 command-spec =
     tie.close
     (tie.spec
+    returns
     is-correct-requires
     refusal-requires
-    returns
+    returns-2
     mul-from
     add-to
     sub-receive-command
@@ -78,4 +76,4 @@ command-spec =
     part-receive-command-end
     receive-command-requires
     same-length
-    returns-2)
+    returns-3)

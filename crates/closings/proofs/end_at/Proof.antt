@@ -8,7 +8,7 @@ use Rattle.layout.specs.Layout.{siteSize}
 use Rattle.world.proofs.Sites.{at-site}
 use Rattle.commands.specs.Book.{commandsOf}
 use Rattle.ending.specs.Ending.{RoundEnded}
-use Rattle.closings.proofs.Closing.{good-part, sites-room}
+use Rattle.closings.proofs.Closing.{good-part, room-part, sites-room}
 use Rattle.closings.proofs.end_at.Statement.{statement}
 use Rattle.closings.proofs.end_at.Tie as tie
 
@@ -30,8 +30,14 @@ part-round-end-end c = search needs
 round-end-requires : tie.Need-round-end-requires
 round-end-requires c κs =
     let o = c .before .before .before .before in
-    let g = o .pre .0 in
-    ((g .0 .sites, good-part (g .0) (o .args .commands) (now (o .args .sites)) (o .args .i) ((o .args .i * siteSize + siteSize) - o .args .i * siteSize) (g .1) (g .2) (omega arith)), o .pre .1, o .pre .2, o .pre .3, o .pre .4)
+    let g = o .pre .0 in (
+      (g .0 .sites, good-part (g .0) (o .args .commands) (now (o .args .sites)) (o .args .i) ((o .args .i * siteSize + siteSize) - o .args .i * siteSize) (g .1) (g .2) (omega arith)),
+      o .pre .1,
+      o .pre .2,
+      o .pre .3,
+      o .pre .4,
+      λ r. room-part (commandsOf (now (o .args .book))) (o .args .decided) (o .args .nc) (o .args .c) (now (o .args .sites)) (o .args .i) ((o .args .i * siteSize + siteSize) - o .args .i * siteSize) (o .pre .5) (omega arith),
+    )
 
 same-length : tie.Need-same-length
 same-length c = search needs

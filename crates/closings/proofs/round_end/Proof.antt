@@ -8,7 +8,7 @@ use mathlib.Core.Path.{ap, _∙_}
 use Rattle.sets.specs.declared.Set.{Set}
 use Rattle.sets.specs.Sets.{withinOf}
 use Rattle.layout.proofs.Tables.{within-empty}
-use Rattle.closings.proofs.Closing.{sites-room, round-kept, end-turned-down, end-carried, site-undecided, site-decided, sets-fit}
+use Rattle.closings.proofs.Closing.{sites-room, round-kept, end-turned-down, end-carried, site-undecided, site-decided, room-undecided, room-decided, sets-fit}
 use Rattle.closings.proofs.round_end.Statement.{statement}
 use Rattle.closings.proofs.round_end.Tie as tie
 
@@ -54,8 +54,14 @@ end-at-requires : tie.Need-end-at-requires
 end-at-requires c κs =
     let o = c .before .before .before .before .before .before .before .before .before .before .before .before .before .before .before .before .before in
     let site = correct-site (o .args .table) (o .args .site) (c .before .before .before .before .before .before .before .before .before .before .before .is-correct .ensures (o .args .table) (o .pre .3)) (c .before .before .before .before .before .before .before .before .before .before .if1 .left) in
-    let none = within-empty (o .args .commands) in
-    ((o .args .table, o .pre .0, site .inside), o .pre .4, o .pre .5, ap (λ (x : Set). withinOf x (o .args .commands)) (c .before .empty .ensures) ∙ none, ap (λ (x : Set). withinOf x (o .args .commands)) (c .empty2 .ensures) ∙ none)
+    let none = within-empty (o .args .commands) in (
+      (o .args .table, o .pre .0, site .inside),
+      o .pre .4,
+      o .pre .5,
+      ap (λ (x : Set). withinOf x (o .args .commands)) (c .before .empty .ensures) ∙ none,
+      ap (λ (x : Set). withinOf x (o .args .commands)) (c .empty2 .ensures) ∙ none,
+      room-undecided (o .args .table) (o .pre .2) (now (o .args .book)) (now (o .args .sites)) (o .pre .1 .0) (o .pre .1 .1) (o .pre .1 .2) (o .args .site) (site .inside) (c .before .before .before .before .before .before .before .before .position-of .ensures) (c .before .before .before .before .before .before .round-of .ensures) (c .before .before .before .before .before .decision .ensures) (o .args .commands) (o .pre .5) (o .pre .0) _ _ (c .before .before .before .enum-told .given .1),
+    )
 
 enum-known-decision : tie.Need-enum-known-decision
 enum-known-decision c = search needs
@@ -65,8 +71,14 @@ end-at-requires-2 c κs =
     let o = c .before .before .before .before .before .before .before .before .before .before .before .before .before .before .before .before .before .before in
     let site = correct-site (o .args .table) (o .args .site) (c .before .before .before .before .before .before .before .before .before .before .before .before .is-correct .ensures (o .args .table) (o .pre .3)) (c .before .before .before .before .before .before .before .before .before .before .before .if1 .left) in
     let l = site .inside in
-    let w = sets-fit (o .args .table) (o .pre .2) (now (o .args .book)) (now (o .args .sites)) (o .pre .1 .0) (o .pre .1 .1) (o .pre .1 .2) (o .args .site) l (c .before .before .before .before .before .before .before .before .before .position-of .ensures) (c .before .before .before .before .before .before .before .round-of .ensures) (c .before .before .before .before .before .before .decision .ensures) (o .args .commands) (o .pre .5) _ (c .before .before .before .before .decision2 .given .1) in
-    ((o .args .table, o .pre .0, l), o .pre .4, o .pre .5, w .0, w .1)
+    let w = sets-fit (o .args .table) (o .pre .2) (now (o .args .book)) (now (o .args .sites)) (o .pre .1 .0) (o .pre .1 .1) (o .pre .1 .2) (o .args .site) l (c .before .before .before .before .before .before .before .before .before .position-of .ensures) (c .before .before .before .before .before .before .before .round-of .ensures) (c .before .before .before .before .before .before .decision .ensures) (o .args .commands) (o .pre .5) _ (c .before .before .before .before .decision2 .given .1) in (
+      (o .args .table, o .pre .0, l),
+      o .pre .4,
+      o .pre .5,
+      w .0,
+      w .1,
+      room-decided (o .args .table) (o .pre .2) (now (o .args .book)) (now (o .args .sites)) (o .pre .1 .0) (o .pre .1 .1) (o .pre .1 .2) (o .args .site) l (c .before .before .before .before .before .before .before .before .before .position-of .ensures) (c .before .before .before .before .before .before .before .round-of .ensures) (c .before .before .before .before .before .before .decision .ensures) (o .args .commands) (o .pre .5) (o .pre .0) (o .pre .1 .3) _ (c .before .before .before .before .decision2 .given .1),
+    )
 
 same-length : tie.Need-same-length
 same-length c = search needs

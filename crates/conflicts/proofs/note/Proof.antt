@@ -7,8 +7,8 @@ use Rattle.conflicts.proofs.note.Tie as tie
 load-requires : tie.Need-load-requires
 load-requires c κs = search needs
 
-with-if-requires : tie.Need-with-if-requires
-with-if-requires c κs = search needs
+with-requires : tie.Need-with-requires
+with-requires c κs = search needs
 
 store-requires : tie.Need-store-requires
 store-requires c κs = search needs
@@ -18,7 +18,8 @@ same-length c = search needs
 
 returns : tie.Need-returns
 returns c =
-    note-told (now (c .before .before .before .before .before .before .before .before .args .sets)) (c .before .before .before .before .before .before .before .before .args .at) (c .before .before .before .before .before .before .before .before .args .k) (c .before .before .before .before .before .before .before .before .args .test) (c .before .before .before .before .before .load .ensures) (c .before .before .before .before .with-if .ensures) (c .before .before .store .ensures)
+    let a = c .before .before .before .before .before .before .before .before .args in
+    note-told (now (a .sets)) (a .at) (a .k) (c .before .before .before .before .before .load .ensures) (c .before .before .before .before .with .ensures) (c .before .before .store .ensures)
 
 pub note-spec : {M : Type 1} → statement M
-note-spec = tie.close (tie.spec load-requires with-if-requires store-requires same-length returns)
+note-spec = tie.close (tie.spec load-requires with-requires store-requires same-length returns)

@@ -1,13 +1,11 @@
--- `moves::turn_at`: the part of site i is lent, with the conflict test and whether it has two entries of its round.
+-- `moves::turn_at`: the part of site i is lent, with the conflict test.
 -- Assumes nothing.
 use borrow.Author.Needs.{needs}
 use native.Mathlib.Omega.{arith}
 use denote.Ref.{now}
-use mathlib.Core.Path.{_∙_, sym, subst}
-use Prim.Native.Nat.{ℕ, _+_, _*_, _-_, _<_}
-use Rattle.layout.specs.Layout.{siteSize, headOf}
-use Rattle.rounds.specs.Rounds.{keptRounds}
-use Rattle.world.proofs.Sites.{lent-part, at-site}
+use Prim.Native.Nat.{_+_, _*_, _-_}
+use Rattle.layout.specs.Layout.{siteSize}
+use Rattle.world.proofs.Sites.{at-site}
 use Rattle.moves.specs.Moves.{TurnedBy}
 use Rattle.moves.proofs.Turns.{turned-by}
 use Rattle.moves.proofs.turn_at.Statement.{statement}
@@ -49,27 +47,6 @@ without-requires c κs = search needs
 is-free-between-requires : tie.Need-is-free-between-requires
 is-free-between-requires c κs = search needs
 
-sub-round : tie.Need-sub-round
-sub-round c = search needs
-
-part-round-start : tie.Need-part-round-start
-part-round-start c = search needs
-
-part-round-end : tie.Need-part-round-end
-part-round-end c = search needs
-
-round-requires : tie.Need-round-requires
-round-requires c κs = search needs
-
-cast-third : tie.Need-cast-third
-cast-third c = search needs
-
-third-requires : tie.Need-third-requires
-third-requires c κs =
-    let o = c .before .before .before .before .before .before .before .before .before .before .before .before .before .before in
-    let e = c .round .ensures ∙ (λ k. headOf (lent-part (now (o .args .sites)) (o .args .i) ((o .args .i * siteSize + siteSize) - o .args .i * siteSize) (omega arith) k) .round) in
-    (o .pre .1, o .pre .3, subst (λ (n : ℕ). n < keptRounds) (sym e) (o .pre .4))
-
 sub-take-turn : tie.Need-sub-take-turn
 sub-take-turn c = search needs
 
@@ -87,10 +64,10 @@ same-length c = search needs
 
 returns : tie.Need-returns
 returns c =
-    let o = c .before .before .before .before .before .before .before .before .before .before .before .before .before .before .before .before .before .before .before in
-    at-site (TurnedBy (now (o .args .rows)) (now (o .args .kept)) (o .args .i) (c .before .before .take-turn .result)) (now (o .args .sites)) (o .args .i) ((o .args .i * siteSize + siteSize) - o .args .i * siteSize) _ (omega arith) (omega arith)
+    let o = c .before .before .before .before .before .before .before .before .before .before .before .before .before .before in
+    at-site (TurnedBy (now (o .args .rows)) (o .args .i) (c .before .before .take-turn .result)) (now (o .args .sites)) (o .args .i) ((o .args .i * siteSize + siteSize) - o .args .i * siteSize) _ (omega arith) (omega arith)
     (c .before .before .take-turn .kept .0)
-    (turned-by (now (o .args .rows)) (now (o .args .kept)) (o .args .i) _ (c .before .before .before .before .before .before .before .before .before .before .before .before .before .undelivered .ensures) (c .before .before .before .before .before .before .before .before .before .before .pending .ensures) (c .before .before .before .before .before .before .before .before .before .without .ensures) (c .before .before .before .before .before .before .before .before .is-free-between .ensures) (c .before .before .before .before .before .round .ensures) (c .before .before .before .before .third .ensures) (c .before .before .take-turn .ensures))
+    (turned-by (now (o .args .rows)) (o .args .i) _ (c .before .before .before .before .before .before .before .before .before .undelivered .ensures) (c .before .before .before .before .before .before .pending .ensures) (c .before .before .before .before .before .without .ensures) (c .before .before .before .before .is-free-between .ensures) (c .before .before .take-turn .ensures))
 
 pub turn-at-spec : {M : Type 1} → statement M
 turn-at-spec =
@@ -108,12 +85,6 @@ turn-at-spec =
     pending-requires
     without-requires
     is-free-between-requires
-    sub-round
-    part-round-start
-    part-round-end
-    round-requires
-    cast-third
-    third-requires
     sub-take-turn
     part-take-turn-start
     part-take-turn-end

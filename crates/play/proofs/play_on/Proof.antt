@@ -9,7 +9,7 @@ use Rattle.rounds.specs.Rounds.{Kept}
 use Rattle.world.specs.Parts.{lent}
 use Rattle.play.specs.Played.{lineRoom}
 use Rattle.play.proofs.Laws.{within, Playing, playing-none, playing-next, playing-end}
-use Rattle.play.proofs.Room.{entries-few, entries-twice, pending-free, acks-few}
+use Rattle.play.proofs.Room.{entries-few, entries-twice, pending-free, not-spoken, ends-room, acks-few}
 use Rattle.play.proofs.play_on.Statement.{statement}
 use Rattle.play.proofs.play_on.Tie as tie
 
@@ -48,11 +48,8 @@ loop-holds c =
 read-step-requires : tie.Need-read-step-requires Inv-loop μ-loop
 read-step-requires c κs = search needs
 
-sub-extent : tie.Need-sub-extent Inv-loop μ-loop
-sub-extent c = search needs
-
-extent-requires : tie.Need-extent-requires Inv-loop μ-loop
-extent-requires c κs = search needs
+after-requires : tie.Need-after-requires Inv-loop μ-loop
+after-requires c κs = search needs
 
 carry-out-requires : tie.Need-carry-out-requires Inv-loop μ-loop
 carry-out-requires c κs =
@@ -68,6 +65,8 @@ carry-out-requires c κs =
         conflicts = a .pre .0 .conflicts;
         world = p .world .good;
         pending = pending-free t s g (p .past) (p .world);
+        unspoken = not-spoken t s g (p .past) (p .world);
+        ends = ends-room t s g (p .past) (p .world);
         twice = entries-twice t s g (p .past) (p .world);
         room = omega (arith, a .pre .0 .log, l .inv .5);
         acks = acks-few t s g (p .past) (p .world) u;
@@ -86,17 +85,6 @@ report-requires c κs =
     let m = l .inv .1 (omega (arith, c .before .before .before .before .before .before .before .before .before .before .before .before .before .before .before .before .loop-test .taken)) in
     (omega (arith, a .pre .0 .room, a .pre .0 .short, l .inv .0, l .inv .3, l .inv .7), omega (arith, a .pre .0 .short, l .inv .0), (k .verdict, k .number))
 
-add-at : tie.Need-add-at Inv-loop μ-loop
-add-at c =
-    let a = c .before .before .before .before .before .before .before .before .before .before .before .before .before .before .before .before .before .before .before .before .before .before .before .before .before .before .before .before .before .before .before in
-    let l = c .before .before .before .before .before .before .before .before .before .before .before .before .before .before .before .before .before .before .before .before .loop in
-    let s = now (a .args .steps) in
-    let r = c .before .before .before .before .before .before .before .before .before .before .before .before .before .before .before .before .before .before .read-step .result in
-    let e = sym (c .before .before .before .before .before .before .before .before .before .before .before .before .before .before .before .before .before .before .read-step .ensures) in
-    let h = c .before .before .before .before .before .before .before .before .before .before .before .before .before .before .before .before .before .before .before .loop-test .taken in
-    let i = within s (l .at) r (omega arith) e (c .before .before .before .before .before .before .before .before .before .before .before .before .before .before .before .before .before .extent .ensures) in
-    record { fits = omega (arith, a .pre .0 .short) }
-
 add-number : tie.Need-add-number Inv-loop μ-loop
 add-number c =
     let a = c .before .before .before .before .before .before .before .before .before .before .before .before .before .before .before .before .before .before .before .before .before .before .before .before .before .before .before .before .before .before .before in
@@ -111,7 +99,7 @@ loop-less c =
     let r = c .before .before .before .before .before .before .before .before .before .before .before .before .before .before .before .before .before .before .read-step .result in
     let e = sym (c .before .before .before .before .before .before .before .before .before .before .before .before .before .before .before .before .before .before .read-step .ensures) in
     let h = c .before .before .before .before .before .before .before .before .before .before .before .before .before .before .before .before .before .before .before .loop-test .taken in
-    let i = within s (l .at) r (omega arith) e (c .before .before .before .before .before .before .before .before .before .before .before .before .before .before .before .before .before .extent .ensures) in
+    let i = within s (l .at) r (omega arith) e (c .before .before .before .before .before .before .before .before .before .before .before .before .before .before .before .before .before .after .ensures) in
     omega arith
 
 loop-again : tie.Need-loop-again Inv-loop μ-loop
@@ -122,7 +110,7 @@ loop-again c =
     let r = c .before .before .before .before .before .before .before .before .before .before .before .before .before .before .before .before .before .before .read-step .result in
     let e = sym (c .before .before .before .before .before .before .before .before .before .before .before .before .before .before .before .before .before .before .read-step .ensures) in
     let h = c .before .before .before .before .before .before .before .before .before .before .before .before .before .before .before .before .before .before .before .loop-test .taken in
-    let i = within s (l .at) r (omega arith) e (c .before .before .before .before .before .before .before .before .before .before .before .before .before .before .before .before .before .extent .ensures) in
+    let i = within s (l .at) r (omega arith) e (c .before .before .before .before .before .before .before .before .before .before .before .before .before .before .before .before .before .after .ensures) in
     let k = c .before .before .before .before .before .before .before .before .before .before .before .before .carry-out in
     let w = c .before .before .report in
     let m = l .inv .1 (omega arith) in (
@@ -135,7 +123,7 @@ loop-again c =
       k .kept .1 .1 .0 ∙ l .inv .6,
       w .kept .0 ∙ l .inv .7,
       playing-next (a .args .table) (commandsOf (now (a .args .book))) s (now (a .args .out)) (a .args .from) (l .inv .8) r
-          (omega arith) (omega arith) e (c .before .before .before .before .before .before .before .before .before .before .before .before .before .before .before .before .before .extent .ensures) (k .ensures .0) (w .ensures .0),
+          (omega arith) (omega arith) e (c .before .before .before .before .before .before .before .before .before .before .before .before .before .before .before .before .before .after .ensures) (k .ensures .0) (w .ensures .0),
       k .ensures .1,
     )
 
@@ -169,11 +157,9 @@ play-on-spec =
     μ-loop
     loop-holds
     read-step-requires
-    sub-extent
-    extent-requires
+    after-requires
     carry-out-requires
     report-requires
-    add-at
     add-number
     loop-less
     loop-again

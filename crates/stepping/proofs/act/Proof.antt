@@ -24,7 +24,7 @@ enum-known-step-2 c = search needs
 turn-requires : tie.Need-turn-requires
 turn-requires c κs =
     let o = c .before .before .before .before .before .before .before .before .before .before .before .before .before .before in
-    ((now (o .args .book), ready-as (o .args .table) (now (o .args .book)) (now (o .args .rows)) (lent (now (o .args .sites)) (now (o .args .log)) (o .args .entries) (now (o .args .sent))) (c .before .before .before .before .step2 .given .1) (o .pre .0)), o .pre .2, o .pre .4)
+    ((now (o .args .book), ready-as (o .args .table) (now (o .args .book)) (now (o .args .rows)) (lent (now (o .args .sites)) (now (o .args .log)) (o .args .entries) (now (o .args .sent))) (c .before .before .before .before .step2 .given .1) (o .pre .0)), o .pre .2)
 
 enum-known-step-3 : tie.Need-enum-known-step-3
 enum-known-step-3 c = search needs
@@ -49,7 +49,7 @@ enum-known-step-5 c = search needs
 round-end-requires : tie.Need-round-end-requires
 round-end-requires c κs =
     let o = c .before .before .before .before .before .before .before .before .before .before .before .before in
-    (good-sites (o .args .table) (now (o .args .book)) (o .args .commands) (lent (now (o .args .sites)) (now (o .args .log)) (o .args .entries) (now (o .args .sent))) (o .pre .3) (o .pre .0 .world), (now (o .args .log), o .args .entries, kept-log (o .args .table) (now (o .args .book)) (o .args .commands) (lent (now (o .args .sites)) (now (o .args .log)) (o .args .entries) (now (o .args .sent))) (o .pre .3) (o .pre .0 .world) (o .pre .0 .conflicts) (λ k. c .before .before .before .before .before .before .before .before .before .before .slice-known2 .given k .fits) (o .pre .4)), o .pre .0 .table, o .pre .2, o .pre .1, o .pre .3)
+    (good-sites (o .args .table) (now (o .args .book)) (o .args .commands) (lent (now (o .args .sites)) (now (o .args .log)) (o .args .entries) (now (o .args .sent))) (o .pre .3) (o .pre .0 .world), (now (o .args .log), o .args .entries, kept-log (o .args .table) (now (o .args .book)) (o .args .commands) (lent (now (o .args .sites)) (now (o .args .log)) (o .args .entries) (now (o .args .sent))) (o .pre .3) (o .pre .0 .world) (o .pre .0 .conflicts) (λ k. c .before .before .before .before .before .before .before .before .before .before .slice-known2 .given k .fits) (o .pre .4), o .pre .0 .ends _), o .pre .0 .table, o .pre .2, o .pre .1, o .pre .3)
 
 arrive-requires : tie.Need-arrive-requires
 arrive-requires c κs =
