@@ -31,6 +31,9 @@ fn senders(site: &[u8], round: usize, m: usize) -> usize
     requires { ⌜ (length (now site) ≡ siteSize) × (1 ≤ round) × (round ≤ siteRounds) × (m < capacity) ⌝ }
     ensures { λ r. ⌜ r ≡ count maxSites (λ j. heardOf (now (site .entry)) j round m) ⌝ }
 {
+    if round > layout::span(site) as usize {
+        return 0;
+    }
     let mut n = 0;
     let mut sender = 0;
     while sender < SiteTable::MAX_SITES {

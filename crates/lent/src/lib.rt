@@ -26,7 +26,8 @@ fn judge_header(site: &[u8], commands: usize) -> bool
 {
     let tag = wire::get1(site, Site::PHASE);
     let round = wire::get1(site, Site::ROUND) as usize;
-    let deliveries = wire::get4(site, Site::COUNT) as usize;
+    let deliveries = wire::get2(site, Site::COUNT) as usize;
+    let span = wire::get2(site, Site::SPAN) as usize;
     let proposed = Set::read(site, Site::NC).union(Set::read(site, Site::C));
     let sets = Set::read(site, Site::RECEIVED)
         .union(Set::read(site, Site::DELIVERED))
@@ -38,19 +39,20 @@ fn judge_header(site: &[u8], commands: usize) -> bool
         & (round <= Site::ROUNDS)
         & (deliveries <= commands)
         & (deliveries <= Set::CAPACITY)
+        & (span <= Site::ROUNDS)
         & sets.within(commands)
 }
 
-// The union of what a sender acknowledged in all rounds.
-fn sender_union(site: &[u8], sender: usize) -> Set
-    requires { ⌜ (length (now site) ≡ siteSize) × (sender < maxSites) ⌝ }
-    ensures { λ r. ⌜ r ≡ unionFrom (now (site .entry)) (heardAt (siteRounds * sender)) siteRounds ⌝ }
+// The union of what a sender acknowledged in the first rounds.
+fn sender_union(site: &[u8], sender: usize, rounds: usize) -> Set
+    requires { ⌜ (length (now site) ≡ siteSize) × (sender < maxSites) × (rounds ≤ siteRounds) ⌝ }
+    ensures { λ r. ⌜ r ≡ unionOfRounds (now (site .entry)) sender rounds ⌝ }
 {
-    let from = Site::HEARD + Set::BYTES * (Site::ROUNDS * sender);
+    let from = Site::HEARD + Set::BYTES * sender;
     let mut union = Set::empty();
     let mut k = 0;
-    while k < Site::ROUNDS {
-        let set = Set::read(site, from + Set::BYTES * k);
+    while k < rounds {
+        let set = Set::read(site, from + Site::ROW * k);
         union = union.union(set);
         k += 1;
     }
@@ -79,12 +81,13 @@ fn allowed(sender: usize, sites: usize, commands: usize) -> usize
 
 // Whether every set heard is within the book, and those of senders that there are not are empty.
 fn judge_heard(site: &[u8], sites: usize, commands: usize) -> bool
-    requires { ⌜ (length (now site) ≡ siteSize) × (sites ≤ maxSites) ⌝ }
-    ensures { λ r. ⌜ r ≡ all heardSets (goodHeard sites commands (now (site .entry))) ⌝ }
+    requires { ⌜ (length (now site) ≡ siteSize) × (sites ≤ maxSites) × (readLe 2 (now site) spanPlace ≤ siteRounds) ⌝ }
+    ensures { λ r. ⌜ r ≡ goodHeard sites commands (now (site .entry)) ⌝ }
 {
+    let rounds = wire::get2(site, Site::SPAN) as usize;
     let mut sender = first_looked_at(sites, commands);
     while sender < SiteTable::MAX_SITES {
-        let union = sender_union(site, sender);
+        let union = sender_union(site, sender, rounds);
         if !union.within(allowed(sender, sites, commands)) {
             return false;
         }
@@ -121,17 +124,17 @@ fn are_words_clear(site: &[u8], from: usize, n: usize) -> bool
     found == 0
 }
 
-// Whether the bytes from a place up to the site's end are 0: words up to the end, and before them the word at the place, which may overlap the next.
+// Whether the bytes from a place up to the end of the deliveries are 0: words up to the end, and before them the word at the place, which may overlap the next.
 fn is_rest_clear(site: &[u8], from: usize) -> bool
-    requires { ⌜ (length (now site) ≡ siteSize) × (from ≤ siteSize) ⌝ }
-    ensures { λ r. ⌜ r ≡ clearFrom (now (site .entry)) from (siteSize - from) ⌝ }
+    requires { ⌜ (length (now site) ≡ siteSize) × (from ≤ heardPlace) ⌝ }
+    ensures { λ r. ⌜ r ≡ clearFrom (now (site .entry)) from (heardPlace - from) ⌝ }
 {
-    let words = (Site::SIZE - from) / 8;
+    let words = (Site::HEARD - from) / 8;
     if words == 0 {
-        return is_clear(site, from, Site::SIZE);
+        return is_clear(site, from, Site::HEARD);
     }
     let first = wire::get8(site, from);
-    (first == 0) & are_words_clear(site, Site::SIZE - 8 * words, words)
+    (first == 0) & are_words_clear(site, Site::HEARD - 8 * words, words)
 }
 
 // The k-th byte of the places for deliveries where it is a command, and else 0.
@@ -161,7 +164,7 @@ fn commands_within(site: &[u8], commands: usize) -> bool
 {
     let mut greatest: u8 = 0;
     let mut k = 0;
-    while k < Site::SIZE - Site::DELIVERIES {
+    while k < Site::HEARD - Site::DELIVERIES {
         let command = command_byte(k, site[Site::DELIVERIES + k]);
         greatest = greater(greatest, command);
         k += 1;
@@ -205,34 +208,15 @@ pub fn judge(site: &[u8], sites: usize, commands: usize, entries: usize) -> bool
     if !register::judge(site, Site::REGISTER) {
         return false;
     }
-    let recorded = wire::get4(site, Site::COUNT) as usize;
+    let recorded = wire::get2(site, Site::COUNT) as usize;
     judge_deliveries(site, commands, recorded)
 }
 
-// Every byte becomes 0.
-pub fn clear(site: &mut [u8])
-    ensures { λ _. ⌜ ((k : ℕ) → getD (now (site .exit)) k 0 ≡ 0) ⌝ }
-{
-    let mut k = 0;
-    while k < site.len() {
-        site[k] = 0;
-        k += 1;
-    }
-}
-
-// The first round is written over bytes that are all 0: they are a fresh site, whose other numbers and sets are all 0.
-pub fn begin(site: &mut [u8])
-    requires { ⌜ (length (now site) ≡ siteSize) × ((k : ℕ) → getD (now site) k 0 ≡ 0) ⌝ }
-    ensures { λ _. ⌜ ((t : SiteTable) (book : List Command) → Holds t book (now (site .exit)) (protocol.fresh (dash t book))) ⌝ }
-{
-    layout::set_round(site, 1);
-}
-
-// A fresh site is written over the whole buffer.
+// A fresh site is written: all its bytes are 0 but the first, its round. Nothing was heard, so it has none in the table of sets heard.
 pub fn fresh(site: &mut [u8])
     requires { ⌜ length (now site) ≡ siteSize ⌝ }
-    ensures { λ _. ⌜ ((t : SiteTable) (book : List Command) → Holds t book (now (site .exit)) (protocol.fresh (dash t book))) ⌝ }
+    ensures { λ _. ⌜ ((t : SiteTable) (book : List Command) → Holds t book 0 (now (site .entry)) (now (site .exit)) (protocol.fresh (dash t book))) ⌝ }
 {
-    clear(site);
-    begin(site);
+    wire::clear(&mut site[..Site::HEARD]);
+    layout::set_round(site, 1);
 }

@@ -25,7 +25,7 @@ fn write_status(site: &[u8], out: &mut [u8])
 {
     let round = wire::get1(site, Site::ROUND);
     let phase = wire::get1(site, Site::PHASE);
-    let deliveries = wire::get4(site, Site::COUNT) as u8;
+    let deliveries = wire::get2(site, Site::COUNT) as u8;
     let position = wire::get2(site, Site::POSITION);
     wire::put1(out, 0, round);
     wire::put1(out, 1, phase);
@@ -84,7 +84,7 @@ fn count(site: &[u8]) -> usize
     requires { ⌜ length (now site) ≡ siteSize ⌝ }
     ensures { λ r. ⌜ r ≡ readLe 4 (now (site .entry)) countPlace ⌝ }
 {
-    let deliveries = wire::get4(site, Site::COUNT);
+    let deliveries = wire::get2(site, Site::COUNT);
     deliveries as usize
 }
 

@@ -75,6 +75,17 @@ pub fn get8(s: &[u8], at: usize) -> u64
         + 72057594037927936 * b7
 }
 
+// Every byte becomes 0.
+pub fn clear(s: &mut [u8])
+    ensures { λ _. ⌜ now (s .exit) ≡ replicate (length (now (s .entry))) 0 ⌝ }
+{
+    let mut k = 0;
+    while k < s.len() {
+        s[k] = 0;
+        k += 1;
+    }
+}
+
 // A byte is written at a position.
 pub fn put1(s: &mut [u8], at: usize, x: u8)
     requires { ⌜ at + 1 ≤ length (now s) ⌝ }
