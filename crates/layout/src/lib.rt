@@ -5,7 +5,7 @@ ghost use lib.ListN.{length};
 ghost use Rattle.wire.specs.Wire.{bytes, splice};
 ghost use Rattle.sets.specs.Sets.{capacity, readSet, writeSet};
 ghost use Rattle.table.specs.Table.{maxSites};
-ghost use Rattle.layout.specs.Layout.{siteSize, siteRounds, registerPlace, cell, slot, headOf, phaseFrom, deliveryOf, deliveryBytes, deliverySeen, heardMore};
+ghost use Rattle.layout.specs.Layout.{siteSize, siteRounds, cell, slot, headOf, phaseFrom, deliveryOf, deliveryBytes, deliverySeen, reached, heardMore};
 ghost use Rattle.layout.specs.Layout.{roundPlace, countPlace, positionPlace, receivedPlace, deliveredPlace, pendingPlace, fastPlace, isWaiting, waitsWith, acknowledges};
 use sets::Set;
 

@@ -1,7 +1,7 @@
 // Numbers of 1, 2, 4 and 8 bytes in lent bytes, least significant byte first.
 ghost use mathlib.Core.Path.{_≡_};
 ghost use Prim.Native.Nat.{_+_, _≤_, _<_};
-ghost use lib.ListN.{length};
+ghost use lib.ListN.{length, replicate};
 ghost use Rattle.wire.specs.Wire.{bytes, readLe, splice};
 
 fn wide2(x: u8) -> u16
