@@ -13,7 +13,7 @@ use Rattle.refusals.specs.declared.Refusal.{Refusal}
 use Rattle.refusals.specs.declared.Verdict.{Verdict}
 use Rattle.refusals.specs.declared.Verdict.the-variants.{Taken, Refused}
 use Rattle.theory.specs.Sets.{pick}
-use Rattle.wire.specs.Wire.{readLe, splice}
+use Rattle.wire.specs.Wire.{splice}
 use Rattle.wire.proofs.Laws.{length-splice}
 use Rattle.table.specs.declared.SiteTable.{SiteTable}
 use Rattle.register.specs.declared.Command.{Command}
@@ -22,7 +22,7 @@ use Rattle.protocol.specs.Site as protocol
 use Rattle.protocol.specs.World.{World, Step, put, judge, change, step, settle}
 use Rattle.protocol.specs.CommonSequence.{isTaken}
 use Rattle.system.specs.Dash.{dash}
-use Rattle.layout.specs.Layout.{siteSize, spanPlace, headOf, view}
+use Rattle.layout.specs.Layout.{siteSize, headOf, view}
 use Rattle.layout.specs.Good.{Good, Holds, HoldsOver}
 use Rattle.layout.specs.Step.{Carried}
 use Rattle.layout.proofs.Finish.{unchanged, alone}
@@ -161,14 +161,14 @@ module _ (t : SiteTable) (book : List Command) (b : Buffers) (good : GoodWorld t
 
     -- A step that changes one site and is taken.
     pub one-site : ((k : ℕ) → getD (b .sites) k 0 < 256) → (i : ℕ) → i < t .sites → {promise : List ℕ → List ℕ → Type 0} {sites : List ℕ}
-        → (h : AtSite i promise (b .sites) sites) → (f : protocol.Site (dash t book) → protocol.Site (dash t book)) (rows : ℕ)
+        → (h : AtSite i promise (b .sites) sites) → (f : protocol.Site (dash t book) → protocol.Site (dash t book)) {rows : ℕ}
         → Holds t book rows (siteAt (b .sites) i) (h .new) (f (view t book (siteAt (b .sites) i)))
         → f (view t book (siteAt (b .sites) i)) .position ≤ b .entries
         → judge (dash t book) (worldOf t book b) u ≡ Taken
         → change (dash t book) (worldOf t book b) u ≡ put (dash t book) i (f (worldOf t book b .site i)) (worldOf t book b)
         → b .log ≡ logWritten t book (worldOf t book b) u b → b .sent ≡ sentWritten t book (worldOf t book b) u b
         → Outcome t book u b Taken (lent sites (b .log) (b .entries) (b .sent))
-    one-site small i inside h f rows holds read e ec el es =
+    one-site small i inside h f holds read e ec el es =
         subst (λ (y : List ℕ). Outcome t book u b Taken (lent y (b .log) (b .entries) (b .sent))) (sym (h .bytes))
         (taken e
         (subst (HoldsWorld t book (putSite b i (h .new))) (sym ec)
@@ -205,7 +205,7 @@ module _ (t : SiteTable) (book : List Command) (b : Buffers) (good : GoodWorld t
         → Outcome t book u b r (lent sites (b .log) (b .entries) (b .sent))
     carried-site small i inside {sites = sites} h f Taken k read e ec el es =
         subst (λ (y : Verdict). Outcome t book u b y (lent sites (b .log) (b .entries) (b .sent))) (sym (k .answer))
-        (one-site small i inside h f (readLe 2 (siteAt (b .sites) i) spanPlace) (k .site) (read refl) e ec el es)
+        (one-site small i inside h f (k .site) (read refl) e ec el es)
     carried-site small i inside {sites = sites} h f (Refused x) k read e ec el es =
         subst (λ (y : Verdict). Outcome t book u b y (lent sites (b .log) (b .entries) (b .sent))) (sym (k .answer))
         (refused-site small i inside h (subst (HoldsOver t book (siteAt (b .sites) i) (h .new)) (sym (seen i inside)) (k .site)) x e)
