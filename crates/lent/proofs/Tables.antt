@@ -19,11 +19,11 @@ use Rattle.wire.proofs.Laws.{read-suc, read-none, read-one}
 use Rattle.sets.specs.declared.Set.{Set}
 use Rattle.sets.specs.Sets.{capacity, inSet, emptyOf, unionOf, isEmptyOf, withinOf, setBytes, readSet}
 use Rattle.sets.proofs.Laws.{in-union, within-at, within-of, within-all, empty-word, read-fits}
-use Rattle.layout.specs.Layout.{siteSize, siteRounds, heardSets, heardAt, deliveriesPlace, deliverySize, slot}
+use Rattle.layout.specs.Layout.{siteSize, siteRounds, spanPlace, heardPlace, deliveriesPlace, deliverySize, cell, slot}
 use Rattle.table.specs.Table.{maxSites}
-use Rattle.layout.specs.Good.{goodHeard, goodSlot}
+use Rattle.layout.specs.Good.{goodCell, goodHeard, goodSlot}
 use Rattle.layout.proofs.Tables.{within-empty}
-use Rattle.lent.specs.Clear.{clearFrom, unionFrom, recordedAt}
+use Rattle.lent.specs.Clear.{clearFrom, unionOfRounds, recordedAt}
 
 -- ---- tests, all together
 
@@ -188,102 +188,100 @@ clear-both b from m at n h l g =
     (all-of n _ (λ i o. let q : from + (at + i - from) ≡ at + i = omega arith in ap (λ (j : ℕ). eqb (getD b j 0) 0) (sym q) ∙ all-at (at + n - from) _ e (at + i - from) (omega arith))))
 
 -- What the code makes of the first word and of the words up to the end.
-pub rest-judged : (b : List ℕ) (from words : ℕ) {x : ℕ} {t : Bool} → length b ≡ siteSize → from + 8 * words ≤ siteSize → siteSize < from + 8 * words + 8 → (words ≡ 0 → ⊥)
-    → x ≡ readLe 8 b from → t ≡ clearFrom b (siteSize - 8 * words) (8 * words) → eqb x 0 && t ≡ clearFrom b from (siteSize - from)
+pub rest-judged : (b : List ℕ) (from words : ℕ) {x : ℕ} {t : Bool} → length b ≡ siteSize → from + 8 * words ≤ heardPlace → heardPlace < from + 8 * words + 8 → (words ≡ 0 → ⊥)
+    → x ≡ readLe 8 b from → t ≡ clearFrom b (heardPlace - 8 * words) (8 * words) → eqb x 0 && t ≡ clearFrom b from (heardPlace - from)
 rest-judged b from words size l g n ex et =
-    let q : siteSize - 8 * words + 8 * words - from ≡ siteSize - from = omega arith in
+    let q : heardPlace - 8 * words + 8 * words - from ≡ heardPlace - from = omega arith in
     (λ i. (ap (λ (z : ℕ). eqb z 0) ex ∙ clear-word 8 b from (omega (arith, size))) i && et i)
-    ∙ clear-both b from 8 (siteSize - 8 * words) (8 * words) (omega arith) (omega arith) (omega arith)
+    ∙ clear-both b from 8 (heardPlace - 8 * words) (8 * words) (omega arith) (omega arith) (omega arith)
     ∙ ap (clearFrom b from) q
 
 -- ---- the sets heard
 
 -- A union is within a book where all its sets are.
-union-within : (b : List ℕ) (at commands n : ℕ) → withinOf (unionFrom b at n) commands ≡ all n (λ k. withinOf (readSet b (at + setBytes * k)) commands)
-unfolding unionFrom all
-union-within b at commands zero = within-empty commands
-union-within b at commands (suc n) =
-    within-union (unionFrom b at n) (readSet b (at + setBytes * n)) commands
-    ∙ ap (λ (t : Bool). t && withinOf (readSet b (at + setBytes * n)) commands) (union-within b at commands n)
+union-within : (b : List ℕ) (sender commands n : ℕ) → withinOf (unionOfRounds b sender n) commands ≡ all n (λ i. withinOf (readSet b (cell sender (i + 1))) commands)
+unfolding unionOfRounds all
+union-within b sender commands zero = within-empty commands
+union-within b sender commands (suc n) =
+    within-union (unionOfRounds b sender n) (readSet b (cell sender (n + 1))) commands
+    ∙ ap (λ (t : Bool). t && withinOf (readSet b (cell sender (n + 1))) commands) (union-within b sender commands n)
 
 -- One set more.
-pub union-more : (b : List ℕ) (at k : ℕ) {x y z : Set} → x ≡ unionFrom b at k → y ≡ readSet b (at + setBytes * k) → z ≡ unionOf x y → z ≡ unionFrom b at (k + 1)
-unfolding unionFrom
-union-more b at k ex ey ez = let q : suc k ≡ k + 1 = omega arith in ez ∙ (λ i. unionOf (ex i) (ey i)) ∙ ap (unionFrom b at) q
+pub union-more : (b : List ℕ) (sender k at : ℕ) {x y z : Set} → at ≡ cell sender (k + 1) → x ≡ unionOfRounds b sender k → y ≡ readSet b at → z ≡ unionOf x y
+    → z ≡ unionOfRounds b sender (k + 1)
+unfolding unionOfRounds
+union-more b sender k at ea ex ey ez =
+    let q : suc k ≡ k + 1 = omega arith in ez ∙ (λ i. unionOf (ex i) ((ey ∙ ap (readSet b) ea) i)) ∙ ap (unionOfRounds b sender) q
 
-pub union-none : (b : List ℕ) (at : ℕ) → emptyOf ≡ unionFrom b at 0
-unfolding unionFrom
-union-none b at = refl
+pub union-none : (b : List ℕ) (sender : ℕ) → emptyOf ≡ unionOfRounds b sender 0
+unfolding unionOfRounds
+union-none b sender = refl
 
 pub first-few : (t : Bool) (sites : ℕ) → sites ≤ maxSites → pick t sites 0 ≤ maxSites
 first-few true sites h = h
 first-few false sites h = omega arith
 
-module _ (b : List ℕ) (sites commands : ℕ) (size : length b ≡ siteSize) (small : (i : ℕ) → getD b i 0 < 256) where
-  abbrev good : ℕ → Bool
-  good = goodHeard sites commands b
+-- All sets of a sender.
+abbrev pub goodSender : ℕ → ℕ → List ℕ → ℕ → Bool
+goodSender sites commands b j = all (readLe 2 b spanPlace) (λ i. goodCell sites commands b j (i + 1))
 
-  spoken : (m : ℕ) → m < siteRounds * sites → withinOf (readSet b (heardAt m)) commands ≡ good m
-  spoken m l =
-      sym (and-true (withinOf (readSet b (heardAt m)) commands))
-      ∙ ap (λ (t : Bool). withinOf (readSet b (heardAt m)) commands && (t || eqb (readLe setBytes b (heardAt m)) 0)) (sym (lt-ltb m (siteRounds * sites) l))
+module _ (b : List ℕ) (sites commands : ℕ) (size : length b ≡ siteSize) (small : (i : ℕ) → getD b i 0 < 256) (rows : readLe 2 b spanPlace ≤ siteRounds) where
+  abbrev good : ℕ → ℕ → Bool
+  good = goodCell sites commands b
 
-  silent : (m : ℕ) → m < heardSets → siteRounds * sites ≤ m → withinOf (readSet b (heardAt m)) 0 ≡ good m
+  abbrev rounds : ℕ
+  rounds = readLe 2 b spanPlace
+
+  abbrev senders : ℕ → Bool
+  senders = goodSender sites commands b
+
+  spoken : (j r : ℕ) → j < sites → withinOf (readSet b (cell j r)) commands ≡ good j r
+  spoken j r l =
+      sym (and-true (withinOf (readSet b (cell j r)) commands))
+      ∙ ap (λ (t : Bool). withinOf (readSet b (cell j r)) commands && (t || eqb (readLe setBytes b (cell j r)) 0)) (sym (lt-ltb j sites l))
+
+  silent : (j r : ℕ) → sites ≤ j → cell j r + 8 ≤ siteSize → withinOf (readSet b (cell j r)) 0 ≡ good j r
   unfolding readSet
-  silent m l g =
-      let s = readSet b (heardAt m) in
-      let e : eqb (readLe setBytes b (heardAt m)) 0 ≡ withinOf s 0 = zero-word s (read-fits b (heardAt m) small (omega (arith, size))) in
+  silent j r g l =
+      let s = readSet b (cell j r) in
+      let e : eqb (readLe setBytes b (cell j r)) 0 ≡ withinOf s 0 = zero-word s (read-fits b (cell j r) small (omega (arith, size))) in
       sym
-      (ap (λ (t : Bool). withinOf s commands && (t || eqb (readLe setBytes b (heardAt m)) 0)) (le-ltb m (siteRounds * sites) g)
+      (ap (λ (t : Bool). withinOf s commands && (t || eqb (readLe setBytes b (cell j r)) 0)) (le-ltb j sites g)
       ∙ ap (λ (t : Bool). withinOf s commands && t) e
-      ∙ absorbed (withinOf s commands) (withinOf s 0) (λ h. within-of s commands (λ j lj hj. absurd (nothing (within-at s 0 h j lj hj)))))
+      ∙ absorbed (withinOf s commands) (withinOf s 0) (λ h. within-of s commands (λ m lm hm. absurd (nothing (within-at s 0 h m lm hm)))))
     where
-      nothing : {j : ℕ} → j < 0 → ⊥
+      nothing : {m : ℕ} → m < 0 → ⊥
       nothing h = omega arith
 
-  -- The k-th set of a sender.
-  of-sender : (sender k : ℕ) → sender < maxSites → k < siteRounds
-      → withinOf (readSet b (heardAt (siteRounds * sender) + setBytes * k)) (pick (ltb sender sites) commands 0) ≡ good (siteRounds * sender + k)
-  of-sender sender k l g =
-      let q : heardAt (siteRounds * sender) + setBytes * k ≡ heardAt (siteRounds * sender + k) = omega arith in
-      ap (λ (at : ℕ). withinOf (readSet b at) (pick (ltb sender sites) commands 0)) q
-      ∙ ⊎-elim
-      (λ h. ap (λ (t : Bool). withinOf (readSet b (heardAt (siteRounds * sender + k))) (pick t commands 0)) (lt-ltb sender sites h)
-      ∙ spoken (siteRounds * sender + k) (omega arith))
-      (λ h. ap (λ (t : Bool). withinOf (readSet b (heardAt (siteRounds * sender + k))) (pick t commands 0)) (le-ltb sender sites h)
-      ∙ silent (siteRounds * sender + k) (omega arith) (omega arith))
-      (lt-or-le sender sites)
-
-  -- All sets of a sender.
-  sender-sets : (sender : ℕ) → sender < maxSites
-      → withinOf (unionFrom b (heardAt (siteRounds * sender)) siteRounds) (pick (ltb sender sites) commands 0) ≡ all siteRounds (λ k. good (siteRounds * sender + k))
-  sender-sets sender l =
-      union-within b (heardAt (siteRounds * sender)) (pick (ltb sender sites) commands 0) siteRounds
-      ∙ all-ext siteRounds _ (λ k. good (siteRounds * sender + k)) (λ k g. of-sender sender k l g)
+  -- The set of a sender in a round.
+  of-sender : (j i : ℕ) → j < maxSites → i < rounds → withinOf (readSet b (cell j (i + 1))) (pick (ltb j sites) commands 0) ≡ good j (i + 1)
+  of-sender j i l g =
+      ⊎-elim (λ h. ap (λ (t : Bool). withinOf (readSet b (cell j (i + 1))) (pick t commands 0)) (lt-ltb j sites h) ∙ spoken j (i + 1) h)
+      (λ h. ap (λ (t : Bool). withinOf (readSet b (cell j (i + 1))) (pick t commands 0)) (le-ltb j sites h) ∙ silent j (i + 1) h (omega arith)) (lt-or-le j sites)
 
   -- What the code tells of one sender more.
-  module _ (sender : ℕ) {u : Set} {n : ℕ} {t : Bool} (l : sender < maxSites) (eu : u ≡ unionFrom b (heardAt (siteRounds * sender)) siteRounds)
+  module _ (sender : ℕ) {u : Set} {k n : ℕ} {t : Bool} (l : sender < maxSites) (ek : k ≡ rounds) (eu : u ≡ unionOfRounds b sender k)
       (en : n ≡ pick (ltb sender sites) commands 0) (et : t ≡ withinOf u n) where
-    told : t ≡ all siteRounds (λ k. good (siteRounds * sender + k))
-    told = et ∙ (λ i. withinOf (eu i) (en i)) ∙ sender-sets sender l
+    told : t ≡ senders sender
+    told =
+        et ∙ (λ i. withinOf ((eu ∙ ap (unionOfRounds b sender) ek) i) (en i)) ∙ union-within b sender (pick (ltb sender sites) commands 0) rounds
+        ∙ all-ext rounds _ (λ i. good sender (i + 1)) (λ i g. of-sender sender i l g)
 
-    pub senders-more : all (siteRounds * sender) good ≡ true → t ≡ true → all (siteRounds * (sender + 1)) good ≡ true
-    senders-more h y =
-        let q : siteRounds * sender + siteRounds ≡ siteRounds * (sender + 1) = omega arith in
-        ap (λ (n : ℕ). all n good) (sym q)
-        ∙ all-split (siteRounds * sender) siteRounds good
-        ∙ (λ i. h i && (sym told ∙ y) i)
+    pub senders-more : all sender senders ≡ true → t ≡ true → all (sender + 1) senders ≡ true
+    senders-more h y = sym (all-next sender senders (sym h) (sym y ∙ told))
 
-    pub senders-not : t ≡ false → false ≡ all heardSets good
-    senders-not y = sym (same-false (all heardSets good) (λ h. never t (told ∙ all-of siteRounds _ (λ k g. all-at heardSets good h (siteRounds * sender + k) (omega arith))) y))
+    pub senders-not : t ≡ false → false ≡ goodHeard sites commands b
+    senders-not y = sym (same-false (goodHeard sites commands b) (λ h. never t (told ∙ all-at maxSites senders h sender l) y))
 
   -- Where the first looked at is the first that there is not, the book has all that a set can hold.
-  pub senders-first : all (siteRounds * pick (leb capacity commands) sites 0) good ≡ true
+  pub senders-first : all (pick (leb capacity commands) sites 0) senders ≡ true
   senders-first = go (leb capacity commands) refl
     where
-      go : (t : Bool) → leb capacity commands ≡ t → all (siteRounds * pick t sites 0) good ≡ true
-      go true e = all-of (siteRounds * sites) good (λ m l. sym (spoken m l) ∙ within-all (readSet b (heardAt m)) commands (leb-true capacity commands e))
-      go false e = let q : 0 ≡ siteRounds * 0 = omega arith in ap (λ (n : ℕ). all n good) (sym q) ∙ all-none good
+      go : (t : Bool) → leb capacity commands ≡ t → all (pick t sites 0) senders ≡ true
+      go true e =
+          all-of sites senders
+          (λ j l. all-of rounds _ (λ i _. sym (spoken j (i + 1) l) ∙ within-all (readSet b (cell j (i + 1))) commands (leb-true capacity commands e)))
+      go false e = all-none senders
 
 -- ---- the deliveries
 
@@ -298,7 +296,7 @@ module _ (b : List ℕ) (commands : ℕ) (size : length b ≡ siteSize) where
       read-one b (slot k) (omega (arith, size))
       ∙ sym (ap (λ (t : Bool). pick t (getD b (slot k) 0) 0) (eq-eqb (deliverySize * k % deliverySize) 0 e))
 
-  counted-below : 0 < commands → all capacity (recordedAt commands b) ≡ true → (m : ℕ) → m < siteSize - deliveriesPlace → counted b m < commands
+  counted-below : 0 < commands → all capacity (recordedAt commands b) ≡ true → (m : ℕ) → m < heardPlace - deliveriesPlace → counted b m < commands
   counted-below h e m l = go (eqb (m % deliverySize) 0) refl
     where
       go : (t : Bool) → eqb (m % deliverySize) 0 ≡ t → counted b m < commands
@@ -338,8 +336,8 @@ module _ (b : List ℕ) (commands : ℕ) (size : length b ≡ siteSize) where
           same m l h = omega arith
 
   -- The greatest command is one of the book where all are.
-  pub greatest-told : {g : ℕ} → ((m : ℕ) → m < siteSize - deliveriesPlace → counted b m ≤ g)
-      → ((c : ℕ) → 0 < c → ((m : ℕ) → m < siteSize - deliveriesPlace → counted b m < c) → g < c) → ltb g commands ≡ all capacity (recordedAt commands b)
+  pub greatest-told : {g : ℕ} → ((m : ℕ) → m < heardPlace - deliveriesPlace → counted b m ≤ g)
+      → ((c : ℕ) → 0 < c → ((m : ℕ) → m < heardPlace - deliveriesPlace → counted b m < c) → g < c) → ltb g commands ≡ all capacity (recordedAt commands b)
   greatest-told {g} most least =
       same-test (ltb g commands) (all capacity (recordedAt commands b))
       (λ h. all-of capacity (recordedAt commands b)
@@ -370,11 +368,11 @@ module _ (b : List ℕ) (commands recorded : ℕ) where
         || sym (le-leb recorded k h) i && eqb (readLe 1 b (slot k)) 0 && eqb (readLe 4 b (slot k + 1)) 0)
 
     -- What the code makes of the two parts.
-    slots-judged : {w e : Bool} → recorded ≤ capacity → w ≡ all recorded (recordedAt commands b) → e ≡ clearFrom b (slot recorded) (siteSize - slot recorded)
+    slots-judged : {w e : Bool} → recorded ≤ capacity → w ≡ all recorded (recordedAt commands b) → e ≡ clearFrom b (slot recorded) (heardPlace - slot recorded)
         → w && e ≡ all capacity (goodSlot commands recorded b)
     slots-judged h ew ee =
         let q : recorded + (capacity - recorded) ≡ capacity = omega arith in
-        let z : siteSize - slot recorded ≡ 5 * (capacity - recorded) = omega arith in
+        let z : heardPlace - slot recorded ≡ 5 * (capacity - recorded) = omega arith in
         (λ i.
         (ew ∙ all-ext recorded _ (goodSlot commands recorded b) (λ m l. slot-recorded m l)) i
         && (ee ∙ ap (clearFrom b (slot recorded)) z
@@ -387,7 +385,7 @@ module _ (b : List ℕ) (commands recorded : ℕ) where
         ∙ ap (λ (n : ℕ). all n (goodSlot commands recorded b)) q
 
     -- Where there is a recorded command of the book, the places after it may be taken for commands 0.
-    recorded-all : 0 < recorded → recorded ≤ capacity → clearFrom b (slot recorded) (siteSize - slot recorded) ≡ true
+    recorded-all : 0 < recorded → recorded ≤ capacity → clearFrom b (slot recorded) (heardPlace - slot recorded) ≡ true
         → all recorded (recordedAt commands b) ≡ all capacity (recordedAt commands b)
     unfolding clearFrom
     recorded-all h l e =
@@ -400,13 +398,13 @@ module _ (b : List ℕ) (commands recorded : ℕ) where
         unrecorded a k g m =
             let p = ltb-true _ commands (all-at recorded (recordedAt commands b) a 0 h) in
             let q : slot recorded + (slot k - slot recorded) ≡ slot k = omega arith in
-            let z : getD b (slot recorded + (slot k - slot recorded)) 0 ≡ 0 = eqb-true _ 0 (all-at (siteSize - slot recorded) _ e (slot k - slot recorded) (omega arith)) in
+            let z : getD b (slot recorded + (slot k - slot recorded)) 0 ≡ 0 = eqb-true _ 0 (all-at (heardPlace - slot recorded) _ e (slot k - slot recorded) (omega arith)) in
             let y = read-one b (slot k) (omega (arith, size)) in
             let x = ap (λ (i : ℕ). getD b i 0) q in
             lt-ltb _ commands (omega arith)
 
     -- What the code tells.
-    module _ {e : Bool} (l : recorded ≤ capacity) (ee : e ≡ clearFrom b (slot recorded) (siteSize - slot recorded)) where
+    module _ {e : Bool} (l : recorded ≤ capacity) (ee : e ≡ clearFrom b (slot recorded) (heardPlace - slot recorded)) where
       pub slots-not : e ≡ false → false ≡ all capacity (goodSlot commands recorded b)
       slots-not h = sym (and-false (all recorded (recordedAt commands b))) ∙ slots-judged l refl (sym h ∙ ee)
 

@@ -1,19 +1,20 @@
 // A lent site judged byte by byte, and a fresh site written over a lent buffer.
 ghost use mathlib.Core.Path.{_≡_};
 ghost use mathlib.Core.List.{List};
-ghost use Prim.Native.Nat.{_+_, _-_, _*_, _%_, _≤_, _<_, ℕ};
-ghost use lib.ListN.{length, getD};
+ghost use Prim.Native.Nat.{_+_, _-_, _*_, _%_, _≤_, _<_};
+ghost use lib.ListN.{length};
 ghost use mathlib.Core.Bool.{_&&_};
 ghost use lib.Dec.{eqb, leb, ltb};
 ghost use Rattle.theory.specs.Sets.{all, pick};
+ghost use Rattle.wire.specs.Wire.{readLe};
 ghost use Rattle.sets.specs.Sets.{capacity};
 ghost use Rattle.table.specs.declared.SiteTable.{SiteTable};
 ghost use Rattle.table.specs.Table.{maxSites};
 ghost use Rattle.register.specs.declared.Command.{Command};
 ghost use Rattle.protocol.specs.Site as protocol;
 ghost use Rattle.system.specs.Dash.{dash};
-ghost use Rattle.layout.specs.Layout.{siteSize, siteRounds, heardSets, heardAt, deliverySize, headOf};
-ghost use Rattle.lent.specs.Clear.{clearFrom, unionFrom, recordedAt};
+ghost use Rattle.layout.specs.Layout.{siteSize, siteRounds, spanPlace, heardPlace, deliverySize, headOf};
+ghost use Rattle.lent.specs.Clear.{clearFrom, unionOfRounds, recordedAt};
 ghost use Rattle.layout.specs.Good.{goodHead, goodHeard, goodSlot, goodPhase, goodSite, Holds};
 use layout::Site;
 use sets::Set;

@@ -2,7 +2,7 @@
 -- Rests on Tables.
 use borrow.Author.Needs.{needs}
 use denote.Ref.{now}
-use Prim.Native.Nat.{ℕ, _-_, _*_, _≤_}
+use Prim.Native.Nat.{ℕ, _-_, _≤_}
 use mathlib.Core.Bool.{true}
 use mathlib.Core.Path.{_≡_, sym, ap, _∙_}
 use native.Mathlib.Omega.{arith}
@@ -11,29 +11,34 @@ use lib.Dec.{leb}
 use Rattle.sets.specs.Sets.{capacity}
 use Rattle.theory.specs.Sets.{all}
 use Rattle.table.specs.Table.{maxSites}
-use Rattle.layout.specs.Layout.{siteRounds, heardSets}
-use Rattle.layout.specs.Good.{goodHeard}
-use Rattle.lent.proofs.Tables.{first-few, senders-first, senders-more, senders-not}
+use Rattle.lent.proofs.Tables.{goodSender, first-few, senders-first, senders-more, senders-not}
 use Rattle.lent.proofs.judge_heard.Statement.{statement}
 use Rattle.lent.proofs.judge_heard.Tie as tie
 
 abbrev Inv-loop : tie.InvT-loop
-Inv-loop site sites commands sender₀ sender = (sender ≤ maxSites) × (all (siteRounds * sender) (goodHeard sites commands site) ≡ true)
+Inv-loop site sites commands rounds sender₀ sender = (sender ≤ maxSites) × (all sender (goodSender sites commands site) ≡ true)
 
 abbrev μ-loop : tie.MeasureT-loop
-μ-loop site sites commands sender₀ sender = maxSites - sender
+μ-loop site sites commands rounds sender₀ sender = maxSites - sender
+
+get2-requires : tie.Need-get2-requires Inv-loop μ-loop
+get2-requires c κs = search needs
+
+cast-rounds : tie.Need-cast-rounds Inv-loop μ-loop
+cast-rounds c = search needs
 
 first-looked-at-requires : tie.Need-first-looked-at-requires Inv-loop μ-loop
 first-looked-at-requires c κs = search needs
 
 loop-holds : tie.Need-loop-holds Inv-loop μ-loop
 loop-holds c =
-    let a = c .before .before .args in
+    let o = c .before .before .before in
+    let a = o .args in
     let e = c .first-looked-at .ensures in
-    let h = first-few (leb capacity (a .commands)) (a .sites) (c .before .before .pre .1) in (
+    let h = first-few (leb capacity (a .commands)) (a .sites) (o .pre .1) in (
       omega arith,
-      ap (λ (n : ℕ). all (siteRounds * n) (goodHeard (a .sites) (a .commands) (now (a .site)))) e
-          ∙ senders-first (now (a .site)) (a .sites) (a .commands) (c .before .before .pre .0) (λ i. c .before .shared-slice-known .given i .fits),
+      ap (λ (n : ℕ). all n (goodSender (a .sites) (a .commands) (now (a .site)))) e
+          ∙ senders-first (now (a .site)) (a .sites) (a .commands) (o .pre .0) (λ i. c .before .before .shared-slice-known .given i .fits) (o .pre .2),
     )
 
 sender-union-requires : tie.Need-sender-union-requires Inv-loop μ-loop
@@ -47,9 +52,10 @@ within-requires c κs = search needs
 
 returns : tie.Need-returns Inv-loop μ-loop
 returns c =
-    let a = c .before .before .before .before .before .before .before .before .args in
+    let o = c .before .before .before .before .before .before .before .before .before in
+    let a = o .args in
     let l = c .before .before .before .before .before .loop in
-    senders-not (now (a .site)) (a .sites) (a .commands) (c .before .before .before .before .before .before .before .before .pre .0) (λ i. c .before .before .before .before .before .before .before .shared-slice-known .given i .fits) (l .sender) (omega arith)
+    senders-not (now (a .site)) (a .sites) (a .commands) (o .pre .0) (λ i. c .before .before .before .before .before .before .before .before .shared-slice-known .given i .fits) (o .pre .2) (l .sender) (omega arith) (c .before .before .before .before .before .before .before .get2 .ensures)
     (c .before .before .before .sender-union .ensures) (c .before .before .allowed .ensures) (c .before .within .ensures) (not-true _ (c .if1 .taken))
 
 add-sender : tie.Need-add-sender Inv-loop μ-loop
@@ -60,19 +66,20 @@ loop-less c = omega arith
 
 loop-again : tie.Need-loop-again Inv-loop μ-loop
 loop-again c =
-    let a = c .before .before .before .before .before .before .before .before .args in
+    let o = c .before .before .before .before .before .before .before .before .before in
+    let a = o .args in
     let l = c .before .before .before .before .before .loop in (
       omega arith,
-      senders-more (now (a .site)) (a .sites) (a .commands) (c .before .before .before .before .before .before .before .before .pre .0) (λ i. c .before .before .before .before .before .before .before .shared-slice-known .given i .fits) (l .sender) (omega arith)
+      senders-more (now (a .site)) (a .sites) (a .commands) (o .pre .0) (λ i. c .before .before .before .before .before .before .before .before .shared-slice-known .given i .fits) (o .pre .2) (l .sender) (omega arith) (c .before .before .before .before .before .before .before .get2 .ensures)
           (c .before .before .before .sender-union .ensures) (c .before .before .allowed .ensures) (c .before .within .ensures) (l .inv .1) (not-false _ (c .if1 .left)),
     )
 
 returns-2 : tie.Need-returns-2 Inv-loop μ-loop
 returns-2 c =
-    let a = c .before .before .before .before .args in
+    let a = c .before .before .before .before .before .args in
     let l = c .before .loop in
-    let q : siteRounds * l .sender ≡ heardSets = omega arith in
-    sym (l .inv .1) ∙ ap (λ (n : ℕ). all n (goodHeard (a .sites) (a .commands) (now (a .site)))) q
+    let q : l .sender ≡ maxSites = omega arith in
+    sym (l .inv .1) ∙ ap (λ (n : ℕ). all n (goodSender (a .sites) (a .commands) (now (a .site)))) q
 
 pub judge-heard-spec : {M : Type 1} → statement M
 judge-heard-spec =
@@ -80,6 +87,8 @@ judge-heard-spec =
     (tie.spec
     Inv-loop
     μ-loop
+    get2-requires
+    cast-rounds
     first-looked-at-requires
     loop-holds
     sender-union-requires

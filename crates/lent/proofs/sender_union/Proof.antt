@@ -1,26 +1,22 @@
 -- `lent::sender_union`: the invariant is that the sets so far are united.
 -- Rests on Tables.
 use borrow.Author.Needs.{needs}
-use Prim.Native.Nat.{_-_, _*_, _≤_}
+use Prim.Native.Nat.{_-_, _≤_}
 use mathlib.Core.Path.{_≡_, _∙_, ap}
 use native.Mathlib.Omega.{arith}
-use Rattle.layout.specs.Layout.{siteRounds, heardAt}
-use Rattle.lent.specs.Clear.{unionFrom}
+use Rattle.lent.specs.Clear.{unionOfRounds}
 use Rattle.lent.proofs.Tables.{union-none, union-more}
 use Rattle.lent.proofs.sender_union.Statement.{statement}
 use Rattle.lent.proofs.sender_union.Tie as tie
 
 abbrev Inv-loop : tie.InvT-loop
-Inv-loop site sender from union₀ k₀ union k = (k ≤ siteRounds) × (union ≡ unionFrom site (heardAt (siteRounds * sender)) k)
+Inv-loop site sender rounds from union₀ k₀ union k = (k ≤ rounds) × (union ≡ unionOfRounds site sender k)
 
 abbrev μ-loop : tie.MeasureT-loop
-μ-loop site sender from union₀ k₀ union k = siteRounds - k
+μ-loop site sender rounds from union₀ k₀ union k = rounds - k
 
 mul-from : tie.Need-mul-from Inv-loop μ-loop
 mul-from c = omega arith
-
-mul-from-2 : tie.Need-mul-from-2 Inv-loop μ-loop
-mul-from-2 c = omega arith
 
 add-from : tie.Need-add-from Inv-loop μ-loop
 add-from c = omega arith
@@ -50,13 +46,13 @@ loop-less : tie.Need-loop-less Inv-loop μ-loop
 loop-less c = omega arith
 
 loop-again : tie.Need-loop-again Inv-loop μ-loop
-loop-again c = (omega arith, union-more _ _ _ (c .before .before .before .loop .inv .1) (c .before .read .ensures) (c .union .ensures))
+loop-again c = (omega arith, union-more _ _ _ _ (omega arith) (c .before .before .before .loop .inv .1) (c .before .read .ensures) (c .union .ensures))
 
 returns : tie.Need-returns Inv-loop μ-loop
 returns c =
     let l = c .before .loop in
-    let q : l .k ≡ siteRounds = omega arith in
-    l .inv .1 ∙ ap (unionFrom _ _) q
+    let q : l .k ≡ c .before .before .before .before .args .rounds = omega arith in
+    l .inv .1 ∙ ap (unionOfRounds _ _) q
 
 pub sender-union-spec : {M : Type 1} → statement M
 sender-union-spec =
@@ -65,7 +61,6 @@ sender-union-spec =
     Inv-loop
     μ-loop
     mul-from
-    mul-from-2
     add-from
     empty-requires
     loop-holds
