@@ -63,7 +63,7 @@ clear-requires : tie.Need-clear-requires Inv-loop μ-loop
 clear-requires c κs = search needs
 
 same-length : tie.Need-same-length Inv-loop μ-loop
-same-length c = c .before .before .before .before .before .loop .inv .1 ∙ c .before .before .before .before .before .before .before .before .clear .kept .0
+same-length c = c .before .before .before .before .before .loop .inv .1
 
 same-length-2 : tie.Need-same-length-2 Inv-loop μ-loop
 same-length-2 c = search needs
@@ -71,8 +71,8 @@ same-length-2 c = search needs
 returns : tie.Need-returns Inv-loop μ-loop
 returns c =
     let l = c .before .before .before .before .before .loop in
-    let o = c .before .before .before .before .before .before .before .before .before .before .before .before in
-    started (o .args .table) (l .i) (omega arith) (l .inv .1 ∙ c .before .before .before .before .before .before .before .before .clear .kept .0 ∙ o .pre .0) (l .inv .2) (c .before .before .clear .ensures)
+    let o = c .before .before .before .before .before .before .before .before in
+    started (o .args .table) (l .i) (omega arith) (l .inv .1 ∙ o .pre .0) (l .inv .2) (c .before .before .clear .ensures)
 
 pub start-spec : {M : Type 1} → statement M
 start-spec =
