@@ -79,7 +79,7 @@ pub fn fast_delivery(
     ensures { λ r. ⌜ Carried table (commandsOf (now (book .entry)))
         (verdict (protocol.forFastDelivery (dash table (commandsOf (now (book .entry)))) m (view table (commandsOf (now (book .entry))) (now (site .entry)))))
         (protocol.deliverFast (dash table (commandsOf (now (book .entry)))) m (view table (commandsOf (now (book .entry))) (now (site .entry))))
-        (view table (commandsOf (now (book .entry))) (now (site .entry))) r (now (site .exit)) ⌝ }
+        (view table (commandsOf (now (book .entry))) (now (site .entry))) (now (site .entry)) r (now (site .exit)) ⌝ }
 {
     let judged = judge(&site[..], table, commands, m);
     if let Verdict::Refused(_) = judged {

@@ -21,16 +21,12 @@ use Rattle.sets.specs.Sets.{has, emptyOf, withinOf, readSet}
 use Rattle.sets.proofs.Laws.{has-empty}
 use Rattle.register.specs.Register.{Within}
 use Rattle.layout.specs.declared.Site.{Site}
-use Rattle.layout.specs.Layout.{siteSize, spanPlace, registerPlace, deliveriesPlace, heardPlace, siteRounds, rowAt, inTable, cell, slot, headOf, heardIn, reached}
+use Rattle.layout.specs.Layout.{siteSize, spanPlace, registerPlace, deliveriesPlace, heardPlace, siteRounds, rowAt, inTable, cell, slot, headOf, heardIn, spanWith, reached}
 use Rattle.layout.specs.Good.{GoodTables}
 use Rattle.layout.proofs.Agree.{Agree, agree-before, agree-after, agree-trans, agree-part, agree-set, cell-inside, register-agree}
 use Rattle.layout.proofs.Fields.{Begins, begins-still, withSpan, span-begins}
 use Rattle.layout.proofs.Senders.{in-table, table-bounds}
 use Rattle.layout.proofs.Tables.{within-empty}
-
--- How many rows there are where round r was reached from k of them.
-abbrev pub spanWith : ℕ → ℕ → ℕ
-spanWith k r = pick (leb r k) k r
 
 -- What reaching a round makes of bytes with k rows.
 pub record Reaches (k r : ℕ) (b a : List ℕ) : Type 0 where

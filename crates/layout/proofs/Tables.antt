@@ -26,9 +26,9 @@ use Rattle.register.specs.Register.{Within, Valid, bikeOf}
 use Rattle.register.specs.Lent.{registerOf, bikeSize, bikeBytes, Executed}
 use Rattle.register.proofs.Laws.{kept-within}
 use Rattle.register.proofs.Lent.{length-bike}
-use Rattle.layout.specs.Layout.{siteSize, heardPlace, registerPlace, deliveriesPlace, siteRounds, rowAt, cell, slot, deliveryBytes}
+use Rattle.layout.specs.Layout.{siteSize, heardPlace, registerPlace, deliveriesPlace, siteRounds, rowSize, rowAt, cell, slot, heardIn, deliveryBytes}
 use Rattle.layout.specs.Good.{GoodTables}
-use Rattle.layout.proofs.Agree.{Agree, agree-before, agree-after, agree-equal, agree-trans, agree-part, agree-set, cell-inside, register-agree}
+use Rattle.layout.proofs.Agree.{Agree, agree-before, agree-after, agree-equal, agree-trans, agree-part, agree-set, cell-inside, heard-agree, register-agree}
 use Rattle.layout.proofs.Senders.{in-table, table-bounds, kept, here, elsewhere}
 use Rattle.layout.proofs.Deliveries.{length-delivery, delivery-back}
 
@@ -132,6 +132,12 @@ rest-agree k {b} {b′} e =
           (ap (λ (p : ℕ). drop p b′) (sym q) ∙ sym (drop-drop (i - heardPlace) heardPlace b′) ∙ ap (drop (i - heardPlace)) e ∙ drop-drop (i - heardPlace) heardPlace b
           ∙ ap (λ (p : ℕ). drop p b) q);
     }
+
+pub rest-heard : (k : ℕ) (b b′ : List ℕ) → drop heardPlace b′ ≡ drop heardPlace b → heardIn k b′ ≡ heardIn k b
+rest-heard k b b′ e = heard-agree k (rest-agree k e)
+
+pub rows-past : (k : ℕ) (b b′ : List ℕ) → drop heardPlace b′ ≡ drop heardPlace b → drop (rowAt k) b′ ≡ drop (rowAt k) b
+rows-past k b b′ e = sym (drop-drop (rowSize * k) heardPlace b′) ∙ ap (drop (rowSize * k)) e ∙ drop-drop (rowSize * k) heardPlace b
 
 pub tables-executed : (sites commands n k : ℕ) (c : Command) (b : List ℕ) {b′ : List ℕ} {z : ℤ} → length b ≡ siteSize → n ≤ capacity → Valid c
     → Executed c registerPlace b b′ z

@@ -139,6 +139,10 @@ heardIn k b j r m = inTable k j r && has (readLe setBytes b (cell j r)) m
 abbrev pub heardOf : List ℕ → ℕ → ℕ → ℕ → Bool
 heardOf b = heardIn (readLe 2 b spanPlace) b
 
+-- How many rows there are where round r was reached from k of them.
+abbrev pub spanWith : ℕ → ℕ → ℕ
+spanWith k r = pick (leb r k) k r
+
 -- The bytes with rows up to round r: those that were not there are empty.
 abbrev pub reached : List ℕ → ℕ → List ℕ
 reached b r =

@@ -22,7 +22,7 @@ use Rattle.protocol.specs.World as worlds
 use Rattle.protocol.specs.CommonSequence.{isTaken}
 use Rattle.system.specs.Dash.{dash}
 use Rattle.layout.specs.Layout.{siteSize, headOf, view}
-use Rattle.layout.specs.Good.{Good, Holds}
+use Rattle.layout.specs.Good.{Good, HoldsOver}
 use Rattle.entries.specs.declared.Entry.{Entry}
 use Rattle.entries.specs.Entries.{entrySize, entryOf, logTo, writeEntry, inRangeOf}
 use Rattle.sent.specs.Sent.{acksOf, checksOf, cellOf, acknowledgedIn, checkedIn, GoodSent}
@@ -78,7 +78,7 @@ module _ (t : SiteTable) (book : List Command) where
 
   -- The buffers hold a world: each site's bytes are that site's, they say the world, and they are good.
   pub record HoldsWorld (b : Buffers) (w : World (dash t book)) : Type 0 where
-    pub site : (i : ℕ) → i < t .sites → Holds t book (siteAt (b .sites) i) (w .site i)
+    pub site : (i : ℕ) → i < t .sites → HoldsOver t book (siteAt (b .sites) i) (siteAt (b .sites) i) (w .site i)
     pub says : worldOf b ≡ w
     pub good : GoodWorld t (length book) b
 
