@@ -309,13 +309,16 @@ module _ (b : List ℕ) (commands recorded : ℕ) where
             let x = ap (λ (i : ℕ). getD b i 0) q in
             lt-ltb _ commands (omega arith)
 
-    -- What the code tells.
+    -- What the code tells where none is recorded,
+    pub slots-none : {e : Bool} → recorded ≡ 0 → e ≡ clearFrom b deliveriesPlace (heardPlace - deliveriesPlace) → e ≡ all capacity (goodSlot commands recorded b)
+    slots-none z ee =
+        let q : deliveriesPlace ≡ slot recorded = omega arith in
+        slots-judged (omega arith) (all-zero (recordedAt commands b) ∙ ap (λ (n : ℕ). all n (recordedAt commands b)) (sym z)) (ee ∙ ap (λ (at : ℕ). clearFrom b at (heardPlace - at)) q)
+
+    -- and where one is.
     module _ {e : Bool} (l : recorded ≤ capacity) (ee : e ≡ clearFrom b (slot recorded) (heardPlace - slot recorded)) where
       pub slots-not : e ≡ false → false ≡ all capacity (goodSlot commands recorded b)
       slots-not h = sym (and-false (all recorded (recordedAt commands b))) ∙ slots-judged l refl (sym h ∙ ee)
-
-      pub slots-none : recorded ≡ 0 → e ≡ true → true ≡ all capacity (goodSlot commands recorded b)
-      slots-none z h = slots-judged l (all-zero (recordedAt commands b) ∙ ap (λ (n : ℕ). all n (recordedAt commands b)) (sym z)) (sym h ∙ ee)
 
       pub slots-some : 0 < recorded → e ≡ true → {w : Bool} → w ≡ all capacity (recordedAt commands b) → w ≡ all capacity (goodSlot commands recorded b)
       slots-some z h ew = sym (and-true _) ∙ slots-judged l (ew ∙ sym (recorded-all z l (sym ee ∙ h))) (sym h ∙ ee)

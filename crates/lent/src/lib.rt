@@ -201,16 +201,17 @@ fn commands_within(site: &[u8], commands: usize) -> bool
 }
 
 // Whether the recorded places for a delivery hold commands of the book, and those after them nothing. Where one is recorded, those that hold nothing may be taken for command 0.
+// Where none is, the words are as many as all places have, so that the compiler knows their number.
 fn judge_deliveries(site: &[u8], commands: usize, recorded: usize) -> bool
     requires { ⌜ (length (now site) ≡ siteSize) × (recorded ≤ capacity) ⌝ }
     ensures { λ r. ⌜ r ≡ all capacity (goodSlot commands recorded (now (site .entry))) ⌝ }
 {
+    if recorded == 0 {
+        return are_words_clear(site, Site::DELIVERIES, (Site::HEARD - Site::DELIVERIES) / 8);
+    }
     let rest = Site::DELIVERIES + Site::DELIVERY * recorded;
     if !is_rest_clear(site, rest) {
         return false;
-    }
-    if recorded == 0 {
-        return true;
     }
     commands_within(site, commands)
 }
