@@ -1,4 +1,4 @@
--- The tables of a lent site are good where the sets and commands that count are within the book and the bytes of all others are 0.
+-- Bytes that are 0, and the deliveries of a lent site: good where the commands that count are within the book and the bytes of all others are 0.
 -- Rests on sets' Laws.
 use mathlib.Core.Path.{_≡_, refl, sym, ap, subst, _∙_}
 use mathlib.Core.Bool.{Bool, true, false, not, _&&_, _||_}
@@ -9,21 +9,19 @@ use native.Mathlib.Nat.{mul-suc}
 use native.Mathlib.Decide.{ℕ-discrete}
 use native.Mathlib.Omega.{arith}
 use lib.Bits.{bitOr, or-lt}
-use lib.Dec.{eqb, leb, ltb, lit<}
+use lib.Dec.{eqb, ltb, lit<}
 use lib.ListN.{length, getD}
-use borrow.Author.Tests.{eq-eqb, ne-eqb, eqb-true, lt-ltb, le-ltb, ltb-true, ltb-false, le-leb, lt-leb, leb-true}
+use borrow.Author.Tests.{eq-eqb, ne-eqb, eqb-true, lt-ltb, le-ltb, ltb-true, ltb-false, le-leb, lt-leb}
 use Rattle.theory.specs.Sets.{all, pick}
-use Rattle.theory.specs.Counting.{both, left, right, never, same-test, lt-or-le, all-at, all-of, all-none, all-ext, any-not-all, not-not, or-false}
+use Rattle.theory.specs.Counting.{both, left, right, same-test, lt-or-le, all-at, all-of, all-ext, any-not-all, not-not, or-false}
 use Rattle.wire.specs.Wire.{readLe}
 use Rattle.wire.proofs.Laws.{read-suc, read-none, read-one}
 use Rattle.sets.specs.declared.Set.{Set}
-use Rattle.sets.specs.Sets.{capacity, inSet, emptyOf, unionOf, isEmptyOf, withinOf, setBytes, readSet}
-use Rattle.sets.proofs.Laws.{in-union, within-at, within-of, within-all, empty-word, read-fits}
-use Rattle.layout.specs.Layout.{siteSize, siteRounds, spanPlace, heardPlace, deliveriesPlace, deliverySize, cell, slot}
-use Rattle.table.specs.Table.{maxSites}
-use Rattle.layout.specs.Good.{goodCell, goodHeard, goodSlot}
-use Rattle.layout.proofs.Tables.{within-empty}
-use Rattle.lent.specs.Clear.{clearFrom, unionOfRounds, recordedAt}
+use Rattle.sets.specs.Sets.{capacity, inSet, unionOf, isEmptyOf, withinOf}
+use Rattle.sets.proofs.Laws.{in-union, empty-word}
+use Rattle.layout.specs.Layout.{siteSize, heardPlace, deliveriesPlace, deliverySize, slot}
+use Rattle.layout.specs.Good.{goodSlot}
+use Rattle.lent.specs.Clear.{clearFrom, recordedAt}
 
 -- ---- tests, all together
 
@@ -37,11 +35,11 @@ pub and-assoc : (a b c : Bool) → (a && b) && c ≡ a && (b && c)
 and-assoc true b c = refl
 and-assoc false b c = refl
 
-and-true : (a : Bool) → a && true ≡ a
+pub and-true : (a : Bool) → a && true ≡ a
 and-true true = refl
 and-true false = refl
 
-and-false : (a : Bool) → a && false ≡ false
+pub and-false : (a : Bool) → a && false ≡ false
 and-false true = refl
 and-false false = refl
 
@@ -49,17 +47,12 @@ pub same-false : (a : Bool) → (a ≡ true → ⊥) → a ≡ false
 same-false true h = absurd (h refl)
 same-false false h = refl
 
-absorbed : (x y : Bool) → (y ≡ true → x ≡ true) → x && y ≡ y
-absorbed x true h = ap (λ (t : Bool). t && true) (h refl)
-absorbed true false h = refl
-absorbed false false h = refl
-
 all-both : (n : ℕ) (p q : ℕ → Bool) → all n (λ m. p m && q m) ≡ all n p && all n q
 unfolding all
 all-both zero p q = refl
 all-both (suc n) p q = ap (λ (t : Bool). t && (p n && q n)) (all-both n p q) ∙ and-swap (all n p) (all n q) (p n) (q n)
 
-all-split : (m n : ℕ) (p : ℕ → Bool) → all (m + n) p ≡ all m p && all n (λ i. p (m + i))
+pub all-split : (m n : ℕ) (p : ℕ → Bool) → all (m + n) p ≡ all m p && all n (λ i. p (m + i))
 unfolding all
 all-split m zero p = let q : m + 0 ≡ m = omega arith in ap (λ (k : ℕ). all k p) q ∙ sym (and-true (all m p))
 all-split m (suc n) p =
@@ -93,14 +86,14 @@ within-union x y c =
     ∙ all-both capacity (λ m. not (inSet x m) || ltb m c) (λ m. not (inSet y m) || ltb m c)
 
 -- An empty set is one within a book of no commands.
-empty-within : (x : Set) → isEmptyOf x ≡ withinOf x 0
+pub empty-within : (x : Set) → isEmptyOf x ≡ withinOf x 0
 empty-within x =
     ap not (any-not-all capacity (inSet x))
     ∙ not-not (all capacity (λ m. not (inSet x m)))
     ∙ all-ext capacity (λ m. not (inSet x m)) (λ m. not (inSet x m) || ltb m 0)
     (λ m l. sym (or-false (not (inSet x m))) ∙ ap (λ (t : Bool). not (inSet x m) || t) (sym (le-ltb m 0 (omega arith))))
 
-zero-word : (x : Set) → x .bits < 2 ^ 64 → eqb (x .bits) 0 ≡ withinOf x 0
+pub zero-word : (x : Set) → x .bits < 2 ^ 64 → eqb (x .bits) 0 ≡ withinOf x 0
 zero-word x h = empty-word x h ∙ empty-within x
 
 pub or-zero : (a b : ℕ) → a < 2 ^ 64 → b < 2 ^ 64 → eqb (bitOr a b) 0 ≡ eqb a 0 && eqb b 0
@@ -195,93 +188,6 @@ rest-judged b from words size l g n ex et =
     (λ i. (ap (λ (z : ℕ). eqb z 0) ex ∙ clear-word 8 b from (omega (arith, size))) i && et i)
     ∙ clear-both b from 8 (heardPlace - 8 * words) (8 * words) (omega arith) (omega arith) (omega arith)
     ∙ ap (clearFrom b from) q
-
--- ---- the sets heard
-
--- A union is within a book where all its sets are.
-union-within : (b : List ℕ) (sender commands n : ℕ) → withinOf (unionOfRounds b sender n) commands ≡ all n (λ i. withinOf (readSet b (cell sender (i + 1))) commands)
-unfolding unionOfRounds all
-union-within b sender commands zero = within-empty commands
-union-within b sender commands (suc n) =
-    within-union (unionOfRounds b sender n) (readSet b (cell sender (n + 1))) commands
-    ∙ ap (λ (t : Bool). t && withinOf (readSet b (cell sender (n + 1))) commands) (union-within b sender commands n)
-
--- One set more.
-pub union-more : (b : List ℕ) (sender k at : ℕ) {x y z : Set} → at ≡ cell sender (k + 1) → x ≡ unionOfRounds b sender k → y ≡ readSet b at → z ≡ unionOf x y
-    → z ≡ unionOfRounds b sender (k + 1)
-unfolding unionOfRounds
-union-more b sender k at ea ex ey ez =
-    let q : suc k ≡ k + 1 = omega arith in ez ∙ (λ i. unionOf (ex i) ((ey ∙ ap (readSet b) ea) i)) ∙ ap (unionOfRounds b sender) q
-
-pub union-none : (b : List ℕ) (sender : ℕ) → emptyOf ≡ unionOfRounds b sender 0
-unfolding unionOfRounds
-union-none b sender = refl
-
-pub first-few : (t : Bool) (sites : ℕ) → sites ≤ maxSites → pick t sites 0 ≤ maxSites
-first-few true sites h = h
-first-few false sites h = omega arith
-
--- All sets of a sender.
-abbrev pub goodSender : ℕ → ℕ → List ℕ → ℕ → Bool
-goodSender sites commands b j = all (readLe 2 b spanPlace) (λ i. goodCell sites commands b j (i + 1))
-
-module _ (b : List ℕ) (sites commands : ℕ) (size : length b ≡ siteSize) (small : (i : ℕ) → getD b i 0 < 256) (rows : readLe 2 b spanPlace ≤ siteRounds) where
-  abbrev good : ℕ → ℕ → Bool
-  good = goodCell sites commands b
-
-  abbrev rounds : ℕ
-  rounds = readLe 2 b spanPlace
-
-  abbrev senders : ℕ → Bool
-  senders = goodSender sites commands b
-
-  spoken : (j r : ℕ) → j < sites → withinOf (readSet b (cell j r)) commands ≡ good j r
-  spoken j r l =
-      sym (and-true (withinOf (readSet b (cell j r)) commands))
-      ∙ ap (λ (t : Bool). withinOf (readSet b (cell j r)) commands && (t || eqb (readLe setBytes b (cell j r)) 0)) (sym (lt-ltb j sites l))
-
-  silent : (j r : ℕ) → sites ≤ j → cell j r + 8 ≤ siteSize → withinOf (readSet b (cell j r)) 0 ≡ good j r
-  unfolding readSet
-  silent j r g l =
-      let s = readSet b (cell j r) in
-      let e : eqb (readLe setBytes b (cell j r)) 0 ≡ withinOf s 0 = zero-word s (read-fits b (cell j r) small (omega (arith, size))) in
-      sym
-      (ap (λ (t : Bool). withinOf s commands && (t || eqb (readLe setBytes b (cell j r)) 0)) (le-ltb j sites g)
-      ∙ ap (λ (t : Bool). withinOf s commands && t) e
-      ∙ absorbed (withinOf s commands) (withinOf s 0) (λ h. within-of s commands (λ m lm hm. absurd (nothing (within-at s 0 h m lm hm)))))
-    where
-      nothing : {m : ℕ} → m < 0 → ⊥
-      nothing h = omega arith
-
-  -- The set of a sender in a round.
-  of-sender : (j i : ℕ) → j < maxSites → i < rounds → withinOf (readSet b (cell j (i + 1))) (pick (ltb j sites) commands 0) ≡ good j (i + 1)
-  of-sender j i l g =
-      ⊎-elim (λ h. ap (λ (t : Bool). withinOf (readSet b (cell j (i + 1))) (pick t commands 0)) (lt-ltb j sites h) ∙ spoken j (i + 1) h)
-      (λ h. ap (λ (t : Bool). withinOf (readSet b (cell j (i + 1))) (pick t commands 0)) (le-ltb j sites h) ∙ silent j (i + 1) h (omega arith)) (lt-or-le j sites)
-
-  -- What the code tells of one sender more.
-  module _ (sender : ℕ) {u : Set} {k n : ℕ} {t : Bool} (l : sender < maxSites) (ek : k ≡ rounds) (eu : u ≡ unionOfRounds b sender k)
-      (en : n ≡ pick (ltb sender sites) commands 0) (et : t ≡ withinOf u n) where
-    told : t ≡ senders sender
-    told =
-        et ∙ (λ i. withinOf ((eu ∙ ap (unionOfRounds b sender) ek) i) (en i)) ∙ union-within b sender (pick (ltb sender sites) commands 0) rounds
-        ∙ all-ext rounds _ (λ i. good sender (i + 1)) (λ i g. of-sender sender i l g)
-
-    pub senders-more : all sender senders ≡ true → t ≡ true → all (sender + 1) senders ≡ true
-    senders-more h y = sym (all-next sender senders (sym h) (sym y ∙ told))
-
-    pub senders-not : t ≡ false → false ≡ goodHeard sites commands b
-    senders-not y = sym (same-false (goodHeard sites commands b) (λ h. never t (told ∙ all-at maxSites senders h sender l) y))
-
-  -- Where the first looked at is the first that there is not, the book has all that a set can hold.
-  pub senders-first : all (pick (leb capacity commands) sites 0) senders ≡ true
-  senders-first = go (leb capacity commands) refl
-    where
-      go : (t : Bool) → leb capacity commands ≡ t → all (pick t sites 0) senders ≡ true
-      go true e =
-          all-of sites senders
-          (λ j l. all-of rounds _ (λ i _. sym (spoken j (i + 1) l) ∙ within-all (readSet b (cell j (i + 1))) commands (leb-true capacity commands e)))
-      go false e = all-none senders
 
 -- ---- the deliveries
 
@@ -403,13 +309,16 @@ module _ (b : List ℕ) (commands recorded : ℕ) where
             let x = ap (λ (i : ℕ). getD b i 0) q in
             lt-ltb _ commands (omega arith)
 
-    -- What the code tells.
+    -- What the code tells where none is recorded,
+    pub slots-none : {e : Bool} → recorded ≡ 0 → e ≡ clearFrom b deliveriesPlace (heardPlace - deliveriesPlace) → e ≡ all capacity (goodSlot commands recorded b)
+    slots-none z ee =
+        let q : deliveriesPlace ≡ slot recorded = omega arith in
+        slots-judged (omega arith) (all-zero (recordedAt commands b) ∙ ap (λ (n : ℕ). all n (recordedAt commands b)) (sym z)) (ee ∙ ap (λ (at : ℕ). clearFrom b at (heardPlace - at)) q)
+
+    -- and where one is.
     module _ {e : Bool} (l : recorded ≤ capacity) (ee : e ≡ clearFrom b (slot recorded) (heardPlace - slot recorded)) where
       pub slots-not : e ≡ false → false ≡ all capacity (goodSlot commands recorded b)
       slots-not h = sym (and-false (all recorded (recordedAt commands b))) ∙ slots-judged l refl (sym h ∙ ee)
-
-      pub slots-none : recorded ≡ 0 → e ≡ true → true ≡ all capacity (goodSlot commands recorded b)
-      slots-none z h = slots-judged l (all-zero (recordedAt commands b) ∙ ap (λ (n : ℕ). all n (recordedAt commands b)) (sym z)) (sym h ∙ ee)
 
       pub slots-some : 0 < recorded → e ≡ true → {w : Bool} → w ≡ all capacity (recordedAt commands b) → w ≡ all capacity (goodSlot commands recorded b)
       slots-some z h ew = sym (and-true _) ∙ slots-judged l (ew ∙ sym (recorded-all z l (sym ee ∙ h))) (sym h ∙ ee)

@@ -1,20 +1,20 @@
 // A lent site judged byte by byte, and a fresh site written over a lent buffer.
 ghost use mathlib.Core.Path.{_≡_};
 ghost use mathlib.Core.List.{List};
-ghost use Prim.Native.Nat.{_+_, _-_, _*_, _%_, _≤_, _<_};
+ghost use Prim.Native.Nat.{ℕ, _+_, _-_, _*_, _%_, _≤_, _<_};
 ghost use lib.ListN.{length};
 ghost use mathlib.Core.Bool.{_&&_};
 ghost use lib.Dec.{eqb, leb, ltb};
 ghost use Rattle.theory.specs.Sets.{all, pick};
 ghost use Rattle.wire.specs.Wire.{readLe};
-ghost use Rattle.sets.specs.Sets.{capacity};
+ghost use Rattle.sets.specs.Sets.{capacity, withinOf, loadSet};
 ghost use Rattle.table.specs.declared.SiteTable.{SiteTable};
 ghost use Rattle.table.specs.Table.{maxSites};
 ghost use Rattle.register.specs.declared.Command.{Command};
 ghost use Rattle.protocol.specs.Site as protocol;
 ghost use Rattle.system.specs.Dash.{dash};
-ghost use Rattle.layout.specs.Layout.{siteSize, siteRounds, spanPlace, heardPlace, deliverySize, headOf};
-ghost use Rattle.lent.specs.Clear.{clearFrom, unionOfRounds, recordedAt};
+ghost use Rattle.layout.specs.Layout.{siteSize, siteRounds, spanPlace, rowSize, heardPlace, deliverySize, headOf};
+ghost use Rattle.lent.specs.Clear.{clearFrom, united, goodSender, recordedAt};
 ghost use Rattle.layout.specs.Good.{goodHead, goodHeard, goodSlot, goodPhase, goodSite, Holds};
 use layout::Site;
 use sets::Set;
@@ -44,22 +44,6 @@ fn judge_header(site: &[u8], commands: usize) -> bool
         & sets.within(commands)
 }
 
-// The union of what a sender acknowledged in the first rounds.
-fn sender_union(site: &[u8], sender: usize, rounds: usize) -> Set
-    requires { ⌜ (length (now site) ≡ siteSize) × (sender < maxSites) × (rounds ≤ siteRounds) ⌝ }
-    ensures { λ r. ⌜ r ≡ unionOfRounds (now (site .entry)) sender rounds ⌝ }
-{
-    let from = Site::HEARD + Set::BYTES * sender;
-    let mut union = Set::empty();
-    let mut k = 0;
-    while k < rounds {
-        let set = Set::read(site, from + Site::ROW * k);
-        union = union.union(set);
-        k += 1;
-    }
-    union
-}
-
 // The first sender whose sets are looked at: a book of 64 commands has all that a set can hold.
 fn first_looked_at(sites: usize, commands: usize) -> usize
     ensures { λ r. ⌜ r ≡ pick (leb capacity commands) sites 0 ⌝ }
@@ -70,31 +54,74 @@ fn first_looked_at(sites: usize, commands: usize) -> usize
     0
 }
 
-// The commands that a sender may have acknowledged: none where there is no such sender.
-fn allowed(sender: usize, sites: usize, commands: usize) -> usize
-    ensures { λ r. ⌜ r ≡ pick (ltb sender sites) commands 0 ⌝ }
+// What the senders from one on acknowledged in the row at a place joins their unions.
+fn unite(unions: &mut [u64], site: &[u8], at: usize, from: usize)
+    requires { ⌜ (length (now unions) ≡ maxSites) × (at + rowSize ≤ length (now site)) × (from ≤ maxSites) ⌝ }
+    ensures { λ _. ⌜ ((j : ℕ) → loadSet (now (unions .exit)) j ≡ united (now (unions .entry)) (now (site .entry)) at from maxSites j) ⌝ }
 {
-    if sender < sites {
-        return commands;
+    let mut j = from;
+    while j < SiteTable::MAX_SITES {
+        unions[j] = unions[j] | wire::get8(site, at + Set::BYTES * j);
+        j += 1;
     }
-    0
 }
 
+// The union of the sets from one place up to another.
+fn union_between(unions: &[u64], from: usize, to: usize) -> Set
+    requires { ⌜ (from ≤ to) × (to ≤ length (now unions)) ⌝ }
+    ensures { λ r. ⌜ ((c : ℕ) → withinOf r c ≡ all (to - from) (λ k. withinOf (loadSet (now (unions .entry)) (from + k)) c)) ⌝ }
+{
+    let mut union = Set::empty();
+    let mut k = from;
+    while k < to {
+        union = union.union(Set::load(unions, k));
+        k += 1;
+    }
+    union
+}
+
+// Whether all that the senders from the first looked at on acknowledged in the first rounds is good: found by their unions,
+// row by row with all senders from one on side by side.
+fn judge_from(
+    site: &[u8],
+    sites: usize,
+    commands: usize,
+    rounds: usize,
+    first: usize,
+    from: usize,
+) -> bool
+    requires { ⌜ (length (now site) ≡ siteSize) × (sites ≤ maxSites) × (rounds ≤ siteRounds) × (first ≤ sites) × (from ≤ first) ⌝ }
+    ensures { λ r. ⌜ r ≡ all (maxSites - first) (λ k. goodSender sites commands (now (site .entry)) rounds (first + k)) ⌝ }
+{
+    let mut unions = [0u64; SiteTable::MAX_SITES];
+    let mut k = 0;
+    while k < rounds {
+        unite(&mut unions, site, Site::HEARD + Site::ROW * k, from);
+        k += 1;
+    }
+    let inside = union_between(&unions, first, sites);
+    let outside = union_between(&unions, sites, SiteTable::MAX_SITES);
+    inside.within(commands) & outside.is_empty()
+}
+
+// One half of the senders. Those before it are not united where none of them is looked at.
+const HALF: usize = 6;
+
 // Whether every set heard is within the book, and those of senders that there are not are empty.
+// The senders united are known to the compiler, 11 or 5, so that it unites a row without a loop.
 fn judge_heard(site: &[u8], sites: usize, commands: usize) -> bool
     requires { ⌜ (length (now site) ≡ siteSize) × (sites ≤ maxSites) × (readLe 2 (now site) spanPlace ≤ siteRounds) ⌝ }
     ensures { λ r. ⌜ r ≡ goodHeard sites commands (now (site .entry)) ⌝ }
 {
     let rounds = wire::get2(site, Site::SPAN) as usize;
-    let mut sender = first_looked_at(sites, commands);
-    while sender < SiteTable::MAX_SITES {
-        let union = sender_union(site, sender, rounds);
-        if !union.within(allowed(sender, sites, commands)) {
-            return false;
-        }
-        sender += 1;
+    let first = first_looked_at(sites, commands);
+    if (rounds == 0) | (first == SiteTable::MAX_SITES) {
+        return true;
     }
-    true
+    if first < HALF {
+        return judge_from(site, sites, commands, rounds, first, 0);
+    }
+    judge_from(site, sites, commands, rounds, first, HALF)
 }
 
 // Whether the bytes from one place up to another are 0: found by their union, without a branch a byte.
@@ -174,16 +201,17 @@ fn commands_within(site: &[u8], commands: usize) -> bool
 }
 
 // Whether the recorded places for a delivery hold commands of the book, and those after them nothing. Where one is recorded, those that hold nothing may be taken for command 0.
+// Where none is, the words are as many as all places have, so that the compiler knows their number.
 fn judge_deliveries(site: &[u8], commands: usize, recorded: usize) -> bool
     requires { ⌜ (length (now site) ≡ siteSize) × (recorded ≤ capacity) ⌝ }
     ensures { λ r. ⌜ r ≡ all capacity (goodSlot commands recorded (now (site .entry))) ⌝ }
 {
+    if recorded == 0 {
+        return are_words_clear(site, Site::DELIVERIES, (Site::HEARD - Site::DELIVERIES) / 8);
+    }
     let rest = Site::DELIVERIES + Site::DELIVERY * recorded;
     if !is_rest_clear(site, rest) {
         return false;
-    }
-    if recorded == 0 {
-        return true;
     }
     commands_within(site, commands)
 }
