@@ -1,13 +1,19 @@
 // The steps of a run, played one after another on lent buffers, with a line for each refused one.
 ghost use mathlib.Core.Path.{_≡_};
-ghost use Prim.Native.Nat.{_+_, _≤_, _<_};
-ghost use lib.ListN.{length};
+ghost use mathlib.Core.Bool.{true};
+ghost use mathlib.Core.List.{List};
+ghost use Prim.Native.Nat.{_+_, _*_, _≤_, _<_, ℕ};
+ghost use lib.ListN.{length, drop};
+ghost use Rattle.table.specs.Table.{isGood};
 ghost use Rattle.commands.specs.Book.{commandsOf};
 ghost use Rattle.refusals.specs.declared.Verdict.{Verdict};
 ghost use Rattle.refusals.specs.Refusals.{codeOf};
 ghost use Rattle.print.specs.Print.{Wrote};
 ghost use Rattle.runs.specs.Run as runs;
 ghost use Rattle.runs.specs.Run.{maxRun};
+ghost use Rattle.layout.specs.Layout.{siteSize};
+ghost use Rattle.steps.specs.Steps.{byte, readStep};
+ghost use Rattle.sent.specs.Sent.{GoodSent};
 ghost use Rattle.world.specs.Parts.{lent};
 ghost use Rattle.protocol.specs.World as protocol;
 ghost use Rattle.deliver.specs.Delivering.{Noted};
@@ -15,8 +21,10 @@ ghost use Rattle.moves.specs.Moves.{Ready};
 ghost use Rattle.roles.specs.Roles.{Roles};
 ghost use Rattle.rounds.specs.Rounds.{Kept};
 ghost use Rattle.play.specs.Played.{lineRoom, afterOf, CarriedOut, Playable, PlayedAll};
+ghost use Rattle.play.specs.Batches.{BatchOf, startOf};
 use refusals::Refusal;
 use steps::Reading;
+use steps::Step;
 use table::SiteTable;
 use world::Stepped;
 
@@ -24,6 +32,19 @@ use world::Stepped;
 pub struct Played {
     pub end: usize,
     pub entries: usize,
+}
+
+// A batch that was played: how many steps before its last, the position after it, and the number that answers the last.
+pub struct Batch {
+    pub past: usize,
+    pub next: usize,
+    pub code: u32,
+}
+
+// What a reading starts: many steps that were played, or one that is still to be carried out.
+pub enum Start {
+    Many(Batch),
+    One,
 }
 
 // The line of a step is written where it is refused.
@@ -91,6 +112,146 @@ fn carry_out(
     )
 }
 
+// Acknowledgments one after another, up to one that is refused.
+fn acknowledgments(
+    sites: &mut [u8],
+    sent: &[u8],
+    table: SiteTable,
+    roles: &[u8],
+    steps: &[u8],
+    from: usize,
+) -> Batch
+    requires { ⌜ (length (now sites) ≡ table .sites * siteSize) × Roles table (now roles) × (isGood table ≡ true) × GoodSent (now sent)
+        × (byte (now steps) from ≡ 2) × (from + 5 ≤ length (now steps)) × (length (now steps) < maxRun) ⌝ }
+    ensures { λ r. ⌜ ((entries : ℕ) → BatchOf table (now (steps .entry)) from entries (now (sent .entry)) (now (sites .entry)) r (now (sites .exit))) ⌝ }
+{
+    let n = steps.len();
+    let mut at = from;
+    loop {
+        let site = steps[at + 1];
+        let sender = steps[at + 2];
+        let round = steps[at + 3];
+        let number = steps[at + 4];
+        let verdict = arrivals::acknowledgment(
+            sites,
+            sent,
+            table,
+            roles,
+            site,
+            sender,
+            round,
+            number,
+        );
+        let code = refusals::code(verdict);
+        let next = at + 5;
+        if code != 0 || next + 5 > n || steps[next] != 2 {
+            return Batch {
+                past: (at - from) / 5,
+                next: next,
+                code: code,
+            };
+        }
+        at = next;
+    }
+}
+
+// Check messages one after another, up to one that is refused.
+fn checks(
+    sites: &mut [u8],
+    sent: &[u8],
+    table: SiteTable,
+    roles: &[u8],
+    steps: &[u8],
+    from: usize,
+) -> Batch
+    requires { ⌜ (length (now sites) ≡ table .sites * siteSize) × Roles table (now roles) × (isGood table ≡ true) × GoodSent (now sent)
+        × (byte (now steps) from ≡ 3) × (from + 4 ≤ length (now steps)) × (length (now steps) < maxRun) ⌝ }
+    ensures { λ r. ⌜ ((entries : ℕ) → BatchOf table (now (steps .entry)) from entries (now (sent .entry)) (now (sites .entry)) r (now (sites .exit))) ⌝ }
+{
+    let n = steps.len();
+    let mut at = from;
+    loop {
+        let site = steps[at + 1];
+        let sender = steps[at + 2];
+        let round = steps[at + 3];
+        let verdict = arrivals::check(sites, sent, table, roles, site, sender, round);
+        let code = refusals::code(verdict);
+        let next = at + 4;
+        if code != 0 || next + 4 > n || steps[next] != 3 {
+            return Batch {
+                past: (at - from) / 4,
+                next: next,
+                code: code,
+            };
+        }
+        at = next;
+    }
+}
+
+// Log reads one after another, up to one that is refused.
+fn log_reads(
+    sites: &mut [u8],
+    entries: usize,
+    table: SiteTable,
+    roles: &[u8],
+    steps: &[u8],
+    from: usize,
+) -> Batch
+    requires { ⌜ (length (now sites) ≡ table .sites * siteSize) × Roles table (now roles) × (entries ≤ 65535)
+        × (byte (now steps) from ≡ 9) × (from + 2 ≤ length (now steps)) × (length (now steps) < maxRun) ⌝ }
+    ensures { λ r. ⌜ ((sent : List ℕ) → BatchOf table (now (steps .entry)) from entries sent (now (sites .entry)) r (now (sites .exit))) ⌝ }
+{
+    let n = steps.len();
+    let mut at = from;
+    loop {
+        let site = steps[at + 1];
+        let verdict = moves::log_read(sites, entries, table, roles, site);
+        let code = refusals::code(verdict);
+        let next = at + 2;
+        if code != 0 || next + 2 > n || steps[next] != 9 {
+            return Batch {
+                past: (at - from) / 2,
+                next: next,
+                code: code,
+            };
+        }
+        at = next;
+    }
+}
+
+// A reading that can start a batch is played with what follows it.
+fn play_batch(
+    sites: &mut [u8],
+    sent: &[u8],
+    entries: usize,
+    table: SiteTable,
+    roles: &[u8],
+    steps: &[u8],
+    at: usize,
+    reading: Reading,
+) -> Start
+    requires { ⌜ (length (now sites) ≡ table .sites * siteSize) × (isGood table ≡ true) × Roles table (now roles) × GoodSent (now sent) × (entries ≤ 65535)
+        × (reading ≡ readStep (drop at (now steps))) × (at ≤ length (now steps)) × (length (now steps) < maxRun) ⌝ }
+    ensures { λ r. ⌜ startOf table (now (steps .entry)) at entries (now (sent .entry)) (now (sites .entry)) r (now (sites .exit)) ⌝ }
+{
+    let Reading::Whole(step) = reading else {
+        return Start::One;
+    };
+    match step {
+        Step::Acknowledgment { .. } => Start::Many(acknowledgments(
+            sites,
+            sent,
+            table,
+            roles,
+            steps,
+            at,
+        )),
+        Step::Check { .. } => Start::Many(checks(sites, sent, table, roles, steps, at)),
+        Step::LogRead { .. } => Start::Many(log_reads(sites, entries, table, roles, steps, at)),
+        _ => Start::One,
+    }
+}
+
 // The steps are played from the start of a run, with words to keep what the log says. Nothing is read after a step that cannot be read.
 fn play_on(
     sites: &mut [u8],
@@ -119,26 +280,38 @@ fn play_on(
     let mut number: usize = 1;
     while at < n {
         let reading = steps::read_step(steps, at);
-        let next = after(reading, at, n);
-        let stepped = carry_out(
-            sites,
-            log,
-            sent,
-            entries,
-            kept,
-            table,
-            roles,
-            book,
-            places,
-            rows,
-            commands,
-            reading,
-        );
-        let code = stepped.code;
-        end = report(out, end, number, code);
-        entries = stepped.entries;
-        at = next;
-        number += 1;
+        let start = play_batch(sites, &sent[..], entries, table, roles, steps, at, reading);
+        match start {
+            Start::Many(batch) => {
+                let last = number + batch.past;
+                let code = batch.code;
+                end = report(out, end, last, code);
+                at = batch.next;
+                number = last + 1;
+            }
+            Start::One => {
+                let next = after(reading, at, n);
+                let stepped = carry_out(
+                    sites,
+                    log,
+                    sent,
+                    entries,
+                    kept,
+                    table,
+                    roles,
+                    book,
+                    places,
+                    rows,
+                    commands,
+                    reading,
+                );
+                let code = stepped.code;
+                end = report(out, end, number, code);
+                entries = stepped.entries;
+                at = next;
+                number += 1;
+            }
+        }
     }
     Played {
         end: end,
