@@ -2,7 +2,7 @@
 -- Assumes nothing.
 use mathlib.Core.Path.{_≡_, refl, sym, ap, subst, _∙_}
 use mathlib.Core.List.{List, _++_}
-use Prim.Native.Nat.{ℕ, zero, suc, _+_, _*_, _≤_, _<_}
+use Prim.Native.Nat.{ℕ, zero, suc, _+_, _≤_, _<_}
 use native.Mathlib.Numerals.{add-one}
 use native.Mathlib.Omega.{arith}
 use lib.ListN.{length, drop}
@@ -12,7 +12,6 @@ use Rattle.table.specs.declared.SiteTable.{SiteTable}
 use Rattle.register.specs.declared.Command.{Command}
 use Rattle.protocol.specs.Recovery as recovery
 use Rattle.protocol.specs.World as protocol
-use Rattle.print.specs.Print.{Wrote}
 use Rattle.steps.specs.declared.Step.{Step}
 use Rattle.steps.specs.declared.Step.the-variants.{Acknowledgment, Check, LogRead}
 use Rattle.steps.specs.declared.Reading.the-variants.{Whole}
@@ -21,15 +20,15 @@ use Rattle.steps.specs.Meaning.{meaning}
 use Rattle.steps.proofs.Front.{front}
 use Rattle.steps.proofs.Laws.{byte-at, whole-at, of-code}
 use Rattle.steps.proofs.Walk.{inside}
-use Rattle.runs.specs.Run.{report}
 use Rattle.entries.specs.Entries.{logTo}
 use Rattle.world.specs.World.{Buffers, GoodWorld, Outcome}
 use Rattle.world.specs.Parts.{lent}
 use Rattle.play.specs.declared.Batch.{Batch}
+use Rattle.play.specs.declared.Told.{Told}
 use Rattle.play.specs.declared.Start.{Start}
 use Rattle.play.specs.declared.Start.the-variants.{Many, One}
-use Rattle.play.specs.Batches.{StepAt, Taken, InBatch, BatchOf, startOf}
-use Rattle.play.proofs.Laws.{silent, carried-step, Playing, playing-next}
+use Rattle.play.specs.Batches.{StepAt, Taken, InBatch, BatchOf, ToldOf, PlayedBatch, startOf}
+use Rattle.play.proofs.Laws.{silent, Playing, playing-more}
 
 -- ---- the step that stands at a position, by its code
 
@@ -99,53 +98,41 @@ module _ (t : SiteTable) (entries : ℕ) (sent : List ℕ) where
 
 -- ---- a batch in a run
 
-module _ (t : SiteTable) (book : List Command) (steps : List ℕ) (b : Buffers) (at : ℕ) (g : at ≤ length steps) where
-  -- A step has 2 bytes at least.
-  taken-within : (k : ℕ) (m : Buffers) (p : ℕ) → Taken t book steps b at k m p → (at + 2 * k ≤ p) × (p ≤ length steps)
-  taken-within zero m p h = (omega (arith, h .1), omega (arith, h .1))
-  taken-within (suc k) m p (m′, (p′, (h, s))) =
-      let r = taken-within k m′ p′ h in
-      let same : sizeOf (s .step) ≡ sizeOf (s .step) = refl in
-      let i = inside steps p′ (r .1) (s .read) same in
-      (omega (arith, r .0, i .0, s .past), omega (arith, i .1, s .past))
+module _ (t : SiteTable) (book : List Command) (steps : List ℕ) (b : Buffers) (at : ℕ) (before : List ℕ) (from : ℕ) {out : List ℕ} {end number : ℕ}
+    (p : Playing t book steps before from b out end at number) (l : end ≤ length out) where
+  -- Steps that are taken write no line.
+  playing-taken : (k : ℕ) (m : Buffers) (q : ℕ) → Taken t book steps b at k m q → Playing t book steps before from m out end q (number + k)
+  playing-taken zero m q h =
+      let e : number ≡ number + 0 = omega arith in
+      subst (λ (n : ℕ). Playing t book steps before from m out end q n) e
+      (subst (λ (x : Buffers). Playing t book steps before from x out end q number) (sym (h .0))
+      (subst (λ (x : ℕ). Playing t book steps before from b out end x number) (sym (h .1)) p))
+  playing-taken (suc k) m q (m′, (q′, (h, s))) =
+      let e : number + k + 1 ≡ number + suc k = omega arith in
+      subst (λ (n : ℕ). Playing t book steps before from m out end q n) e
+      (playing-more t book steps before from (playing-taken k m′ q′ h) l (s .read) (s .past) (s .did .outcome)
+      (silent out end (number + k) refl (s .did .verdict) (s .did .number)))
 
-  pub batch-within : {r : Batch} {after : Buffers} → InBatch t book steps b at r after → (at + 2 * (r .past) + 2 ≤ r .next) × (r .next ≤ length steps)
-  batch-within {r} x =
-      let l = taken-within (r .past) (x .before) (x .last) (x .taken) in
-      let same : sizeOf (x .ends .step) ≡ sizeOf (x .ends .step) = refl in
-      let i = inside steps (x .last) (l .1) (x .ends .read) same in
-      (omega (arith, l .0, i .0, x .ends .past), omega (arith, i .1, x .ends .past))
+  -- The last step of a batch gets its line.
+  pub playing-batch : {x : Batch} {r : Told} {after : Buffers} {out′ : List ℕ} → InBatch t book steps b at x after → ToldOf x number end out r out′
+      → Playing t book steps before from after out′ (r .end) (r .next) (r .number)
+  playing-batch {x} {r} {after} {out′} h w =
+      let s = h .ends in
+      subst (λ (n : ℕ). Playing t book steps before from after out′ (r .end) (r .next) n) (sym (w .counted))
+      (playing-more t book steps before from (playing-taken (x .past) (h .before) (h .last) (h .taken)) l (s .read) (w .onward ∙ s .past) (s .did .outcome)
+      (w .line (s .did .verdict) (s .did .number)))
 
-  module _ (before : List ℕ) (from : ℕ) {out : List ℕ} {end number : ℕ} (p : Playing t book steps before from b out end at number) (l : end ≤ length out) where
-    playing-step : {n : ℕ} {m : Buffers} {q : ℕ} → Playing t book steps before from m out end q n → q ≤ length steps → {code next : ℕ} {after : Buffers} {out′ : List ℕ} {end′ : ℕ}
-        → StepAt t book steps m q code after next → ((v : Verdict) → code ≡ codeOf v → Wrote out′ end′ out end (report n v)) → Playing t book steps before from after out′ end′ next (n + 1)
-    playing-step {q = q} y i s w =
-        let same : sizeOf (s .step) ≡ sizeOf (s .step) = refl in
-        let z = inside steps q i (s .read) same in
-        playing-next t book steps before from y (Whole (s .step)) l (omega (arith, z .0, z .1)) (s .read) (s .past) (carried-step t book refl (s .did)) w
+-- ---- what a step starts
 
-    -- Steps that are taken write no line.
-    playing-taken : (k : ℕ) (m : Buffers) (q : ℕ) → Taken t book steps b at k m q → Playing t book steps before from m out end q (number + k)
-    playing-taken zero m q h =
-        let e : number ≡ number + 0 = omega arith in
-        subst (λ (n : ℕ). Playing t book steps before from m out end q n) e
-        (subst (λ (x : Buffers). Playing t book steps before from x out end q number) (sym (h .0))
-        (subst (λ (x : ℕ). Playing t book steps before from b out end x number) (sym (h .1)) p))
-    playing-taken (suc k) m q (m′, (q′, (h, s))) =
-        let e : number + k + 1 ≡ number + suc k = omega arith in
-        subst (λ (n : ℕ). Playing t book steps before from m out end q n) e
-        (playing-step (playing-taken k m′ q′ h) (taken-within k m′ q′ h .1) s (silent out end (number + k) refl))
+module _ (t : SiteTable) (steps : List ℕ) (at entries : ℕ) (sent : List ℕ) (number end : ℕ) (sites out : List ℕ) {x : Start} (after lines : List ℕ)
+    (h : startOf t steps at entries sent number end sites out x after lines) where
+  pub many : {r : Told} → x ≡ Many r → PlayedBatch t steps at entries sent number end sites out r after lines
+  many e = subst (λ (y : Start). startOf t steps at entries sent number end sites out y after lines) e h
 
-    -- The last step of a batch gets its line.
-    pub playing-batch : {r : Batch} {after : Buffers} {out′ : List ℕ} {end′ : ℕ} → InBatch t book steps b at r after
-        → ((v : Verdict) → r .code ≡ codeOf v → Wrote out′ end′ out end (report (number + r .past) v)) → Playing t book steps before from after out′ end′ (r .next) (number + r .past + 1)
-    playing-batch {r} x w = playing-step (playing-taken (r .past) (x .before) (x .last) (x .taken)) (taken-within (r .past) (x .before) (x .last) (x .taken) .1) (x .ends) w
-
--- ---- what a reading starts
-
-module _ (t : SiteTable) (steps : List ℕ) (at entries : ℕ) (sent sites : List ℕ) {x : Start} (after : List ℕ) (h : startOf t steps at entries sent sites x after) where
-  pub many : {r : Batch} → x ≡ Many r → BatchOf t steps at entries sent sites r after
-  many e = subst (λ (y : Start). startOf t steps at entries sent sites y after) e h
-
-  pub one : x ≡ One → after ≡ sites
-  one e = subst (λ (y : Start). startOf t steps at entries sent sites y after) e h
+  -- Where nothing was done yet, the run stands where it stood.
+  pub playing-one : (book : List Command) (before : List ℕ) (from : ℕ) (log : List ℕ) → x ≡ One → Playing t book steps before from (lent sites log entries sent) out end at number
+      → Playing t book steps before from (lent after log entries sent) lines end at number
+  playing-one book before from log e p =
+      let o : (after ≡ sites) × (lines ≡ out) = subst (λ (y : Start). startOf t steps at entries sent number end sites out y after lines) e h in
+      subst (λ (y : List ℕ). Playing t book steps before from (lent y log entries sent) lines end at number) (sym (o .0))
+      (subst (λ (y : List ℕ). Playing t book steps before from (lent sites log entries sent) y end at number) (sym (o .1)) p)

@@ -1,6 +1,5 @@
-use mathlib.Core.Path.{_≡_, refl, sym, _∙_}
-use mathlib.Core.List.{List}
-use Prim.Native.Nat.{ℕ, _+_, _-_, _*_, _/_, _≤_, _<_}
+use mathlib.Core.Path.{_≡_, refl, _∙_}
+use Prim.Native.Nat.{ℕ, _+_, _-_, _/_, _≤_}
 use native.Mathlib.Omega.{arith}
 use borrow.Author.Needs.{needs}
 use borrow.Author.Tests.{ltb-false, eqb-true, not-false}
@@ -10,10 +9,6 @@ use Rattle.steps.specs.Steps.{byte}
 use Rattle.play.proofs.Batches.{reads-acknowledgment, TakenTo, taken-none, taken-more, batch-ends}
 use Rattle.play.proofs.acknowledgments.Statement.{statement}
 use Rattle.play.proofs.acknowledgments.Tie as tie
-use Rattle.play.proofs.acknowledgments.Reads as reads
-use Rattle.play.proofs.acknowledgments.Lts as lts
-use Rattle.arrivals.proofs.acknowledgment.Reads as acknowledgment-reads
-use Rattle.refusals.proofs.code.Reads as code-reads
 
 abbrev Inv-loop : tie.InvT-loop
 Inv-loop sites₀ sent table roles steps from n at₀ sites at =
@@ -90,9 +85,11 @@ returns c =
     let a = c .before .before .before .before .before .before .before .before .before .before .before .before .before .before .before in
     let s = now (a .args .steps) in
     let l = c .before .before .before .before .before .before .before .before .before .before .loop in
-    let k = c .before .before .before .before .acknowledgment in
-    λ entries. batch-ends (a .args .table) entries (now (a .args .sent)) s (a .args .from) (now (a .args .sites)) ((l .at - a .args .from) / 5) (l .at) (l .sites) (l .inv .4 entries)
-    (reads-acknowledgment s (l .at) (l .inv .3) (l .inv .2)) (k .result) _ (λ book log g w. k .ensures (length book) book log entries refl g) (c .before .code .ensures) refl
+    let k = c .before .before .before .before .acknowledgment in (
+      record { verdict = k .result; number = c .before .code .ensures; far = omega arith; inside = l .inv .2 },
+      (λ entries. batch-ends (a .args .table) entries (now (a .args .sent)) s (a .args .from) (now (a .args .sites)) ((l .at - a .args .from) / 5) (l .at) (l .sites) (l .inv .4 entries)
+          (reads-acknowledgment s (l .at) (l .inv .3) (l .inv .2)) (k .result) _ (λ book log g w. k .ensures (length book) book log entries refl g) (c .before .code .ensures) refl),
+    )
 
 loop-less : tie.Need-loop-less Inv-loop μ-loop
 loop-less c = search needs

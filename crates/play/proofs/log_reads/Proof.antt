@@ -1,6 +1,6 @@
-use mathlib.Core.Path.{_≡_, refl, sym, _∙_}
+use mathlib.Core.Path.{_≡_, refl, _∙_}
 use mathlib.Core.List.{List}
-use Prim.Native.Nat.{ℕ, _+_, _-_, _*_, _/_, _≤_, _<_}
+use Prim.Native.Nat.{ℕ, _+_, _-_, _/_, _≤_}
 use native.Mathlib.Omega.{arith}
 use borrow.Author.Needs.{needs}
 use borrow.Author.Tests.{ltb-false, eqb-true, not-false}
@@ -10,10 +10,6 @@ use Rattle.steps.specs.Steps.{byte}
 use Rattle.play.proofs.Batches.{reads-log-read, TakenTo, taken-none, taken-more, batch-ends}
 use Rattle.play.proofs.log_reads.Statement.{statement}
 use Rattle.play.proofs.log_reads.Tie as tie
-use Rattle.play.proofs.log_reads.Reads as reads
-use Rattle.play.proofs.log_reads.Lts as lts
-use Rattle.moves.proofs.log_read.Reads as log-read-reads
-use Rattle.refusals.proofs.code.Reads as code-reads
 
 abbrev Inv-loop : tie.InvT-loop
 Inv-loop sites₀ entries table roles steps from n at₀ sites at =
@@ -72,9 +68,11 @@ returns c =
     let a = c .before .before .before .before .before .before .before .before .before .before .before in
     let s = now (a .args .steps) in
     let l = c .before .before .before .before .before .before .before .loop in
-    let k = c .before .before .before .before .log-read in
-    λ sent. batch-ends (a .args .table) (a .args .entries) sent s (a .args .from) (now (a .args .sites)) ((l .at - a .args .from) / 2) (l .at) (l .sites) (l .inv .4 sent)
-    (reads-log-read s (l .at) (l .inv .3) (l .inv .2)) (k .result) _ (λ book log. k .ensures book log sent) (c .before .code .ensures) refl
+    let k = c .before .before .before .before .log-read in (
+      record { verdict = k .result; number = c .before .code .ensures; far = omega arith; inside = l .inv .2 },
+      (λ sent. batch-ends (a .args .table) (a .args .entries) sent s (a .args .from) (now (a .args .sites)) ((l .at - a .args .from) / 2) (l .at) (l .sites) (l .inv .4 sent)
+          (reads-log-read s (l .at) (l .inv .3) (l .inv .2)) (k .result) _ (λ book log. k .ensures book log sent) (c .before .code .ensures) refl),
+    )
 
 loop-less : tie.Need-loop-less Inv-loop μ-loop
 loop-less c = search needs
