@@ -69,10 +69,10 @@ fn tell(out: &mut [u8], end: usize, number: usize, batch: Batch) -> Told
 {
     let last = number + batch.past;
     let code = batch.code;
-    let past = report(out, end, last, code);
+    let after = report(out, end, last, code);
     let next = batch.next;
     Told {
-        end: past,
+        end: after,
         next: next,
         number: last + 1,
     }
