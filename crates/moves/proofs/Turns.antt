@@ -51,10 +51,11 @@ use Rattle.entries.specs.Entries.{logTo, writeEntry, viewEntry, inRangeOf}
 use Rattle.entries.proofs.Bytes.{Fits}
 use Rattle.sent.specs.Sent as sent
 use Rattle.sent.specs.Sent.{maxAcknowledgments, cellOf, acksOf, checksOf, acknowledgedIn, checkedIn, oneMore, checked}
-use Rattle.world.specs.World.{Buffers, siteAt, knownTo, entryFor, worldOf, HoldsWorld, Outcome, Answered}
+use Rattle.world.specs.World.{Buffers, siteAt, PastRows, knownTo, entryFor, worldOf, HoldsWorld, Outcome, Answered}
 use Rattle.world.specs.Parts.{lent, AtSite}
 use Rattle.world.proofs.Sites.{small-site}
-use Rattle.world.proofs.Hold.{seen, position-seen, put-holds, refused, taken, refused-site}
+use Rattle.world.proofs.Past.{past-held}
+use Rattle.world.proofs.Hold.{seen, position-seen, put-holds, refused, taken, past-at, refused-site}
 use Rattle.world.proofs.Growing.{entry-holds, acknowledgment-holds, check-holds}
 use Rattle.moves.specs.Moves.{Ready, TurnedBy}
 use Rattle.moves.proofs.Words.{undelivered-word, unacknowledged-word, pending-word, undelivered-known, unacknowledged-known}
@@ -220,6 +221,10 @@ module _ (t : SiteTable) (bytes rows : List ℕ) (b : Buffers) (i : ℕ) (ready 
           v (turned .site))
           x (judged ∙ v)
 
+      -- What is past the rows of the sites after a turn.
+      turned-past : PastRows (t .sites) (b .sites) sites
+      turned-past = past-at t book b (ready .world) (turn i) i inside h (past-held t book (omega arith) (turned .site))
+
       -- The world with the site as it is after a turn that is taken.
       put-turned : (a : Bool) → verdict (forTurn (dash t book) i (world .site i) (world .log)) ≡ Taken → acknowledges (dash t book) (world .site i) ≡ a
           → HoldsWorld t book (lent sites (b .log) (b .entries) (b .sent))
@@ -276,6 +281,7 @@ module _ (t : SiteTable) (bytes rows : List ℕ) (b : Buffers) (i : ℕ) (ready 
             (new .bytes
             ∙ sym (ap (λ (y : Bool). pick y (acknowledgedIn (b .sent) (cellOf i (world .site i .round)) (setOf capacity (undelivered (dash t book) (world .site i))))
             (checkedIn (b .sent) (cellOf i (world .site i .round)) (setOf capacity (undelivered (dash t book) (world .site i))))) (told .1)))
+            turned-past
 
       module _ (x : Set) (p : Proposal) (e : r ≡ turns.Proposed x p) where
         proposal-told : (verdict (forTurn (dash t book) i (world .site i) (world .log)) ≡ Taken) × (acknowledges (dash t book) (world .site i) ≡ false)
@@ -360,3 +366,4 @@ module _ (t : SiteTable) (bytes rows : List ℕ) (b : Buffers) (i : ℕ) (ready 
             (new .bytes
             ∙ sym (ap (λ (y : Bool). pick y (acknowledgedIn (b .sent) (cellOf i (world .site i .round)) (setOf capacity (undelivered (dash t book) (world .site i))))
             (checkedIn (b .sent) (cellOf i (world .site i .round)) (setOf capacity (undelivered (dash t book) (world .site i))))) (proposal-told .1)))
+            turned-past

@@ -98,27 +98,27 @@ module _ (t : SiteTable) (entries : ℕ) (sent : List ℕ) where
 
 -- ---- a batch in a run
 
-module _ (t : SiteTable) (book : List Command) (steps : List ℕ) (b : Buffers) (at : ℕ) (before : List ℕ) (from : ℕ) {out : List ℕ} {end number : ℕ}
-    (p : Playing t book steps before from b out end at number) (l : end ≤ length out) where
+module _ (t : SiteTable) (book : List Command) (steps : List ℕ) (b : Buffers) (at : ℕ) (before : List ℕ) (from : ℕ) {earlier : List ℕ} {out : List ℕ} {end number : ℕ}
+    (p : Playing t book steps before from earlier b out end at number) (l : end ≤ length out) where
   -- Steps that are taken write no line.
-  playing-taken : (k : ℕ) (m : Buffers) (q : ℕ) → Taken t book steps b at k m q → Playing t book steps before from m out end q (number + k)
+  playing-taken : (k : ℕ) (m : Buffers) (q : ℕ) → Taken t book steps b at k m q → Playing t book steps before from earlier m out end q (number + k)
   playing-taken zero m q h =
       let e : number ≡ number + 0 = omega arith in
-      subst (λ (n : ℕ). Playing t book steps before from m out end q n) e
-      (subst (λ (x : Buffers). Playing t book steps before from x out end q number) (sym (h .0))
-      (subst (λ (x : ℕ). Playing t book steps before from b out end x number) (sym (h .1)) p))
+      subst (λ (n : ℕ). Playing t book steps before from earlier m out end q n) e
+      (subst (λ (x : Buffers). Playing t book steps before from earlier x out end q number) (sym (h .0))
+      (subst (λ (x : ℕ). Playing t book steps before from earlier b out end x number) (sym (h .1)) p))
   playing-taken (suc k) m q (m′, (q′, (h, s))) =
       let e : number + k + 1 ≡ number + suc k = omega arith in
-      subst (λ (n : ℕ). Playing t book steps before from m out end q n) e
+      subst (λ (n : ℕ). Playing t book steps before from earlier m out end q n) e
       (playing-more t book steps before from (playing-taken k m′ q′ h) l (s .read) (s .past) (s .did .outcome)
       (silent out end (number + k) refl (s .did .verdict) (s .did .number)))
 
   -- The last step of a batch gets its line.
   pub playing-batch : {x : Batch} {r : Told} {after : Buffers} {out′ : List ℕ} → InBatch t book steps b at x after → ToldOf x number end out r out′
-      → Playing t book steps before from after out′ (r .end) (r .next) (r .number)
+      → Playing t book steps before from earlier after out′ (r .end) (r .next) (r .number)
   playing-batch {x} {r} {after} {out′} h w =
       let s = h .ends in
-      subst (λ (n : ℕ). Playing t book steps before from after out′ (r .end) (r .next) n) (sym (w .counted))
+      subst (λ (n : ℕ). Playing t book steps before from earlier after out′ (r .end) (r .next) n) (sym (w .counted))
       (playing-more t book steps before from (playing-taken (x .past) (h .before) (h .last) (h .taken)) l (s .read) (w .onward ∙ s .past) (s .did .outcome)
       (w .line (s .did .verdict) (s .did .number)))
 
@@ -130,9 +130,9 @@ module _ (t : SiteTable) (steps : List ℕ) (at entries : ℕ) (sent : List ℕ)
   many e = subst (λ (y : Start). startOf t steps at entries sent number end sites out y after lines) e h
 
   -- Where nothing was done yet, the run stands where it stood.
-  pub playing-one : (book : List Command) (before : List ℕ) (from : ℕ) (log : List ℕ) → x ≡ One → Playing t book steps before from (lent sites log entries sent) out end at number
-      → Playing t book steps before from (lent after log entries sent) lines end at number
-  playing-one book before from log e p =
+  pub playing-one : (book : List Command) (before : List ℕ) (from : ℕ) {earlier : List ℕ} (log : List ℕ) → x ≡ One → Playing t book steps before from earlier (lent sites log entries sent) out end at number
+      → Playing t book steps before from earlier (lent after log entries sent) lines end at number
+  playing-one book before from {earlier} log e p =
       let o : (after ≡ sites) × (lines ≡ out) = subst (λ (y : Start). startOf t steps at entries sent number end sites out y after lines) e h in
-      subst (λ (y : List ℕ). Playing t book steps before from (lent y log entries sent) lines end at number) (sym (o .0))
-      (subst (λ (y : List ℕ). Playing t book steps before from (lent sites log entries sent) y end at number) (sym (o .1)) p)
+      subst (λ (y : List ℕ). Playing t book steps before from earlier (lent y log entries sent) lines end at number) (sym (o .0))
+      (subst (λ (y : List ℕ). Playing t book steps before from earlier (lent sites log entries sent) y end at number) (sym (o .1)) p)

@@ -26,7 +26,8 @@ use Rattle.steps.specs.Meaning.{meaning}
 use Rattle.steps.proofs.Walk.{more-at, bad-at, end-at}
 use Rattle.lines.specs.Lines.{stepLine}
 use Rattle.runs.specs.Run.{report, stepLines, worldAfter}
-use Rattle.world.specs.World.{Buffers, worldOf, HoldsWorld, Outcome}
+use Rattle.world.specs.World.{Buffers, siteAt, PastRows, worldOf, HoldsWorld, Outcome}
+use Rattle.world.proofs.Past.{past-same, past-more}
 use Rattle.play.specs.Played.{linesRoom, PlayedAll}
 
 -- ---- the line of a step
@@ -72,30 +73,32 @@ loud number {s} {after} {at} {past} n w (Refused r) q = subst (λ (k : ℕ). Wro
 
 module _ (t : SiteTable) (book : List Command) where
   -- Played so far: what steps led to the world that the buffers hold, and what lines and world the steps left give from there.
-  pub record Playing (steps before : List ℕ) (from : ℕ) (b : Buffers) (out : List ℕ) (end at number : ℕ) : Type 0 where
+  pub record Playing (steps before : List ℕ) (from : ℕ) (earlier : List ℕ) (b : Buffers) (out : List ℕ) (end at number : ℕ) : Type 0 where
     pub past : List protocol.Step
     pub world : HoldsWorld t book b (play (dash t book) (start (dash t book)) past)
     pub lines :
         Left out end (stepLines t book number (play (dash t book) (start (dash t book)) past) (stepsOf (drop at steps))) before from
         (stepLines t book 1 (start (dash t book)) (stepsOf steps))
     pub after : worldAfter t book (play (dash t book) (start (dash t book)) past) (stepsOf (drop at steps)) ≡ worldAfter t book (start (dash t book)) (stepsOf steps)
+    pub kept : PastRows (t .sites) earlier (b .sites)
 
-  pub playing-none : (steps before : List ℕ) (from : ℕ) {b : Buffers} → HoldsWorld t book b (start (dash t book)) → Playing steps before from b before from 0 1
-  playing-none steps before from h =
+  pub playing-none : (steps before : List ℕ) (from : ℕ) {b : Buffers} → HoldsWorld t book b (start (dash t book)) → Playing steps before from (b .sites) b before from 0 1
+  playing-none steps before from {b} h =
       record {
         past = [];
         world = h;
         lines = left-all before from (stepLines t book 1 (start (dash t book)) (stepsOf steps));
         after = refl;
+        kept = λ i l. past-same (siteAt (b .sites) i);
       }
 
-  module _ (steps before : List ℕ) (from : ℕ) {b : Buffers} {out : List ℕ} {end at number : ℕ} (p : Playing steps before from b out end at number) where
+  module _ (steps before : List ℕ) (from : ℕ) {earlier : List ℕ} {b : Buffers} {out : List ℕ} {end at number : ℕ} (p : Playing steps before from earlier b out end at number) where
     now-world : worldOf t book b ≡ play (dash t book) (start (dash t book)) (p .past)
     now-world = p .world .says
 
     -- One step more.
     pub playing-more : {u : Step} {next : ℕ} {v : Verdict} {b′ : Buffers} {out′ : List ℕ} {end′ : ℕ} → end ≤ length out → readStep (drop at steps) ≡ Whole u → next ≡ at + sizeOf u
-        → Outcome t book (meaning u) b v b′ → Wrote out′ end′ out end (report number v) → Playing steps before from b′ out′ end′ next (number + 1)
+        → Outcome t book (meaning u) b v b′ → Wrote out′ end′ out end (report number v) → Playing steps before from earlier b′ out′ end′ next (number + 1)
     playing-more {u} {next} {v} {b′} {out′} {end′} h e q o w =
         record {
           past = p .past ++ (meaning u ∷ []);
@@ -110,6 +113,7 @@ module _ (t : SiteTable) (book : List Command) where
               ap (λ (x : World (dash t book)). worldAfter t book x rest) grown
               ∙ ap (worldAfter t book past) (sym left)
               ∙ p .after;
+          kept = λ i l. past-more (p .kept i l) (o .past i l);
         }
       where
         past : World (dash t book)
@@ -134,7 +138,7 @@ module _ (t : SiteTable) (book : List Command) where
 
     -- A step that cannot be read is the last.
     pub playing-last : {next : ℕ} {out′ : List ℕ} {end′ : ℕ} → end ≤ length out → at < length steps → readStep (drop at steps) ≡ Unreadable → next ≡ length steps
-        → Wrote out′ end′ out end (report number (Refused Form)) → Playing steps before from b out′ end′ next (number + 1)
+        → Wrote out′ end′ out end (report number (Refused Form)) → Playing steps before from earlier b out′ end′ next (number + 1)
     playing-last {next} {out′} {end′} h g e q w =
         record {
           past = p .past;
@@ -145,6 +149,7 @@ module _ (t : SiteTable) (book : List Command) where
               (subst (λ (l : List ℕ). Left out end l before from whole) (sym (append-nil (report number (Refused Form))))
               (subst (λ (rs : List Reading). Left out end (stepLines t book number past rs) before from whole) left (p .lines))));
           after = ap (worldAfter t book past) none ∙ ap (worldAfter t book past) (sym left) ∙ p .after;
+          kept = p .kept;
         }
       where
         past : World (dash t book)
@@ -160,12 +165,13 @@ module _ (t : SiteTable) (book : List Command) where
         none = end-at steps next (omega arith)
 
     -- No bytes are left.
-    pub playing-end : length steps ≤ at → end ≤ from + linesRoom → PlayedAll t book steps before out from end b
+    pub playing-end : length steps ≤ at → end ≤ from + linesRoom → PlayedAll t book steps before out from end earlier b
     playing-end g r =
         record {
           lines = left-none (subst (λ (rs : List Reading). Left out end (stepLines t book number past rs) before from whole) left (p .lines));
           world = subst (λ (x : World (dash t book)). HoldsWorld t book b x) (ap (worldAfter t book past) (sym left) ∙ p .after) (p .world);
           room = r;
+          past = p .kept;
         }
       where
         past : World (dash t book)

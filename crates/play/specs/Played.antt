@@ -17,7 +17,7 @@ use Rattle.steps.specs.Steps.{stepsOf}
 use Rattle.runs.specs.Run.{maxRun, stepLines, worldAfter}
 use Rattle.deliver.specs.Delivering.{Noted}
 use Rattle.entries.specs.Entries.{entrySize}
-use Rattle.world.specs.World.{Buffers, HoldsWorld}
+use Rattle.world.specs.World.{Buffers, PastRows, HoldsWorld}
 
 -- The bytes of the line of a refused step, at most: five digits of its place, one of the refusal.
 abbrev pub lineRoom : ℕ
@@ -43,7 +43,9 @@ pub record Playable (t : SiteTable) (book places rows : List ℕ) (commands : �
   pub world : HoldsWorld t (commandsOf book) b (start (dash t (commandsOf book)))
 
 -- Steps played from the start of a run: `before` became `after` by the lines of the refused ones, written from `from` to `end`.
-pub record PlayedAll (t : SiteTable) (book : List Command) (steps before after : List ℕ) (from end : ℕ) (b : Buffers) : Type 0 where
+-- What is past the rows of the sites is as it was in `earlier`.
+pub record PlayedAll (t : SiteTable) (book : List Command) (steps before after : List ℕ) (from end : ℕ) (earlier : List ℕ) (b : Buffers) : Type 0 where
   pub lines : Wrote after end before from (stepLines t book 1 (start (dash t book)) (stepsOf steps))
   pub world : HoldsWorld t book b (worldAfter t book (start (dash t book)) (stepsOf steps))
   pub room : end ≤ from + linesRoom
+  pub past : PastRows (t .sites) earlier (b .sites)

@@ -242,7 +242,7 @@ fn play_on(
 ) -> Played
     requires { ⌜ Playable table (now book) (now places) (now rows) commands (now steps) (now out) from (lent (now sites) (now log) 0 (now sent))
         × Roles table (now roles) × Kept table (now rows) (now log) 0 (now kept) ⌝ }
-    ensures { λ r. ⌜ PlayedAll table (commandsOf (now (book .entry))) (now (steps .entry)) (now (out .entry)) (now (out .exit)) from (r .end)
+    ensures { λ r. ⌜ PlayedAll table (commandsOf (now (book .entry))) (now (steps .entry)) (now (out .entry)) (now (out .exit)) from (r .end) (now (sites .entry))
         (lent (now (sites .exit)) (now (log .exit)) (r .entries) (now (sent .exit))) ⌝ }
 {
     let n = steps.len();
@@ -323,7 +323,7 @@ pub fn play_steps(
     from: usize,
 ) -> Played
     requires { ⌜ Playable table (now book) (now places) (now rows) commands (now steps) (now out) from (lent (now sites) (now log) 0 (now sent)) ⌝ }
-    ensures { λ r. ⌜ PlayedAll table (commandsOf (now (book .entry))) (now (steps .entry)) (now (out .entry)) (now (out .exit)) from (r .end)
+    ensures { λ r. ⌜ PlayedAll table (commandsOf (now (book .entry))) (now (steps .entry)) (now (out .entry)) (now (out .exit)) from (r .end) (now (sites .entry))
         (lent (now (sites .exit)) (now (log .exit)) (r .entries) (now (sent .exit))) ⌝ }
 {
     let mut kept = [0u64; rounds::WORDS];

@@ -18,7 +18,7 @@ pub struct Stepped {
 // Every site is fresh and nothing is sent.
 pub fn start(sites: &mut [u8], sent: &mut [u8], table: SiteTable)
     requires { ⌜ (length (now sites) ≡ table .sites * siteSize) × (length (now sent) ≡ sentSize) ⌝ }
-    ensures { λ _. ⌜ Started table (now (sites .exit)) (now (sent .exit)) (now (sent .entry)) ⌝ }
+    ensures { λ _. ⌜ Started table (now (sites .exit)) (now (sent .exit)) (now (sites .entry)) (now (sent .entry)) ⌝ }
 {
     let n = table.sites;
     let mut i: usize = 0;

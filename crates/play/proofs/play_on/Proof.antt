@@ -28,7 +28,7 @@ Inv-loop sites₀ log₀ sent₀ kept₀ table roles book places rows commands s
     × (length log ≡ length log₀)
     × (length sent ≡ length sent₀)
     × (length out ≡ length out₀)
-    × Playing table (commandsOf book) steps out₀ from (lent sites log entries sent) out end at number
+    × Playing table (commandsOf book) steps out₀ from sites₀ (lent sites log entries sent) out end at number
     × Kept table rows log entries kept
 
 abbrev μ-loop : tie.MeasureT-loop

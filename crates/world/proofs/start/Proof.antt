@@ -12,7 +12,7 @@ use Rattle.world.proofs.start.Statement.{statement}
 use Rattle.world.proofs.start.Tie as tie
 
 abbrev Inv-loop : tie.InvT-loop
-Inv-loop sites₀ sent n i₀ sites i = (i ≤ n) × (length sites ≡ length sites₀) × FreshTo i sites
+Inv-loop sites₀ sent n i₀ sites i = (i ≤ n) × (length sites ≡ length sites₀) × FreshTo i sites₀ sites
 
 abbrev μ-loop : tie.MeasureT-loop
 μ-loop sites₀ sent n i₀ sites i = n - i
@@ -56,7 +56,7 @@ loop-again c =
     let size = k .fresh .kept .0 ∙ length-part (l .sites) (l .i) ((l .i * siteSize + siteSize) - l .i * siteSize) e room in (
       omega arith,
       search needs,
-      fresh-more (l .sites) (l .i) ((l .i * siteSize + siteSize) - l .i * siteSize) _ _ e room size (l .inv .2) (k .fresh .ensures),
+      fresh-more _ (l .sites) (l .i) ((l .i * siteSize + siteSize) - l .i * siteSize) _ e room size (l .inv .2) (k .fresh .ensures),
     )
 
 clear-requires : tie.Need-clear-requires Inv-loop μ-loop
