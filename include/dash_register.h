@@ -137,8 +137,8 @@ uint32_t dash_register_delivery(size_t sites, size_t faults, const uint8_t *book
  *
  * A run that is refused changes `out` alone. After a run that is played `sites` starts with the n sites of its table as the last step
  * left them, DASH_REGISTER_SITE_BYTES each: dash_register_status, _bike and _delivery look at them, with the run's n, f and book. What
- * follows them is as it was. `log` starts with the log's entries; of the other bytes up to their sizes, of those past a site's last row,
- * and of `sent`, nothing is meant for the caller. */
+ * follows them, and what is past the last row of each, is as it was. `log` starts with the log's entries; of the other bytes of `log` and
+ * of `sent` up to their sizes nothing is meant for the caller. */
 size_t dash_register_run(const uint8_t *run, size_t run_length, uint8_t *sites, size_t sites_length, uint8_t *log, size_t log_length,
                          uint8_t *sent, size_t sent_length, uint8_t *out, size_t out_length);
 
