@@ -8,6 +8,10 @@
  * A buffer of a fixed size may be longer than that: what is past the size named here is not looked at and not changed.
  * `book` and `log` are taken whole. Any address will do; one divisible by 8 is best for speed.
  *
+ * A site is lent with its whole size, and ends within it: after its header, register and deliveries (632 bytes) it has a row of sets heard
+ * (88 bytes) for each round up to its span, the number in bytes 6 and 7. What is past its last row may be anything; it is not looked at
+ * and not changed.
+ *
  * Answers. 0 is success. Any other answer is a refusal: its number is one of DASH_REGISTER_REFUSED_.. below, and the call
  * has changed no byte of anything lent. Where several causes refuse, the first in the order 9, 2, 1, 3, 4, 6, 7, 8 is answered.
  * A record of deliveries that is full (9) is a cause only where the step would else be carried out. Nothing is refused for being busy.
@@ -71,7 +75,8 @@ uint32_t dash_register_judge_table(size_t sites, size_t faults, uint16_t mask);
 /* Whether some bytes are a book of 0 to 64 commands. 0 or 1. */
 uint32_t dash_register_judge_book(const uint8_t *book, size_t book_length);
 
-/* Writes a fresh site: acknowledging in round 1, nothing received, heard or delivered, log position 0, the initial register. 0 or 9. */
+/* Writes a fresh site: acknowledging in round 1, nothing received, heard or delivered, log position 0, the initial register. Its span is 0,
+ * so that only the first 632 bytes are written. 0 or 9. */
 uint32_t dash_register_fresh(uint8_t *site, size_t site_length);
 
 /* A command reached the site: it joins what the site has received. 0, 1, 2, 4 or 9. */
@@ -79,7 +84,8 @@ uint32_t dash_register_receive_command(size_t sites, size_t faults, const uint8_
                                        uint8_t *site, size_t site_length, size_t command);
 
 /* An acknowledgment of `sender` for `round` (1 to 33, past, present or to come) reached the site. It joins what the site has received
- * and is kept under its sender and its own round, united with what was there. 0, 1, 2, 4 or 9. */
+ * and is kept under its sender and its own round, united with what was there. Where the site has no row for that round, its span becomes
+ * the round and the new rows are cleared first. No other step changes the span or the rows. 0, 1, 2, 4 or 9. */
 uint32_t dash_register_receive_acknowledgment(size_t sites, size_t faults, const uint8_t *book, size_t book_length,
                                               uint8_t *site, size_t site_length, size_t sender, size_t round, uint64_t set);
 
@@ -131,8 +137,8 @@ uint32_t dash_register_delivery(size_t sites, size_t faults, const uint8_t *book
  *
  * A run that is refused changes `out` alone. After a run that is played `sites` starts with the n sites of its table as the last step
  * left them, DASH_REGISTER_SITE_BYTES each: dash_register_status, _bike and _delivery look at them, with the run's n, f and book. What
- * follows them is as it was. `log` starts with the log's entries; of the other bytes up to their sizes, and of `sent`, nothing is meant
- * for the caller. */
+ * follows them, and what is past the last row of each, is as it was. `log` starts with the log's entries; of the other bytes of `log` and
+ * of `sent` up to their sizes nothing is meant for the caller. */
 size_t dash_register_run(const uint8_t *run, size_t run_length, uint8_t *sites, size_t sites_length, uint8_t *log, size_t log_length,
                          uint8_t *sent, size_t sent_length, uint8_t *out, size_t out_length);
 

@@ -34,7 +34,7 @@ check "the answer of bench/run.sh" 0 "$?"
 for group in a:2 b:2 c:4 d:4 e:10 f:11; do
   check "rows ${group%:*} of runs" "${group#*:}" "$(rows 'Runs:' | grep "^${group%:*}  " | whole 7)"
 done
-check "rows of single calls" 88 "$(rows 'Single calls' | whole 6)"
+check "rows of single calls" 89 "$(rows 'Single calls' | whole 6)"
 
 # Each function of the header but for whole runs has a row that is answered 0, and each refusal of one site has one.
 functions=$(sed -nE 's/^[a-z0-9_]+ dash_register_([a-z_]+)\(.*/\1/p' include/dash_register.h | grep -vx run)

@@ -31,25 +31,40 @@ fn times_in_turn(program: &mut dyn Measured, runs: &[Vec<u8>], turn: Duration) -
     (turn.as_secs_f64() / once).clamp(1.0, 1e6) as usize
 }
 
-/// Nanoseconds a step of each program; the best time of the runs that lead up to the steps is taken off.
+/// One turn of a program: seconds for the runs, and for those that lead up to the steps.
+#[derive(Clone, Copy)]
+struct Turn {
+    whole: f64,
+    before: f64,
+}
+
+/// The best time counts. Where something is taken off, the middle one of the turns' differences counts: a difference
+/// of two best times, of different turns, can come out as nearly nothing.
+fn seconds(turns: &[Turn], has_before: bool) -> f64 {
+    let mut differences: Vec<f64> = turns.iter().map(|turn| turn.whole - turn.before).collect();
+    differences.sort_by(f64::total_cmp);
+    differences[if has_before { differences.len() / 2 } else { 0 }].max(0.0)
+}
+
+/// Nanoseconds a step of each program; the time of the runs that lead up to the steps is taken off.
 pub fn nanoseconds(programs: &mut [Box<dyn Measured>], workload: &Workload, effort: Effort) -> Vec<f64> {
     let mut times = Vec::new();
     for program in programs.iter_mut() {
         times.push(times_in_turn(program.as_mut(), &workload.runs, effort.turn));
     }
-    let mut best = vec![(f64::INFINITY, f64::INFINITY); programs.len()];
+    let mut turns = vec![Vec::new(); programs.len()];
     for turn in 0..effort.turns {
         for place in 0..programs.len() {
             // Each turn starts with another program.
             let which = (place + turn) % programs.len();
             let (program, times) = (programs[which].as_mut(), times[which]);
-            let (whole, before) = &mut best[which];
-            *whole = whole.min(time(program, &workload.runs, times));
-            *before = before.min(time(program, &workload.before, times));
+            let whole = time(program, &workload.runs, times);
+            let before = time(program, &workload.before, times);
+            turns[which].push(Turn { whole, before });
         }
     }
     let steps = workload.steps.max(1) as f64;
-    best.iter().map(|(whole, before)| (whole - before).max(0.0) * 1e9 / steps).collect()
+    turns.iter().map(|turns| seconds(turns, !workload.before.is_empty()) * 1e9 / steps).collect()
 }
 
 /// Panics where two programs print differently: times of different work are no comparison.

@@ -2,7 +2,7 @@
 
 use compare::books::Opening;
 use compare::lent_calls::{Buffer, Lent};
-use compare::site_bytes::encode;
+use compare::site_bytes::{encode, least_span, SITE_BYTES};
 use reference::{play_run, Entry, Set, Step, World, MOST_BYTES};
 
 pub struct Writer {
@@ -103,15 +103,18 @@ impl Writer {
         }
     }
 
-    /// What a host lends for a site as it stands.
+    /// What a host lends for a site as it stands: it has rows for the rounds in which it heard something.
     pub fn lent(&self, site: usize) -> Lent {
         let table = &self.world.rules.table;
         let log: Vec<u8> = self.world.log.iter().flat_map(Entry::bytes).collect();
+        let site = &self.world.sites[site];
+        let mut bytes = encode(site, least_span(site)).expect("a site of a run fits into its bytes");
+        bytes.resize(SITE_BYTES, 0);
         Lent {
             sites: table.sites(),
             faults: table.faults(),
             book: Buffer::new(&self.book, 0),
-            site: Buffer::new(&encode(&self.world.sites[site]).expect("a site of a run fits into its bytes"), 0),
+            site: Buffer::new(&bytes, 0),
             log: Buffer::new(&log, 0),
             out: Buffer::new(&[0; OUT_BYTES], 0),
         }

@@ -9,6 +9,11 @@
 #define GUARD 16
 #define LOG_ROOM (4 * DASH_REGISTER_ENTRY_BYTES)
 
+/* Where a site's span and its sets heard stand (docs/FORMAT.md), and the bytes of a row of them. */
+#define SPAN 6
+#define HEARD 632
+#define ROW 88
+
 /* Every buffer lent, each with bytes after it that no call may change. */
 static struct {
   uint8_t book[16 + GUARD];
@@ -29,6 +34,16 @@ static void expect(const char *what, uint32_t answer, uint32_t wanted) {
 /* Document 01's book: bike 5 gets dash 7 with the reading 14,000, and is read. */
 static const uint8_t two_commands[] = {0x02, 0x05, 0x07, 0, 0, 0, 0xB0, 0x36, 0, 0, 0x03, 0x05};
 
+/* All that is past a site's last row is as it was. */
+static void past_kept(const char *what) {
+  size_t end = HEARD + ROW * (lent.site[SPAN] + 256u * lent.site[SPAN + 1]);
+  check(what, end <= DASH_REGISTER_SITE_BYTES);
+  check(what, memcmp(lent.site + end, before.site + end, sizeof lent.site - end) == 0);
+}
+
+static void keep(void) { before = lent; }
+
+/* The buffers hold other bytes, of which the fresh site leaves those past its end. */
 static void start(void) {
   memset(&lent, 0xA5, sizeof lent);
   memcpy(lent.book, two_commands, sizeof two_commands);
@@ -38,10 +53,11 @@ static void start(void) {
   site_length = DASH_REGISTER_SITE_BYTES;
   log_length = 0;
   out_length = DASH_REGISTER_TURN_BYTES;
+  keep();
   expect("fresh", dash_register_fresh(lent.site, site_length), DASH_REGISTER_TAKEN);
+  check("a fresh site has no rows", lent.site[SPAN] == 0 && lent.site[SPAN + 1] == 0);
+  past_kept("fresh");
 }
-
-static void keep(void) { before = lent; }
 
 static void refused(const char *what, uint32_t answer, uint32_t wanted) {
   expect(what, answer, wanted);
@@ -53,7 +69,7 @@ static void taken(const char *what, uint32_t answer, size_t written) {
   expect(what, answer, DASH_REGISTER_TAKEN);
   check(what, memcmp(lent.book, before.book, sizeof lent.book) == 0);
   check(what, memcmp(lent.log, before.log, sizeof lent.log) == 0);
-  check(what, memcmp(lent.site + DASH_REGISTER_SITE_BYTES, before.site + DASH_REGISTER_SITE_BYTES, GUARD) == 0);
+  past_kept(what);
   check(what, memcmp(lent.out + written, before.out + written, sizeof lent.out - written) == 0);
 }
 
@@ -157,11 +173,53 @@ static void play_fast(void) {
   taken("turn", turn(0), sizeof acknowledged);
   written("an acknowledgment", acknowledged, sizeof acknowledged);
   refused("turn with nothing new", turn(0), DASH_REGISTER_REFUSED_DISABLED);
-  refused("not acknowledged by all", fast_delivery(0), DASH_REGISTER_REFUSED_DISABLED);
+  lent.site[HEARD] = 1;
+  refused("not acknowledged by all, whatever is past the span", fast_delivery(0), DASH_REGISTER_REFUSED_DISABLED);
   taken("acknowledgment", receive_acknowledgment(0, 1, 1), 0);
   taken("acknowledgment of a later round", receive_acknowledgment(0, 33, 0), 0);
   taken("fast delivery", fast_delivery(0), 0);
   refused("fast delivery again", fast_delivery(0), DASH_REGISTER_REFUSED_DISABLED);
+}
+
+/* There are so many rows, all clear but for the set of sender 0 in the last one. */
+static void rows_are(const char *what, size_t rows, uint8_t set) {
+  static uint8_t wanted[DASH_REGISTER_SITE_BYTES];
+  memset(wanted, 0, sizeof wanted);
+  wanted[ROW * (rows - 1)] = set;
+  check(what, lent.site[SPAN] == rows && lent.site[SPAN + 1] == 0);
+  check(what, memcmp(lent.site + HEARD, wanted, ROW * rows) == 0);
+}
+
+/* Rows come with the acknowledgments, and are clear but for these, whatever was there. */
+static void hear(void) {
+  start();
+  taken("an empty acknowledgment", receive_acknowledgment(0, 2, 0), 0);
+  rows_are("two rows", 2, 0);
+  taken("an acknowledgment within the span", receive_acknowledgment(0, 2, 1), 0);
+  taken("another one", receive_acknowledgment(0, 2, 2), 0);
+  rows_are("both united", 2, 3);
+  lent.site[HEARD + ROW] = 0;
+  taken("an acknowledgment of the last round", receive_acknowledgment(0, 33, 1), 0);
+  rows_are("all rows", 33, 1);
+}
+
+/* Only rows up to the span are judged. */
+static void judge_rows(void) {
+  start();
+  lent.site[HEARD] = 4;
+  taken("a set past the span", receive_command(0), 0);
+  taken("acknowledgment", receive_acknowledgment(0, 1, 1), 0);
+  lent.site[HEARD] = 4;
+  refused("a set heard beyond the book", receive_command(0), DASH_REGISTER_REFUSED_RANGE);
+  lent.site[HEARD] = 0;
+  lent.site[HEARD + ROW - 1] = 1;
+  refused("a set heard of no sender", receive_command(0), DASH_REGISTER_REFUSED_RANGE);
+  start();
+  lent.site[SPAN] = 34;
+  refused("span 34", status(), DASH_REGISTER_REFUSED_RANGE);
+  lent.site[SPAN] = 0;
+  lent.site[SPAN + 1] = 1;
+  refused("span in its last byte", receive_command(0), DASH_REGISTER_REFUSED_RANGE);
 }
 
 static void refuse_sizes(void) {
@@ -207,10 +265,10 @@ static void refuse_form_and_range(void) {
   refused("cut entry, round end", round_end(), DASH_REGISTER_REFUSED_FORM);
   refused("round 34 of a site", status(), DASH_REGISTER_REFUSED_RANGE);
   start();
-  lent.site[DASH_REGISTER_SITE_BYTES - 1] = 1;
+  lent.site[HEARD - 1] = 1;
   refused("answer where nothing is recorded", receive_command(0), DASH_REGISTER_REFUSED_RANGE);
   start();
-  lent.site[7] = 1;
+  lent.site[5] = 1;
   refused("number of deliveries in its last byte", receive_command(0), DASH_REGISTER_REFUSED_RANGE);
   start();
   refused("command beyond the book", receive_command(2), DASH_REGISTER_REFUSED_RANGE);
@@ -265,6 +323,8 @@ int main(void) {
   play_case(0);
   play_case(GUARD / 2);
   play_fast();
+  hear();
+  judge_rows();
   refuse_sizes();
   refuse_table_and_book();
   refuse_form_and_range();

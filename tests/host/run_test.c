@@ -26,8 +26,9 @@ static const uint8_t one_site[] = {1, 0, 0, 0, sizeof book, 0, 0x02, 0x05, 0x07,
                                    1, 0, 0, 1, 0, 1, 7, 0, 9, 0, 10, 0};
 static const char one_site_print[] = "run 1 sites 0 liars 2 commands\nsite 00 round 02 delivered 00=0 01=14000\n";
 
-/* Of six sites, site 3 gets command 0 and takes a turn. */
-static const uint8_t six_sites[] = {6, 1, 0, 0, sizeof book, 0, 0x02, 0x05, 0x07, 0, 0, 0, 0xB0, 0x36, 0, 0, 0x03, 0x05, 1, 3, 0, 7, 3};
+/* Of six sites, site 3 gets command 0 and takes a turn; its acknowledgment reaches site 1. */
+static const uint8_t six_sites[] = {6, 1, 0, 0, sizeof book, 0, 0x02, 0x05, 0x07, 0, 0, 0, 0xB0, 0x36, 0, 0, 0x03, 0x05, 1, 3, 0, 7, 3,
+                                    2, 1, 3, 1, 1};
 
 /* Other bytes each time, in every buffer. */
 static void start(uint32_t seed) {
@@ -82,18 +83,24 @@ static void play_one_site(uint32_t seed, size_t more) {
   check("delivery", memcmp(seen, delivery, sizeof delivery) == 0);
 }
 
-/* The sites are those of the one-site engine after the same steps. */
+/* The sites are those of the one-site engine after the same steps, on the same bytes. */
 static void play_six_sites(uint32_t seed) {
-  uint8_t fresh[DASH_REGISTER_SITE_BYTES], third[DASH_REGISTER_SITE_BYTES], turn[DASH_REGISTER_TURN_BYTES];
+  uint8_t turn[DASH_REGISTER_TURN_BYTES];
   start(seed);
   check("answer", run(six_sites, sizeof six_sites) > 0);
   rest_kept("past six sites", 6);
-  check("fresh", dash_register_fresh(fresh, sizeof fresh) == DASH_REGISTER_TAKEN);
-  memcpy(third, fresh, sizeof third);
-  check("command", dash_register_receive_command(6, 1, book, sizeof book, third, sizeof third, 0) == DASH_REGISTER_TAKEN);
-  check("turn", dash_register_turn(6, 1, book, sizeof book, third, sizeof third, NULL, 0, 3, turn, sizeof turn) == DASH_REGISTER_TAKEN);
-  for (size_t i = 0; i < 6; i++)
-    check("a site's bytes", memcmp(lent.sites + i * DASH_REGISTER_SITE_BYTES, i == 3 ? third : fresh, sizeof fresh) == 0);
+  for (size_t i = 0; i < 6; i++) {
+    size_t size = DASH_REGISTER_SITE_BYTES;
+    uint8_t *site = before.sites + i * size;
+    check("fresh", dash_register_fresh(site, size) == DASH_REGISTER_TAKEN);
+    if (i == 1)
+      check("acknowledgment", dash_register_receive_acknowledgment(6, 1, book, sizeof book, site, size, 3, 1, 1) == DASH_REGISTER_TAKEN);
+    if (i == 3) {
+      check("command", dash_register_receive_command(6, 1, book, sizeof book, site, size, 0) == DASH_REGISTER_TAKEN);
+      check("turn", dash_register_turn(6, 1, book, sizeof book, site, size, NULL, 0, 3, turn, sizeof turn) == DASH_REGISTER_TAKEN);
+    }
+    check("a site's bytes", memcmp(lent.sites + i * size, site, size) == 0);
+  }
 }
 
 static void refused(const char *what, size_t answer) {

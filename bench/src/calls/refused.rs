@@ -2,7 +2,7 @@
 
 use super::cases::{middle, Case};
 use compare::lent_calls::{Buffer, Call, Lent};
-use compare::site_bytes::SITE_BYTES;
+use compare::site_bytes::{rows_end, span, HEARD, SITE_BYTES};
 
 /// The site with one byte changed.
 fn with_byte(lent: &Lent, at: usize, byte: u8) -> Lent {
@@ -25,13 +25,15 @@ fn at_fault(lent: &Lent) -> Vec<Case> {
     short.site.cut(SITE_BYTES - 1);
     cut.log.cut(lent.log.length() - 1);
     let book = Buffer::new(&[lent.book.lent(), &[3, 5]].concat(), 0);
+    let end = rows_end(span(lent.site.lent()));
     vec![
         Case::new("refused 9: site short", receive, short, 9),
         Case::new("refused 2: 6 sites, 2 faults", receive, Lent { faults: 2, ..lent.clone() }, 2),
         Case::new("refused 1: a 65th command", receive, Lent { book, ..lent.clone() }, 1),
         Case::new("refused 3: log cut", Call::LogRead, cut, 3),
         Case::new("refused 4: site's first byte", receive, with_byte(lent, 0, 0), 4),
-        Case::new("refused 4: site's last byte", receive, with_byte(lent, SITE_BYTES - 1, 1), 4),
+        Case::new("refused 4: last delivery", receive, with_byte(lent, HEARD - 1, 1), 4),
+        Case::new("refused 4: site's last byte", receive, with_byte(lent, end - 1, 1), 4),
         Case::new("refused 4: command 64", Call::ReceiveCommand { command: 64 }, lent.clone(), 4),
     ]
 }

@@ -1,14 +1,14 @@
 //! What a call has changed of a lent site is written back before the next one, field by field and nothing else, so
 //! that all programs meet the same bytes and the time for it is small.
 
-use compare::site_bytes::SITE_BYTES;
+use compare::site_bytes::{HEARD, SITE_BYTES};
 
 /// Where the fields of each width begin that a call changes.
 #[derive(Default)]
 pub struct Restore {
     words: Vec<usize>,
     numbers: Vec<usize>,
-    positions: Vec<usize>,
+    shorts: Vec<usize>,
     bytes: Vec<usize>,
 }
 
@@ -29,12 +29,12 @@ impl Restore {
         if before.len() < SITE_BYTES {
             return Restore::default();
         }
-        let deliveries = (3216..SITE_BYTES).step_by(5);
-        let numbers = std::iter::once(4).chain((2960..3216).step_by(4)).chain(deliveries.clone().map(|at| at + 1));
+        let deliveries = (312..HEARD).step_by(5);
+        let numbers = (56..312).step_by(4).chain(deliveries.clone().map(|at| at + 1));
         Restore {
-            words: changed::<8>(before, after, (8..2960).step_by(8)),
+            words: changed::<8>(before, after, (8..56).chain(HEARD..SITE_BYTES).step_by(8)),
             numbers: changed::<4>(before, after, numbers),
-            positions: changed::<2>(before, after, std::iter::once(2)),
+            shorts: changed::<2>(before, after, (2..8).step_by(2)),
             bytes: changed::<1>(before, after, (0..2).chain(deliveries)),
         }
     }
@@ -43,7 +43,7 @@ impl Restore {
     pub fn write_back(&self, before: &[u8], site: &mut [u8]) {
         copy::<8>(before, site, &self.words);
         copy::<4>(before, site, &self.numbers);
-        copy::<2>(before, site, &self.positions);
+        copy::<2>(before, site, &self.shorts);
         copy::<1>(before, site, &self.bytes);
     }
 }

@@ -3,15 +3,17 @@
 use crate::tuned::book::{BIKES, MOST_READING};
 use crate::tuned::COMMANDS;
 
-/// What is noted of each command while a book is judged.
+/// What is noted of each command while a book is judged; none where it is a 65th.
 pub trait Noted {
-    fn note(&mut self, number: usize, place: usize);
+    fn note(&mut self, number: usize, place: usize) -> Option<()>;
 }
 
 /// Nothing but the number of commands is wanted.
 impl Noted for () {
     #[inline(always)]
-    fn note(&mut self, _number: usize, _place: usize) {}
+    fn note(&mut self, number: usize, _place: usize) -> Option<()> {
+        (number < COMMANDS).then_some(())
+    }
 }
 
 /// Where each command of a book begins. A book that is taken has at most 640 bytes.
@@ -31,8 +33,9 @@ impl Places {
 
 impl Noted for Places {
     #[inline(always)]
-    fn note(&mut self, number: usize, place: usize) {
-        self.0[number % COMMANDS] = place as u16;
+    fn note(&mut self, number: usize, place: usize) -> Option<()> {
+        *self.0.get_mut(number)? = place as u16;
+        Some(())
     }
 }
 
@@ -45,14 +48,31 @@ fn is_start(fit: &[u8; LONGEST]) -> bool {
     fit.last_chunk().is_some_and(|start| u32::from_le_bytes(*start) <= MOST_READING as u32)
 }
 
+/// The size of a command of this kind, which is no FIT; none where there is none.
+#[inline(always)]
+fn short_size(kind: u8) -> Option<usize> {
+    match kind {
+        0x01 | 0x04 => Some(4),
+        0x03 => Some(2),
+        _ => None,
+    }
+}
+
+/// The size of the command at the front of bytes enough for any; none where there is none. Branches on the kind are
+/// foretold, while each command would wait for a table of sizes; kind and start are tested at once, so that no table
+/// of jumps comes of the kinds.
+#[inline(always)]
+fn long_size(front: &[u8; LONGEST]) -> Option<usize> {
+    if (front[0] == 0x02) & is_start(front) {
+        return Some(LONGEST);
+    }
+    short_size(front[0])
+}
+
 /// The size of the command in bytes too few for a FIT; none where there is none.
 #[inline(always)]
 fn size(bytes: &[u8]) -> Option<usize> {
-    let size = match bytes.first()? {
-        0x01 | 0x04 => 4,
-        0x03 => 2,
-        _ => return None,
-    };
+    let size = short_size(*bytes.first()?)?;
     (usize::from(*bytes.get(1)?) < BIKES && size <= bytes.len()).then_some(size)
 }
 
@@ -60,31 +80,15 @@ fn size(bytes: &[u8]) -> Option<usize> {
 #[inline(always)]
 pub fn measure(book: &[u8], noted: &mut impl Noted) -> Option<usize> {
     let (mut rest, mut number, mut bikes) = (book, 0, 0);
-    // Only near the end can an operand be cut. Branches on the kind are foretold, while each command would wait for
-    // a table of sizes; and the kinds of one size are tested such that no table of jumps comes of it.
+    // Only near the end can an operand be cut.
     while let Some(front) = rest.first_chunk::<LONGEST>() {
-        if number == COMMANDS {
-            return None;
-        }
-        noted.note(number, book.len() - rest.len());
+        noted.note(number, book.len() - rest.len())?;
         bikes |= usize::from(front[1]);
-        let kind = front[0];
-        if kind == 0x02 && is_start(front) {
-            rest = &rest[LONGEST..];
-        } else if kind & !0x05 == 0 && kind != 0 && kind != 0x05 {
-            rest = &rest[4..];
-        } else if kind == 0x03 {
-            rest = &rest[2..];
-        } else {
-            return None;
-        }
+        rest = &rest[long_size(front)?..];
         number += 1;
     }
     while !rest.is_empty() {
-        if number == COMMANDS {
-            return None;
-        }
-        noted.note(number, book.len() - rest.len());
+        noted.note(number, book.len() - rest.len())?;
         rest = &rest[size(rest)?..];
         number += 1;
     }

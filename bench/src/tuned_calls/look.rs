@@ -1,6 +1,6 @@
 //! The calls that look at a lent site.
 
-use super::site::{count, COUNT, DELIVERIES, DELIVERY, PHASE, POSITION, REGISTER, ROUND, SITE_BYTES};
+use super::site::{count, COUNT, DELIVERIES, DELIVERY, HEARD, PHASE, POSITION, REGISTER, ROUND, SITE_BYTES};
 use super::{judge, number};
 use crate::tuned::book::BIKES;
 use crate::tuned::{Refusal, RANGE, ROOM};
@@ -34,7 +34,7 @@ pub fn delivery(sites: usize, faults: usize, book: &[u8], site: &[u8], k: usize,
         let site = site.first_chunk::<SITE_BYTES>().ok_or(ROOM)?;
         let out = out.first_chunk_mut::<DELIVERY>().ok_or(ROOM)?;
         judge((sites, faults), book, site, &mut ())?;
-        let deliveries = site[DELIVERIES..].as_chunks().0;
+        let deliveries = site[DELIVERIES..HEARD].as_chunks().0;
         *out = *deliveries.get(..count(site)).and_then(|recorded| recorded.get(k)).ok_or(RANGE)?;
         Ok(())
     })())

@@ -67,7 +67,7 @@ pub fn fresh(site: &mut [u8]) -> Refusal {
     let Some(site) = site.first_chunk_mut::<SITE_BYTES>() else {
         return ROOM;
     };
-    site.fill(0);
+    site[..site::HEARD].fill(0);
     site[site::ROUND] = 1;
     TAKEN
 }

@@ -1,6 +1,6 @@
 //! What reaches a lent site.
 
-use super::site::{heard, put_word, Bytes, RECEIVED, ROUNDS, SITE_BYTES};
+use super::site::{hear, put_word, Bytes, RECEIVED, ROUNDS, SITE_BYTES};
 use super::{judge, number};
 use crate::tuned::{word, Refusal, RANGE, ROOM};
 
@@ -37,8 +37,7 @@ pub fn receive_acknowledgment(
         if sender >= sites || round.wrapping_sub(1) >= ROUNDS || set & frame.beyond != 0 {
             return Err(RANGE);
         }
-        let at = heard(sender, round);
-        put_word(site, at, word(site, at) | set);
+        hear(site, sender, round, set);
         join(site, set);
         Ok(())
     })())

@@ -22,17 +22,18 @@ pub fn turn(
     number((|| {
         let site = site.first_chunk_mut::<SITE_BYTES>().ok_or(ROOM)?;
         let out = out.first_chunk_mut::<TURN_BYTES>().ok_or(ROOM)?;
-        let mut places = Places::new();
-        let (frame, entries, read) = judge_with_log((sites, faults), book, site, log, &mut places)?;
-        let mut prefix = Prefix::new(sites);
-        prefix.judge::<false>(read, &frame, site[ROUND])?;
-        if own >= sites {
-            return Err(RANGE);
-        }
         let open = word(site, RECEIVED) & !word(site, DELIVERED);
         let (new, round) = (open & !word(site, PENDING), site[ROUND]);
         if site[PHASE] == 1 || new == 0 {
-            return Err(NOT_ENABLED);
+            judge_read((sites, faults), book, site, log)?;
+            return Err(if own >= sites { RANGE } else { NOT_ENABLED });
+        }
+        let mut places = Places::new();
+        let (frame, entries, read) = judge_with_log((sites, faults), book, site, log, &mut places)?;
+        let mut prefix = Prefix::new(sites);
+        prefix.judge::<false>(read, &frame, round)?;
+        if own >= sites {
+            return Err(RANGE);
         }
         if is_free(book, &places, open) {
             put_word(site, PENDING, open);
@@ -48,6 +49,13 @@ pub fn turn(
         out[1..ENTRY].copy_from_slice(&open.to_le_bytes());
         Ok(())
     })())
+}
+
+/// Judges all that is lent for a step that is not enabled: nothing else is wanted of book and log.
+#[inline(always)]
+fn judge_read(table: (usize, usize), book: &[u8], site: &Bytes, log: &[u8]) -> Result<(), Refusal> {
+    let (frame, _, read) = judge_with_log(table, book, site, log, &mut ())?;
+    Prefix::new(frame.sites).judge::<false>(read, &frame, site[ROUND])
 }
 
 /// The site waits with its proposal, which is written as a log entry.
@@ -74,7 +82,7 @@ pub fn fast_delivery(sites: usize, faults: usize, book: &[u8], site: &mut [u8], 
             return Err(RANGE);
         }
         let (fast, round) = (word(site, FAST), usize::from(site[ROUND]));
-        let senders: u64 = (0..sites).map(|sender| word(site, heard(sender, round)) >> command & 1).sum();
+        let senders = senders(site, round, command);
         let is_open = (word(site, PENDING) & !fast) >> command & 1 == 1;
         if !is_open || senders < (sites - faults) as u64 {
             return Err(NOT_ENABLED);
@@ -105,7 +113,7 @@ pub fn log_read(sites: usize, faults: usize, book: &[u8], site: &mut [u8], log: 
         if prefix.count_of(entry[0], entry[1]) >= 2 {
             return Err(THIRD_ENTRY);
         }
-        site[POSITION..POSITION + 2].copy_from_slice(&(position as u16 + 1).to_le_bytes());
+        put_position(site, position + 1);
         Ok(())
     })())
 }
@@ -114,13 +122,14 @@ pub fn log_read(sites: usize, faults: usize, book: &[u8], site: &mut [u8], log: 
 pub fn round_end(sites: usize, faults: usize, book: &[u8], site: &mut [u8], log: &[u8]) -> Refusal {
     number((|| {
         let site = site.first_chunk_mut::<SITE_BYTES>().ok_or(ROOM)?;
+        if site[PHASE] == 0 {
+            judge_read((sites, faults), book, site, log)?;
+            return Err(NOT_ENABLED);
+        }
         let mut places = Places::new();
         let (frame, _, read) = judge_with_log((sites, faults), book, site, log, &mut places)?;
         let mut prefix = Prefix::new(sites);
         prefix.judge::<true>(read, &frame, site[ROUND])?;
-        if site[PHASE] == 0 {
-            return Err(NOT_ENABLED);
-        }
         let n_chk = (sites - faults) as u32;
         let decision = prefix.decide(read, book, &places, n_chk).ok_or(NOT_ENABLED)?;
         let earlier = word(site, DELIVERED) | word(site, FAST);

@@ -32,6 +32,7 @@ use Rattle.sent.specs.Sent.{inTable, acksOf, checksOf, said, numbered, acknowle
 use Rattle.sent.proofs.Laws.{numbered-nth, sent-number}
 use Rattle.world.specs.World.{knownTo, worldOf}
 use Rattle.world.specs.Parts.{lent, AtSite, Arrived}
+use Rattle.world.proofs.Past.{rows-grow}
 use Rattle.world.proofs.Hold.{refused, one-site}
 use Rattle.arrivals.specs.Messages.{messageVerdict, unheardOf}
 use Rattle.arrivals.proofs.Judging.{andSent, Passed, from-correct, from-faulty, command-out, command-role, command-taken}
@@ -61,7 +62,7 @@ module _ (t : SiteTable) (commands : ℕ) (sent sites : List ℕ) (small : (k : 
         → Arrived t commands (command i m) sent sites Taken after
     commanded a b e p =
         λ book log entries q g.
-        one-site t book (lent sites log entries sent) g (command i m) small i a p (receive (dash t book) (only m)) (p .did t book (g .site i a) (omega arith)) (g .position i a)
+        one-site t book (lent sites log entries sent) g (command i m) small i a p (receive (dash t book) (only m)) (omega arith) (p .did t book (g .site i a) (omega arith)) (g .position i a)
         (command-taken t book (worldOf t book (lent sites log entries sent)) i m a (omega arith) e) refl refl refl
 
   -- ---- 02 and 03
@@ -95,7 +96,7 @@ module _ (t : SiteTable) (commands : ℕ) (sent sites : List ℕ) (small : (k : 
             let n = sent-number sent j r inside a good (sym q ∙ read .answer) in
             let told : some (inSet x) ≡ nth (acksOf sent j r) (pred a) = sym (ap said q) ∙ read .means ∙ numbered-nth (acksOf sent j r) a (n .0) in
             let at = p .receiver .inside in
-            one-site t book b g (acknowledgment i j r a) small i at h (hear (dash t book) j r (inSet x))
+            one-site t book b g (acknowledgment i j r a) small i at h (hear (dash t book) j r (inSet x)) (rows-grow _ r)
             (h .did t book (g .site i at) (p .sender .inside) (ap (knownTo (length book)) told ∙ g .acks j r (pred a))) (g .position i at)
             (acknowledgment-taken t book (worldOf t book b) i j r a p (n .0) (n .1) (ap isSome (sym told)))
             (λ k. put (dash t book) i (hear (dash t book) j r (orEmpty (sym told k)) (worldOf t book b .site i)) (worldOf t book b)) refl refl
@@ -125,7 +126,7 @@ module _ (t : SiteTable) (commands : ℕ) (sent sites : List ℕ) (small : (k : 
             λ book log entries z g.
             let b = lent sites log entries sent in
             let told : some (inSet x) ≡ checksOf sent j r = sym (ap said q) ∙ read .means in
-            one-site t book b g (check i j r) small i (p .receiver) h (receive (dash t book) (inSet x))
+            one-site t book b g (check i j r) small i (p .receiver) h (receive (dash t book) (inSet x)) (omega arith)
             (h .did t book (g .site i (p .receiver)) (ap (knownTo (length book)) told ∙ g .checks j r)) (g .position i (p .receiver))
             (check-told book log entries ∙ (λ k. andSent (e k) (isSome (sym told k))))
             (λ k. put (dash t book) i (receive (dash t book) (orEmpty (sym told k)) (worldOf t book b .site i)) (worldOf t book b)) refl refl
@@ -150,13 +151,13 @@ module _ (t : SiteTable) (commands : ℕ) (sent sites : List ℕ) (small : (k : 
         pub false-acknowledged : AtSite i (Heard j r x) sites after → Arrived t commands (falseAcknowledgment i j r (inSet x)) sent sites Taken after
         false-acknowledged h =
             λ book log entries q g.
-            one-site t book (lent sites log entries sent) g (falseAcknowledgment i j r (inSet x)) small i (p .receiver) h (hear (dash t book) j r (inSet x))
+            one-site t book (lent sites log entries sent) g (falseAcknowledgment i j r (inSet x)) small i (p .receiver) h (hear (dash t book) j r (inSet x)) (rows-grow _ r)
             (h .did t book (g .site i (p .receiver)) (p .sender) (ap (withinOf x) (sym q) ∙ sym eo ∙ p .operands)) (g .position i (p .receiver))
             (false-acknowledgment-judged t book (worldOf t book (lent sites log entries sent)) i j r x ∙ sym (false-told book q) ∙ e) refl refl refl
 
         pub false-checked : AtSite i (Received x) sites after → Arrived t commands (falseCheck i j r (inSet x)) sent sites Taken after
         false-checked h =
             λ book log entries q g.
-            one-site t book (lent sites log entries sent) g (falseCheck i j r (inSet x)) small i (p .receiver) h (receive (dash t book) (inSet x))
+            one-site t book (lent sites log entries sent) g (falseCheck i j r (inSet x)) small i (p .receiver) h (receive (dash t book) (inSet x)) (omega arith)
             (h .did t book (g .site i (p .receiver)) (ap (withinOf x) (sym q) ∙ sym eo ∙ p .operands)) (g .position i (p .receiver))
             (false-check-judged t book (worldOf t book (lent sites log entries sent)) i j r x ∙ sym (false-told book q) ∙ e) refl refl refl

@@ -25,8 +25,9 @@ use Rattle.system.specs.Dash.{dash, lastRound}
 use Rattle.entries.specs.declared.Entry.{Entry}
 use Rattle.entries.specs.Entries.{entrySize, logTo, writeEntry, viewEntry, inRangeOf}
 use Rattle.entries.proofs.Bytes.{Fits}
-use Rattle.world.specs.World.{worldOf, HoldsWorld}
+use Rattle.world.specs.World.{siteAt, worldOf, HoldsWorld}
 use Rattle.world.specs.Parts.{lent, Entered}
+use Rattle.world.proofs.Past.{past-same}
 use Rattle.world.proofs.Hold.{kept, refused, taken}
 use Rattle.world.proofs.Growing.{entry-holds, entry-back}
 use Rattle.arrivals.proofs.Judging.{entry-judged}
@@ -128,5 +129,5 @@ module _ (t : SiteTable) (commands : ℕ) (log : List ℕ) (entries j r : ℕ) (
                     (told book sites sent q ∙ by-number ∙ ap (λ (y : Bool). pick (not y) Taken (Refused ThirdEntry)) h)
                     (subst (λ (l : List ℕ). HoldsWorld t book (lent sites l (entries + 1) sent) (append (dash t book) (viewEntry this) (worldOf t book b))) (sym ea)
                     (entry-holds t book b (kept t book b g small) this fits (ap (λ (m : ℕ). inRangeOf (t .sites) m this) (sym q) ∙ entry-ranged) room))
-                    (ea ∙ ap (writeEntry log entries) (sym (entry-back this (fits .nc) (fits .c)))) refl;
+                    (ea ∙ ap (writeEntry log entries) (sym (entry-back this (fits .nc) (fits .c)))) refl (λ i l. past-same (siteAt sites i));
               }

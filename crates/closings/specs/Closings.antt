@@ -51,7 +51,7 @@ RoomToEnd t book sites log i =
 -- A fast delivery at a site with the bytes b.
 abbrev pub FastAt : SiteTable → List Command → ℕ → Verdict → List ℕ → List ℕ → Type 0
 FastAt t book m r b after =
-    Carried t book (verdict (protocol.forFastDelivery (dash t book) m (view t book b))) (protocol.deliverFast (dash t book) m (view t book b)) (view t book b) r after
+    Carried t book (verdict (protocol.forFastDelivery (dash t book) m (view t book b))) (protocol.deliverFast (dash t book) m (view t book b)) (view t book b) b r after
 
 -- A step that changes sites only, by the log.
 abbrev pub Closed : SiteTable → List Command → Step → List ℕ → ℕ → List ℕ → Verdict → List ℕ → Type 0

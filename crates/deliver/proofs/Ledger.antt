@@ -11,7 +11,7 @@ use lib.ListN.{length, length-append}
 use mir.Syntax.{w32}
 use mir.Val.{SFits}
 use Rattle.wire.specs.Wire.{splice}
-use Rattle.wire.proofs.Laws.{length-splice, part-before}
+use Rattle.wire.proofs.Laws.{length-splice, part-before, drop-after}
 use Rattle.sets.specs.declared.Set.{Set}
 use Rattle.sets.specs.Sets.{capacity, isEmptyOf, firstOf}
 use Rattle.register.specs.declared.Command.{Command}
@@ -24,7 +24,7 @@ use Rattle.protocol.specs.Site as protocol
 use Rattle.system.specs.Dash.{dash, commandAt}
 use Rattle.layout.specs.Layout.{siteSize, heardPlace, registerPlace, deliveriesPlace, slot, deliveryBytes, deliveriesOf, ledgerOf}
 use Rattle.layout.specs.Good.{GoodTables}
-use Rattle.layout.proofs.Agree.{Agree, agree-before, agree-part, heard-agree, register-agree, deliveries-agree}
+use Rattle.layout.proofs.Agree.{Agree, agree-before, agree-part, register-agree, deliveries-agree}
 use Rattle.layout.proofs.Deliveries.{length-delivery, deliveries-more}
 use Rattle.layout.proofs.Tables.{executed-apart, tables-executed, tables-recorded}
 use Rattle.deliver.specs.Delivering.{Delivered, inOrder}
@@ -41,7 +41,7 @@ delivered-one book k m b {b₁} {b₂} {z} size w hk hm small v ec x′ ey eb =
     let s = a .size in
     let q = length-delivery m z in
     let long : length (splice b₁ (slot k) (deliveryBytes m z)) ≡ siteSize = length-splice b₁ (slot k) (deliveryBytes m z) (omega arith) ∙ s in
-    let before : Agree b₁ (splice b₁ (slot k) (deliveryBytes m z)) heardPlace (slot k) = agree-before b₁ (slot k) (deliveryBytes m z) heardPlace (omega arith) in
+    let before : Agree b₁ (splice b₁ (slot k) (deliveryBytes m z)) registerPlace (slot k) = agree-before b₁ (slot k) (deliveryBytes m z) registerPlace (omega arith) in
     let fits : SFits w32 z = subst (SFits w32) (sym (x .answer)) (answer-fits (commandAt book m) (registerOf b registerPlace) w) in
     let one : k + 1 ≡ suc k = add-one k in
     let state : registerOf (splice b₁ (slot k) (deliveryBytes m z)) registerPlace ≡ execute (commandAt book m) (registerOf b registerPlace) =
@@ -52,13 +52,13 @@ delivered-one book k m b {b₁} {b₂} {z} size w hk hm small v ec x′ ey eb =
     subst (Delivered book k (m ∷ []) b) (sym e)
     (record {
       ledger = λ t. ap (λ (n : ℕ). ledgerOf t book n (splice b₁ (slot k) (deliveryBytes m z))) one ∙ (λ i. record { state = state i; deliveries = listed i });
-      heard = heard-agree (agree-part heardPlace registerPlace before (omega arith) (omega arith)) ∙ heard-agree (a .heard);
       tables =
-          λ sites g.
-          subst (λ (n : ℕ). GoodTables sites (length book) n (splice b₁ (slot k) (deliveryBytes m z))) (sym one)
-          (tables-recorded sites (length book) k b₁ m z s hk hm small fits (tables-executed sites (length book) k (commandAt book m) b size (omega arith) v x g));
+          λ sites rows g.
+          subst (λ (n : ℕ). GoodTables sites (length book) n rows (splice b₁ (slot k) (deliveryBytes m z))) (sym one)
+          (tables-recorded sites (length book) k rows b₁ m z s hk hm small fits (tables-executed sites (length book) k rows (commandAt book m) b size (omega arith) v x g));
       size = long;
-      header = part-before b₁ (slot k) (deliveryBytes m z) heardPlace 0 (omega arith) (omega arith) ∙ a .header;
+      header = part-before b₁ (slot k) (deliveryBytes m z) registerPlace 0 (omega arith) (omega arith) ∙ a .header;
+      rest = drop-after b₁ (slot k) (deliveryBytes m z) heardPlace (omega arith) (omega arith) ∙ a .rest;
       readings = subst Within (sym state) (kept-within (commandAt book m) (registerOf b registerPlace) v w);
     })
 
@@ -67,10 +67,10 @@ delivered-none book k b size w =
     let e : k + 0 ≡ k = omega arith in
     record {
       ledger = λ t. ap (λ (n : ℕ). ledgerOf t book n b) e;
-      heard = refl;
-      tables = λ sites g. subst (λ (n : ℕ). GoodTables sites (length book) n b) (sym e) g;
+      tables = λ sites rows g. subst (λ (n : ℕ). GoodTables sites (length book) n rows b) (sym e) g;
       size = size;
       header = refl;
+      rest = refl;
       readings = w;
     }
 
@@ -84,10 +84,10 @@ delivered-more book k m l {a} {b} {c} p q =
           λ t.
           ap (λ (n : ℕ). ledgerOf t book n c) e ∙ q .ledger t
           ∙ ap (λ (g : protocol.Ledger (dash t book)). foldl (protocol.deliver (dash t book)) g l) (p .ledger t);
-      heard = q .heard ∙ p .heard;
-      tables = λ sites g. subst (λ (n : ℕ). GoodTables sites (length book) n c) (sym e) (q .tables sites (p .tables sites g));
+      tables = λ sites rows g. subst (λ (n : ℕ). GoodTables sites (length book) n rows c) (sym e) (q .tables sites rows (p .tables sites rows g));
       size = q .size;
       header = q .header ∙ p .header;
+      rest = q .rest ∙ p .rest;
       readings = q .readings;
     }
 
@@ -103,10 +103,10 @@ delivered-append book k l l′ {a} {b} {c} p q =
           ap (λ (n : ℕ). ledgerOf t book n c) e ∙ q .ledger t
           ∙ ap (λ (g : protocol.Ledger (dash t book)). foldl (protocol.deliver (dash t book)) g l′) (p .ledger t)
           ∙ sym (foldl-append (protocol.deliver (dash t book)) (ledgerOf t book k a) l l′);
-      heard = q .heard ∙ p .heard;
-      tables = λ sites g. subst (λ (n : ℕ). GoodTables sites (length book) n c) (sym e) (q .tables sites (p .tables sites g));
+      tables = λ sites rows g. subst (λ (n : ℕ). GoodTables sites (length book) n rows c) (sym e) (q .tables sites rows (p .tables sites rows g));
       size = q .size;
       header = q .header ∙ p .header;
+      rest = q .rest ∙ p .rest;
       readings = q .readings;
     }
 

@@ -3,7 +3,7 @@
 use mathlib.Core.Path.{_≡_}
 use mathlib.Core.List.{List, foldl}
 use Prim.Native.Nat.{ℕ, _+_}
-use lib.ListN.{length, take}
+use lib.ListN.{length, take, drop}
 use Rattle.theory.specs.Sets.{members}
 use Rattle.sets.specs.declared.Set.{Set}
 use Rattle.sets.specs.Sets.{capacity, inSet}
@@ -14,7 +14,7 @@ use Rattle.register.specs.Lent.{registerOf}
 use Rattle.commands.specs.Book.{commandsOf, placesOf}
 use Rattle.protocol.specs.Site as protocol
 use Rattle.system.specs.Dash.{dash}
-use Rattle.layout.specs.Layout.{siteSize, heardPlace, registerPlace, heardOf, ledgerOf}
+use Rattle.layout.specs.Layout.{siteSize, heardPlace, registerPlace, ledgerOf}
 use Rattle.layout.specs.Good.{GoodTables}
 
 -- The places of a book's commands are noted.
@@ -24,10 +24,11 @@ Noted book places = take (length (commandsOf book)) places ≡ placesOf book
 -- The commands l were delivered in their order, after k others.
 pub record Delivered (book : List Command) (k : ℕ) (l : List ℕ) (b b′ : List ℕ) : Type 0 where
   pub ledger : (t : SiteTable) → ledgerOf t book (k + length l) b′ ≡ foldl (protocol.deliver (dash t book)) (ledgerOf t book k b) l
-  pub heard : heardOf b′ ≡ heardOf b
-  pub tables : (sites : ℕ) → GoodTables sites (length book) k b → GoodTables sites (length book) (k + length l) b′
+  pub tables : (sites rows : ℕ) → GoodTables sites (length book) k rows b → GoodTables sites (length book) (k + length l) rows b′
   pub size : length b′ ≡ siteSize
-  pub header : take heardPlace b′ ≡ take heardPlace b
+  pub header : take registerPlace b′ ≡ take registerPlace b
+  -- from the table of sets heard on nothing changes
+  pub rest : drop heardPlace b′ ≡ drop heardPlace b
   pub readings : Within (registerOf b′ registerPlace)
 
 -- The commands of a set in number order.

@@ -39,7 +39,7 @@ use Rattle.ending.specs.Ending.{RoundEnded}
 use Rattle.ending.proofs.Verdicts.{waits-same}
 use Rattle.ending.proofs.Telling.{told-none, told-decided}
 use Rattle.judging.specs.Outcomes.{outcome, answered, _then_}
-use Rattle.judging.specs.Judging.{tableOf, systemOf, siteIn, withSite, forSite, forSiteAndLog, placesAfter}
+use Rattle.judging.specs.Judging.{tableOf, systemOf, spanIn, siteIn, withSite, forSite, forSiteAndLog, placesAfter}
 use Rattle.judging.proofs.Demands.{then-taken, then-refused, answered-refused}
 use Rattle.judging.proofs.Laws.{Judged, JudgedLog, site-judged, log-judged, site-noted, log-noted}
 use Rattle.judging.proofs.Steps.{carried}
@@ -86,7 +86,7 @@ module _ (n f : ℕ) (book site : List ℕ) (m : ℕ) {k : ℕ} (q : k ≡ codeO
           carried n f book site (judged .good) small (verdict (protocol.forFastDelivery (systemOf n f book) m (siteIn n f book site)))
           (protocol.deliverFast (systemOf n f book) m (siteIn n f book site)) o ek
           ∙ (λ i. answered (sym (first true (lt-ltb m (length (commandsOf book)) (omega arith))) i)
-          (withSite n f book site (protocol.deliverFast (systemOf n f book) m (siteIn n f book site))) site)
+          (withSite n f book (spanIn site) site (protocol.deliverFast (systemOf n f book) m (siteIn n f book site))) site)
 
 -- ---- a round that ends
 
@@ -195,5 +195,5 @@ module _ (n f : ℕ) (book site log : List ℕ) {k : ℕ} (q : k ≡ codeOf (ver
         (protocol.finish (systemOf n f book) (protocol.tallyOr (protocol.decision (systemOf n f book) (siteIn n f book site) (logOf log))) (siteIn n f book site)) o ek
         ∙ (λ i. answered
         (sym (then-taken (forSiteAndLog n f book true site log) (protocol.forRoundEnd (systemOf n f book) (siteIn n f book site) (logOf log)) q z) i)
-        (withSite n f book site
+        (withSite n f book (spanIn site) site
         (protocol.finish (systemOf n f book) (protocol.tallyOr (protocol.decision (systemOf n f book) (siteIn n f book site) (logOf log))) (siteIn n f book site))) site)

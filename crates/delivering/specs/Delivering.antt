@@ -18,18 +18,18 @@ use Rattle.entries.specs.Entries.{logOf}
 use Rattle.layout.specs.Layout.{view}
 use Rattle.layout.specs.Step.{Carried}
 use Rattle.judging.specs.Outcomes.{Outcome, answered, _then_}
-use Rattle.judging.specs.Judging.{systemOf, siteIn, withSite, forSite, forSiteAndLog}
+use Rattle.judging.specs.Judging.{systemOf, spanIn, siteIn, withSite, forSite, forSiteAndLog}
 
 -- A fast delivery of command m was carried out on the bytes of a site, or refused.
 abbrev pub FastDelivered : SiteTable → List Command → ℕ → List ℕ → Verdict → List ℕ → Type 0
 FastDelivered t book m b r b′ =
-    Carried t book (verdict (forFastDelivery (dash t book) m (view t book b))) (deliverFast (dash t book) m (view t book b)) (view t book b) r b′
+    Carried t book (verdict (forFastDelivery (dash t book) m (view t book b))) (deliverFast (dash t book) m (view t book b)) (view t book b) b r b′
 
 -- A round end was carried out on them, or refused.
 abbrev pub Ended : SiteTable → List Command → Log → List ℕ → Verdict → List ℕ → Type 0
 Ended t book log b r b′ =
     Carried t book (verdict (forRoundEnd (dash t book) (view t book b) log))
-    (finish (dash t book) (tallyOr (decision (dash t book) (view t book b) log)) (view t book b)) (view t book b) r b′
+    (finish (dash t book) (tallyOr (decision (dash t book) (view t book b) log)) (view t book b)) (view t book b) b r b′
 
 module _ (sites faults : ℕ) (book : List ℕ) where
   -- A command is delivered fast.
@@ -40,7 +40,7 @@ module _ (sites faults : ℕ) (book : List ℕ) where
       (forSite sites faults book true site
       then ltb command (length (commandsOf book)) else Range
       ⨾ forFastDelivery (systemOf sites faults book) command (siteIn sites faults book site)))
-      (withSite sites faults book site (deliverFast (systemOf sites faults book) command (siteIn sites faults book site)))
+      (withSite sites faults book (spanIn site) site (deliverFast (systemOf sites faults book) command (siteIn sites faults book site)))
       site
 
   -- The site's round ends.
@@ -48,7 +48,7 @@ module _ (sites faults : ℕ) (book : List ℕ) where
   roundEndCall site log =
       answered
       (verdict (forSiteAndLog sites faults book true site log then forRoundEnd (systemOf sites faults book) (siteIn sites faults book site) (logOf log)))
-      (withSite sites faults book site
+      (withSite sites faults book (spanIn site) site
       (finish (systemOf sites faults book) (tallyOr (decision (systemOf sites faults book) (siteIn sites faults book site) (logOf log)))
       (siteIn sites faults book site)))
       site

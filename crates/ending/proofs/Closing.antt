@@ -28,11 +28,11 @@ use Rattle.protocol.specs.Site.{acknowledging}
 use Rattle.system.specs.Dash.{dash}
 use Rattle.layout.specs.declared.Site.{Site}
 use Rattle.layout.specs.Layout.{countPlace, headOf, headBytes, deliveriesOf, ledgerOf, view}
-use Rattle.layout.specs.Good.{Fit, GoodHead, GoodTables, Good, Holds}
+use Rattle.layout.specs.Good.{Fit, GoodHead, GoodTables, Good, HoldsOver}
 use Rattle.layout.specs.Step.{Carried}
 use Rattle.layout.proofs.Header.{fit}
 use Rattle.layout.proofs.Deliveries.{length-deliveries}
-use Rattle.layout.proofs.Tables.{within-empty, within-union, within-without}
+use Rattle.layout.proofs.Tables.{within-empty, within-union, within-without, rest-heard, rows-past}
 use Rattle.layout.proofs.Finish.{finish, refused, taken}
 use Rattle.deliver.specs.Delivering.{Delivered, inOrder}
 use Rattle.deliver.proofs.Order.{order-within}
@@ -71,9 +71,9 @@ module _ (book : List Command) (few : length book ≤ capacity) (h : Site) (f : 
       ∙ members-ext (length book) (inSet (dueOf h x)) (p ∖ (inSet (h .delivered) ∪ inSet (h .fast)))
       (λ m _. in-without x (unionOf (h .delivered) (h .fast)) m ∙ (λ i. e m i && not (in-union (h .delivered) (h .fast) m i)))
 
-counted : (b : List ℕ) → length (deliveriesOf (readLe 4 b countPlace) b) ≡ headOf b .deliveries
+counted : (b : List ℕ) → length (deliveriesOf (readLe 2 b countPlace) b) ≡ headOf b .deliveries
 unfolding headOf
-counted b = length-deliveries (readLe 4 b countPlace) b
+counted b = length-deliveries (readLe 2 b countPlace) b
 
 module _ (t : SiteTable) (book : List Command) (few : length book ≤ capacity) (b : List ℕ) (small : (i : ℕ) → getD b i 0 < 256) (good : Good (t .sites) (length book) b)
     (decided : Bool) (nc c : Set) (lnc : nc .bits < 2 ^ 64) (lc : c .bits < 2 ^ 64) (wnc : withinOf nc (length book) ≡ true) (wc : withinOf c (length book) ≡ true)
@@ -112,11 +112,11 @@ module _ (t : SiteTable) (book : List Command) (few : length book ≤ capacity) 
       ((λ i. leb (sym (counted b) i + (sizes-are ∙ sym (length-append (inOrder (dueOf (headOf b) nc)) (inOrder (dueOf (headOf b) c))) ∙ ap length (all-due d)) i) (length book)) ∙ h)
 
   pub end-refused : {r : Verdict} (x : Refusal) → r ≡ verdict (protocol.forRoundEnd (dash t book) (view t book b) log) → r ≡ Refused x
-      → Carried t book (verdict (protocol.forRoundEnd (dash t book) (view t book b) log)) (protocol.finish (dash t book) (protocol.tallyOr (protocol.decision (dash t book) (view t book b) log)) (view t book b)) (view t book b) r b
+      → Carried t book (verdict (protocol.forRoundEnd (dash t book) (view t book b) log)) (protocol.finish (dash t book) (protocol.tallyOr (protocol.decision (dash t book) (view t book b) log)) (view t book b)) (view t book b) b r b
   end-refused x e h =
       subst
       (λ (y : Verdict).
-      Carried t book (verdict (protocol.forRoundEnd (dash t book) (view t book b) log)) (protocol.finish (dash t book) (protocol.tallyOr (protocol.decision (dash t book) (view t book b) log)) (view t book b)) (view t book b) y b)
+      Carried t book (verdict (protocol.forRoundEnd (dash t book) (view t book b) log)) (protocol.finish (dash t book) (protocol.tallyOr (protocol.decision (dash t book) (view t book b) log)) (view t book b)) (view t book b) b y b)
       (sym h) (refused t book (verdict (protocol.forRoundEnd (dash t book) (view t book b) log)) x (sym e ∙ h) good small)
 
   module _ {n : ℕ} (d : decided ≡ true) (room : headOf b .deliveries + length (inOrder (dueOf (headOf b) nc) ++ inOrder (dueOf (headOf b) c)) ≤ length book)
@@ -129,6 +129,7 @@ module _ (t : SiteTable) (book : List Command) (few : length book ≤ capacity) 
         record {
           round = omega arith;
           deliveries = omega arith;
+          span = f .span;
           position = f .position;
           received = f .received;
           delivered = union-fits (headOf b .delivered) (unionOf nc c) (f .delivered) (union-fits nc c lnc lc);
@@ -148,6 +149,7 @@ module _ (t : SiteTable) (book : List Command) (few : length book ≤ capacity) 
           last = omega arith;
           few = omega arith;
           room = omega arith;
+          span = g .span;
           received = g .received;
           delivered = within-union (headOf b .delivered) (unionOf nc c) (length book) (g .delivered) (within-union nc c (length book) wnc wc);
           pending = none;
@@ -158,12 +160,12 @@ module _ (t : SiteTable) (book : List Command) (few : length book ≤ capacity) 
 
     pub end-holds : {h′ : Site} {b₁ b₂ : List ℕ} → Delivered book (headOf b .deliveries) (inOrder (dueOf (headOf b) nc) ++ inOrder (dueOf (headOf b) c)) b b₁
         → h′ ≡ ended (headOf b) nc c n → b₂ ≡ splice b₁ 0 (headBytes h′) → ((i : ℕ) → getD b₂ i 0 < 256)
-        → Holds t book b₂ (protocol.finish (dash t book) (protocol.tallyOr (protocol.decision (dash t book) (view t book b) log)) (view t book b))
+        → HoldsOver t book b b₂ (protocol.finish (dash t book) (protocol.tallyOr (protocol.decision (dash t book) (view t book b) log)) (view t book b))
     unfolding headOf tally
     end-holds {b₁ = b₁} del eh eb small′ =
         let h = headOf b in
-        finish t book b₁ (ended h nc c n) (del .size) (eb ∙ ap (λ (x : Site). splice b₁ 0 (headBytes x)) eh) small′ end-fit end-good
-        (subst (λ (k : ℕ). GoodTables (t .sites) (length book) k b₁) (sym en) (del .tables (t .sites) (good .tables)))
+        finish t book b b₁ (ended h nc c n) (del .size) (eb ∙ ap (λ (x : Site). splice b₁ 0 (headBytes x)) eh) small′ end-fit end-good
+        (subst (λ (k : ℕ). GoodTables (t .sites) (length book) k (h .span) b₁) (sym en) (del .tables (t .sites) (h .span) (good .tables))) (rows-past (h .span) b b₁ (del .rest))
         (λ i.
         record {
           received = inSet (h .received);
@@ -176,7 +178,7 @@ module _ (t : SiteTable) (book : List Command) (few : length book ≤ capacity) 
           round = add-one (h .round) i;
           phase = acknowledging;
           position = h .position;
-          heard = del .heard i;
+          heard = rest-heard (h .span) b b₁ (del .rest) i;
           ledger =
               (ap (λ (k : ℕ). ledgerOf t book k b₁) en ∙ del .ledger t
               ∙ ap (λ (l : List ℕ). foldl (protocol.deliver (dash t book)) (ledgerOf t book (h .deliveries) b) l) (all-due d)) i;
@@ -188,13 +190,13 @@ module _ (t : SiteTable) (book : List Command) (few : length book ≤ capacity) 
     verdict-is = er ∙ (λ i. judgedEnd (headOf b) (sym en i) decided (moreOf (headOf b) nc c)) ∙ end-verdict sizes-are
 
     pub round-refused : (z : Refusal) → r ≡ Refused z
-        → Carried t book (verdict (protocol.forRoundEnd (dash t book) (view t book b) log)) (protocol.finish (dash t book) (protocol.tallyOr (protocol.decision (dash t book) (view t book b) log)) (view t book b)) (view t book b) r b
+        → Carried t book (verdict (protocol.forRoundEnd (dash t book) (view t book b) log)) (protocol.finish (dash t book) (protocol.tallyOr (protocol.decision (dash t book) (view t book b) log)) (view t book b)) (view t book b) b r b
     round-refused z ez = end-refused z verdict-is ez
 
     pub round-taken : {x y : Set} {k₀ k n : ℕ} {b₁ b₂ b₃ : List ℕ} → r ≡ Taken → k₀ ≡ headOf b .deliveries → x ≡ dueOf (headOf b) nc → y ≡ dueOf (headOf b) c
         → k ≡ k₀ + length (inOrder x) → Delivered book k₀ (inOrder x) b b₁
         → n ≡ k + length (inOrder y) → Delivered book k (inOrder y) b₁ b₂ → b₃ ≡ splice b₂ 0 (headBytes (ended (headOf b₂) nc c n)) → ((i : ℕ) → getD b₃ i 0 < 256)
-        → Carried t book (verdict (protocol.forRoundEnd (dash t book) (view t book b) log)) (protocol.finish (dash t book) (protocol.tallyOr (protocol.decision (dash t book) (view t book b) log)) (view t book b)) (view t book b) Taken b₃
+        → Carried t book (verdict (protocol.forRoundEnd (dash t book) (view t book b) log)) (protocol.finish (dash t book) (protocol.tallyOr (protocol.decision (dash t book) (view t book b) log)) (view t book b)) (view t book b) b Taken b₃
     round-taken {x} {y} {k₀} {k} {n} {b₁} {b₂} {b₃} et e₀ ex ey ek d₁ em d₂ eb small′ =
         let w = ready (headOf b) commands decided nc c er et e₀ ex ey in
         let room = w .1 in

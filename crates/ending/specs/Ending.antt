@@ -38,6 +38,7 @@ ended h nc c n =
       phase = Acknowledging;
       position = h .position;
       deliveries = n;
+      span = h .span;
       received = h .received;
       delivered = unionOf (h .delivered) (unionOf nc c);
       pending = emptyOf;
@@ -77,4 +78,4 @@ RoundEnded book decided nc c b r b′ =
     (t : SiteTable) (log : Log) → Good (t .sites) (length book) b → Told t book decided nc c (view t book b) log
     → Carried t book (verdict (protocol.forRoundEnd (dash t book) (view t book b) log))
     (protocol.finish (dash t book) (protocol.tallyOr (protocol.decision (dash t book) (view t book b) log)) (view t book b))
-    (view t book b) r b′
+    (view t book b) b r b′

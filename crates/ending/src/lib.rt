@@ -56,7 +56,7 @@ fn judge(site: &[u8], commands: usize, decided: bool, nc: Set, c: Set, roomy: bo
 }
 
 // The site acknowledges in the next round, with the decided sets delivered and nothing pending.
-fn next_round(site: &mut [u8], nc: Set, c: Set, deliveries: u32)
+fn next_round(site: &mut [u8], nc: Set, c: Set, deliveries: u16)
     requires { ⌜ (length (now site) ≡ siteSize) × (headOf (now site) .round ≤ siteRounds) × Headed (now site) ⌝ }
     ensures { λ _. ⌜ now (site .exit) ≡ splice (now (site .entry)) 0 (headBytes (ended (headOf (now (site .entry))) nc c deliveries)) ⌝ }
 {
@@ -97,6 +97,6 @@ pub fn round_end(
     let recorded = layout::count(&site[..]) as usize;
     let between = deliver::deliver_all(site, book, places, recorded, first);
     let total = deliver::deliver_all(site, book, places, between, second);
-    next_round(site, nc, c, total as u32);
+    next_round(site, nc, c, total as u16);
     Verdict::Taken
 }

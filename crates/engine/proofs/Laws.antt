@@ -39,10 +39,10 @@ module _ (site : List ℕ) (t : SiteTable) (book : List Command) where
   unfolding freshCall
   fresh-refused h = answered-refused Size _ site (λ i. verdict (lt-leb siteSize (length site) h i else Size ⨾ granted))
 
-  pub fresh-taken : {b : List ℕ} → siteSize ≤ length site → Holds t book b (protocol.fresh (dash t book)) → outcome 0 (b ++ drop siteSize site) ≡ freshCall t book site
+  pub fresh-taken : {b : List ℕ} → siteSize ≤ length site → Holds t book 0 (take siteSize site) b (protocol.fresh (dash t book)) → outcome 0 (b ++ drop siteSize site) ≡ freshCall t book site
   unfolding freshCall
   fresh-taken h o =
-      (λ i. outcome 0 (o .bytes i ++ drop siteSize site))
+      (λ i. outcome 0 (written site h t book o i))
       ∙ answered-taken _ site (λ i. verdict (le-leb siteSize (length site) h i else Size ⨾ granted))
 
 -- Several demands with one refusal are one demand.
@@ -79,7 +79,7 @@ module _ (n f : ℕ) (book site : List ℕ) {k : ℕ} (q : k ≡ codeOf (verdict
       pub command-taken : {b : List ℕ} → m < commands → Commanded m (take siteSize site) b → outcome 0 (b ++ drop siteSize site) ≡ receiveCommandCall n f book site m
       unfolding receiveCommandCall
       command-taken h o =
-          (λ i. outcome 0 (written n f book site (o (tableOf n f) (commandsOf book) (judged z .good) (omega arith)) i))
+          (λ i. outcome 0 (written site (sized z) (tableOf n f) (commandsOf book) (o (tableOf n f) (commandsOf book) (judged z .good) (omega arith)) i))
           ∙ last-taken (forSite n f book true site) (ltb m (length (commandsOf book))) Range _ site q z (lt-ltb m (length (commandsOf book)) (omega arith))
 
   -- ---- a check message
@@ -100,7 +100,7 @@ module _ (n f : ℕ) (book site : List ℕ) {k : ℕ} (q : k ≡ codeOf (verdict
       pub check-taken : {b : List ℕ} → not t ≡ false → Received (record { bits = set }) (take siteSize site) b → outcome 0 (b ++ drop siteSize site) ≡ receiveCheckCall n f book site set
       unfolding receiveCheckCall
       check-taken h o =
-          (λ i. outcome 0 (written n f book site (o (tableOf n f) (commandsOf book) (judged z .good) (is-known ∙ not-false t h)) i))
+          (λ i. outcome 0 (written site (sized z) (tableOf n f) (commandsOf book) (o (tableOf n f) (commandsOf book) (judged z .good) (is-known ∙ not-false t h)) i))
           ∙ last-taken (forSite n f book true site) (known (systemOf n f book) (has set)) Range _ site q z (is-known ∙ not-false t h)
 
   -- ---- an acknowledgment
@@ -150,6 +150,6 @@ module _ (n f : ℕ) (book site : List ℕ) {k : ℕ} (q : k ≡ codeOf (verdict
             → outcome 0 (b ++ drop siteSize site) ≡ receiveAcknowledgmentCall n f book site sender round set
         unfolding receiveAcknowledgmentCall rest
         acknowledgment-taken o =
-            (λ i. outcome 0 (written n f book site (o (tableOf n f) (commandsOf book) (judged z .good) sender-below
+            (λ i. outcome 0 (written site (sized z) (tableOf n f) (commandsOf book) (o (tableOf n f) (commandsOf book) (judged z .good) sender-below
             (ap (withinOf (record { bits = set })) (sym e) ∙ sym et ∙ right (ltb sender n && leb 1 round && leb round siteRounds) t met)) i))
             ∙ answered-taken _ site (all-four ∙ (λ i. verdict (met i else Range ⨾ granted)))

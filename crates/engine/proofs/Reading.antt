@@ -29,7 +29,7 @@ use Rattle.entries.proofs.Logs.{log-nth, log-end, log-of-take}
 use Rattle.layout.specs.Layout.{siteSize, headOf}
 use Rattle.site.specs.Steps.{ReadEntry}
 use Rattle.judging.specs.Outcomes.{outcome, answered, _then_}
-use Rattle.judging.specs.Judging.{tableOf, systemOf, siteIn, withSite, entriesIn, forSiteAndLog}
+use Rattle.judging.specs.Judging.{tableOf, systemOf, spanIn, siteIn, withSite, entriesIn, forSiteAndLog}
 use Rattle.judging.proofs.Demands.{then-taken, then-refused, answered-refused}
 use Rattle.judging.proofs.Laws.{Judged, JudgedLog, log-judged}
 use Rattle.judging.proofs.Steps.{carried}
@@ -185,4 +185,4 @@ module _ (n f : ℕ) (book site log : List ℕ) {k : ℕ} (q : k ≡ codeOf (ver
           ∙ ap (λ (x : ℕ). protocol.noThird (systemOf n f book) (take x (logOf log)) (nth (logOf log) x)) ep)) ek
           ∙ (λ i. answered
           (sym (first ∙ (λ j. verdict (not-false t h j else Range ⨾ protocol.forLogRead (systemOf n f book) (siteIn n f book site) (logOf log)))) i)
-          (withSite n f book site (protocol.readEntry (systemOf n f book) (siteIn n f book site))) site)
+          (withSite n f book (spanIn site) site (protocol.readEntry (systemOf n f book) (siteIn n f book site))) site)

@@ -22,17 +22,17 @@ use Rattle.layout.specs.Good.{Good}
 use Rattle.layout.specs.Step.{Carried}
 use Rattle.layout.proofs.Header.{fit}
 use Rattle.layout.proofs.Fields.{begins, withFast, fast-written}
-use Rattle.layout.proofs.Tables.{within-with}
+use Rattle.layout.proofs.Tables.{within-with, rest-heard, rows-past}
 use Rattle.layout.proofs.Finish.{finish, refused, taken}
 use Rattle.deliver.specs.Delivering.{Delivered}
 use Rattle.fast.proofs.Judging.{taken-room}
 
 module _ (t : SiteTable) (book : List Command) (b : List ℕ) (small : (i : ℕ) → getD b i 0 < 256) (good : Good (t .sites) (length book) b) (m : ℕ) where
   pub fast-refused : {r : Verdict} (x : Refusal) → r ≡ verdict (protocol.forFastDelivery (dash t book) m (view t book b)) → r ≡ Refused x
-      → Carried t book (verdict (protocol.forFastDelivery (dash t book) m (view t book b))) (protocol.deliverFast (dash t book) m (view t book b)) (view t book b) r b
+      → Carried t book (verdict (protocol.forFastDelivery (dash t book) m (view t book b))) (protocol.deliverFast (dash t book) m (view t book b)) (view t book b) b r b
   fast-refused x e h =
       subst
-      (λ (y : Verdict). Carried t book (verdict (protocol.forFastDelivery (dash t book) m (view t book b))) (protocol.deliverFast (dash t book) m (view t book b)) (view t book b) y b)
+      (λ (y : Verdict). Carried t book (verdict (protocol.forFastDelivery (dash t book) m (view t book b))) (protocol.deliverFast (dash t book) m (view t book b)) (view t book b) b y b)
       (sym h) (refused t book (verdict (protocol.forFastDelivery (dash t book) m (view t book b))) x (sym e ∙ h) good small)
 
   -- There is a place for the delivery.
@@ -43,8 +43,8 @@ module _ (t : SiteTable) (book : List Command) (b : List ℕ) (small : (i : ℕ)
   pub fast-taken : {r : Verdict} {n : ℕ} {x y : Set} {b₁ b₂ b₃ : List ℕ} → length book ≤ capacity → m < length book
       → r ≡ verdict (protocol.forFastDelivery (dash t book) m (view t book b)) → r ≡ Taken
       → n ≡ headOf b .deliveries → x ≡ headOf b .fast → Delivered book n (m ∷ []) b b₁ → y ≡ withOf x m
-      → b₂ ≡ writeSet b₁ fastPlace y → b₃ ≡ splice b₂ countPlace (bytes 4 (n + 1)) → ((i : ℕ) → getD b₃ i 0 < 256)
-      → Carried t book (verdict (protocol.forFastDelivery (dash t book) m (view t book b))) (protocol.deliverFast (dash t book) m (view t book b)) (view t book b) Taken b₃
+      → b₂ ≡ writeSet b₁ fastPlace y → b₃ ≡ splice b₂ countPlace (bytes 2 (n + 1)) → ((i : ℕ) → getD b₃ i 0 < 256)
+      → Carried t book (verdict (protocol.forFastDelivery (dash t book) m (view t book b))) (protocol.deliverFast (dash t book) m (view t book b)) (view t book b) b Taken b₃
   unfolding headOf
   fast-taken {b₁ = b₁} few lm e et en ex d′ ey e₂ e₃ small′ =
       let k = headOf b in
@@ -53,12 +53,13 @@ module _ (t : SiteTable) (book : List Command) (b : List ℕ) (small : (i : ℕ)
       let more : k .deliveries + 1 ≤ length book = taken-room t book b m (sym e ∙ et) in
       let d : Delivered book (k .deliveries) (m ∷ []) b b₁ = subst (λ (n : ℕ). Delivered book n (m ∷ []) b b₁) en d′ in
       taken t book (verdict (protocol.forFastDelivery (dash t book) m (view t book b))) (sym e ∙ et)
-      (finish t book b₁ (withFast k (k .deliveries + 1) (withOf (k .fast) m)) (d .size)
-      (e₃ ∙ (λ i. splice ((e₂ ∙ ap (writeSet b₁ fastPlace) (ey ∙ ap (λ (s : Set). withOf s m) ex)) i) countPlace (bytes 4 (en i + 1)))
+      (finish t book b b₁ (withFast k (k .deliveries + 1) (withOf (k .fast) m)) (d .size)
+      (e₃ ∙ (λ i. splice ((e₂ ∙ ap (writeSet b₁ fastPlace) (ey ∙ ap (λ (s : Set). withOf s m) ex)) i) countPlace (bytes 2 (en i + 1)))
       ∙ fast-written k b₁ (d .header ∙ begins b good small) (k .deliveries + 1) (withOf (k .fast) m)) small′
       (record {
         round = f .round;
         deliveries = omega arith;
+        span = f .span;
         position = f .position;
         received = f .received;
         delivered = f .delivered;
@@ -72,6 +73,7 @@ module _ (t : SiteTable) (book : List Command) (b : List ℕ) (small : (i : ℕ)
         last = g .last;
         few = more;
         room = omega arith;
+        span = g .span;
         received = g .received;
         delivered = g .delivered;
         pending = g .pending;
@@ -79,7 +81,7 @@ module _ (t : SiteTable) (book : List Command) (b : List ℕ) (small : (i : ℕ)
         nc = g .nc;
         c = g .c;
       })
-      (d .tables (t .sites) (good .tables))
+      (d .tables (t .sites) (k .span) (good .tables)) (rows-past (k .span) b b₁ (d .rest))
       (λ i.
       record {
         received = inSet (k .received);
@@ -89,6 +91,6 @@ module _ (t : SiteTable) (book : List Command) (b : List ℕ) (small : (i : ℕ)
         round = k .round;
         phase = phaseSeen (k .phase);
         position = k .position;
-        heard = d .heard i;
+        heard = rest-heard (k .span) b b₁ (d .rest) i;
         ledger = d .ledger t i;
       }))

@@ -12,7 +12,7 @@ use Rattle.refusals.specs.declared.Refusal.the-variants.{Disabled, Size}
 use Rattle.refusals.specs.declared.Verdict.{Verdict}
 use Rattle.refusals.specs.declared.Verdict.the-variants.{Taken, Refused}
 use Rattle.theory.specs.Sets.{one, count}
-use Rattle.theory.specs.Counting.{left, right, not-true, never, count-more, count-no, count-le}
+use Rattle.theory.specs.Counting.{left, right, not-true, never, count-none, count-more, count-no, count-le}
 use Rattle.wire.specs.Wire.{readLe}
 use Rattle.sets.specs.declared.Set.{Set}
 use Rattle.sets.specs.Sets.{has, inSet, withoutOf, readSet}
@@ -23,22 +23,22 @@ use Rattle.register.specs.declared.Command.{Command}
 use Rattle.protocol.specs.System.{granted, _else_⨾_, verdict}
 use Rattle.protocol.specs.Site as protocol
 use Rattle.system.specs.Dash.{dash}
-use Rattle.layout.specs.Layout.{siteRounds, countPlace, cell, headOf, heardOf, deliveriesOf, view}
+use Rattle.layout.specs.Layout.{countPlace, spanPlace, inTable, cell, headOf, heardIn, heardOf, deliveriesOf, view}
 use Rattle.layout.specs.Good.{Good}
-use Rattle.layout.proofs.Senders.{in-table}
+use Rattle.layout.proofs.Senders.{in-table, table-bounds}
 use Rattle.layout.proofs.Deliveries.{length-deliveries}
 
 -- ---- senders
 
-heard-at : (b : List ℕ) (j r m : ℕ) → j < maxSites → 1 ≤ r → r ≤ siteRounds → heardOf b j r m ≡ inSet (readSet b (cell j r)) m
-unfolding heardOf readSet
-heard-at b j r m hj h1 h33 = λ i. in-table j r hj h1 h33 i && has (readLe 8 b (cell j r)) m
+heard-at : (b : List ℕ) (j r m : ℕ) → j < maxSites → 1 ≤ r → r ≤ readLe 2 b spanPlace → heardOf b j r m ≡ inSet (readSet b (cell j r)) m
+unfolding heardIn readSet
+heard-at b j r m hj h1 hr = λ i. in-table (readLe 2 b spanPlace) j r hj h1 hr i && has (readLe 8 b (cell j r)) m
 
 -- One sender more.
-pub sender-more : (b : List ℕ) (r m j : ℕ) {n o : ℕ} {set : Set} {t : Bool} → j < maxSites → 1 ≤ r → r ≤ siteRounds → n ≡ count j (λ k. heardOf b k r m)
+pub sender-more : (b : List ℕ) (r m j : ℕ) {n o : ℕ} {set : Set} {t : Bool} → j < maxSites → 1 ≤ r → r ≤ readLe 2 b spanPlace → n ≡ count j (λ k. heardOf b k r m)
     → set ≡ readSet b (cell j r) → t ≡ inSet set m → o ≡ one t → n + o ≡ count (j + 1) (λ k. heardOf b k r m)
-sender-more b r m j hj h1 h33 en es et eo =
-    (λ i. en i + (eo ∙ ap one (et ∙ ap (λ (s : Set). inSet s m) es ∙ sym (heard-at b j r m hj h1 h33))) i) ∙ sym (count-more j (λ k. heardOf b k r m))
+sender-more b r m j hj h1 hr en es et eo =
+    (λ i. en i + (eo ∙ ap one (et ∙ ap (λ (s : Set). inSet s m) es ∙ sym (heard-at b j r m hj h1 hr))) i) ∙ sym (count-more j (λ k. heardOf b k r m))
 
 pub sender-few : (b : List ℕ) (r m j : ℕ) {n : ℕ} → n ≡ count j (λ k. heardOf b k r m) → n ≤ j
 sender-few b r m j e = let l = count-le j (λ k. heardOf b k r m) in omega arith
@@ -49,17 +49,30 @@ count-beyond n (suc k) p h =
     let e : n + suc k ≡ n + k + 1 = omega arith in
     ap (λ (j : ℕ). count j p) e ∙ count-no (n + k) p (h (n + k) (omega arith) (omega arith)) ∙ count-beyond n k p (λ j l g. h j l (omega arith))
 
+-- Nothing was heard in a round past the rows.
+pub past-rows : (b : List ℕ) (r m : ℕ) {n : ℕ} → n ≡ headOf b .span → n < r → 0 ≡ count maxSites (λ j. heardOf b j r m)
+unfolding headOf heardIn
+past-rows b r m e l =
+    sym (count-none (λ j. heardOf b j r m)) ∙ sym (count-beyond 0 maxSites (λ j. heardOf b j r m) (λ j _ _. nothing j (inTable (readLe 2 b spanPlace) j r) refl))
+  where
+    nothing : (j : ℕ) (t : Bool) → inTable (readLe 2 b spanPlace) j r ≡ t → (t && has (readLe 8 b (cell j r)) m) ≡ false
+    nothing j true h = let w = table-bounds (readLe 2 b spanPlace) j r h in absurd (omega (arith, w .2))
+    nothing j false h = refl
+
 -- Of senders that there are not nothing was heard.
-pub silent-senders : {sites commands : ℕ} (b : List ℕ) (r m : ℕ) → Good sites commands b → sites ≤ maxSites → 1 ≤ r → r ≤ siteRounds
+pub silent-senders : {sites commands : ℕ} (b : List ℕ) (r m : ℕ) → Good sites commands b → sites ≤ maxSites
     → count maxSites (λ j. heardOf b j r m) ≡ count sites (λ j. heardOf b j r m)
-unfolding readSet
-silent-senders {sites} b r m good few h1 h33 =
+unfolding heardIn
+silent-senders {sites} b r m good few =
     let e : sites + (maxSites - sites) ≡ maxSites = omega arith in
     ap (λ (n : ℕ). count n (λ j. heardOf b j r m)) (sym e) ∙ count-beyond sites (maxSites - sites) (λ j. heardOf b j r m) (λ j l g. nothing j l (omega arith))
   where
+    by-row : (j : ℕ) → sites ≤ j → (t : Bool) → inTable (readLe 2 b spanPlace) j r ≡ t → (t && has (readLe 8 b (cell j r)) m) ≡ false
+    by-row j l true h = ap (λ (x : ℕ). has x m) (good .tables .silent j r h l) ∙ in-empty m
+    by-row j l false h = refl
+
     nothing : (j : ℕ) → sites ≤ j → j < maxSites → heardOf b j r m ≡ false
-    nothing j l g =
-        heard-at b j r m g h1 h33 ∙ ap (λ (x : ℕ). has x m) (good .tables .silent (siteRounds * j + (r - 1)) (omega arith) (omega arith)) ∙ in-empty m
+    nothing j l g = by-row j l (inTable (readLe 2 b spanPlace) j r) refl
 
 -- ---- the verdict, by its tests
 
@@ -94,25 +107,25 @@ module _ (t : SiteTable) (book : List Command) (b : List ℕ) (m : ℕ) where
   enough = leb (nAckOf t) (count (t .sites) (λ j. heardOf b j (headOf b .round) m))
 
   room : Bool
-  room = leb (length (deliveriesOf (readLe 4 b countPlace) b) + 1) (length book)
+  room = leb (length (deliveriesOf (readLe 2 b countPlace) b) + 1) (length book)
 
   same-verdict : fastVerdict pending fast enough room ≡ verdict (protocol.forFastDelivery (dash t book) m (view t book b))
   unfolding pending fast enough room
   same-verdict = refl
 
-  counted : readLe 4 b countPlace ≡ headOf b .deliveries
+  counted : readLe 2 b countPlace ≡ headOf b .deliveries
   unfolding headOf
   counted = refl
 
-  recorded : length (deliveriesOf (readLe 4 b countPlace) b) ≡ headOf b .deliveries
-  recorded = length-deliveries (readLe 4 b countPlace) b ∙ counted
+  recorded : length (deliveriesOf (readLe 2 b countPlace) b) ≡ headOf b .deliveries
+  recorded = length-deliveries (readLe 2 b countPlace) b ∙ counted
 
   -- The room that a taken delivery has.
   pub taken-room : verdict (protocol.forFastDelivery (dash t book) m (view t book b)) ≡ Taken → headOf b .deliveries + 1 ≤ length book
   unfolding room
   taken-room h =
       let e = recorded in
-      let l = leb-true (length (deliveriesOf (readLe 4 b countPlace) b) + 1) (length book) (has-room pending fast enough room (same-verdict ∙ h)) in
+      let l = leb-true (length (deliveriesOf (readLe 2 b countPlace) b) + 1) (length book) (has-room pending fast enough room (same-verdict ∙ h)) in
       omega arith
 
   -- What the code reads and tests, in its order.

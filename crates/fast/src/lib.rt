@@ -31,6 +31,9 @@ fn senders(site: &[u8], round: usize, m: usize) -> usize
     requires { ⌜ (length (now site) ≡ siteSize) × (1 ≤ round) × (round ≤ siteRounds) × (m < capacity) ⌝ }
     ensures { λ r. ⌜ r ≡ count maxSites (λ j. heardOf (now (site .entry)) j round m) ⌝ }
 {
+    if round > layout::span(site) as usize {
+        return 0;
+    }
     let mut n = 0;
     let mut sender = 0;
     while sender < SiteTable::MAX_SITES {
@@ -76,7 +79,7 @@ pub fn fast_delivery(
     ensures { λ r. ⌜ Carried table (commandsOf (now (book .entry)))
         (verdict (protocol.forFastDelivery (dash table (commandsOf (now (book .entry)))) m (view table (commandsOf (now (book .entry))) (now (site .entry)))))
         (protocol.deliverFast (dash table (commandsOf (now (book .entry)))) m (view table (commandsOf (now (book .entry))) (now (site .entry))))
-        (view table (commandsOf (now (book .entry))) (now (site .entry))) r (now (site .exit)) ⌝ }
+        (view table (commandsOf (now (book .entry))) (now (site .entry))) (now (site .entry)) r (now (site .exit)) ⌝ }
 {
     let judged = judge(&site[..], table, commands, m);
     if let Verdict::Refused(_) = judged {

@@ -8,6 +8,7 @@ use lib.Dec.{eqb, leb}
 use lib.ListN.{length, take, drop}
 use lib.Seq.{sets}
 use Rattle.theory.specs.Sets.{pick}
+use Rattle.wire.specs.Wire.{readLe}
 use Rattle.refusals.specs.declared.Refusal.the-variants.{Book, Table, Form, Range, Size}
 use Rattle.refusals.specs.declared.Verdict.{Verdict}
 use Rattle.refusals.specs.Refusals.{codeOf}
@@ -18,7 +19,7 @@ use Rattle.protocol.specs.System.{System, Demands, granted, _else_⨾_, verdict
 use Rattle.protocol.specs.Site as protocol
 use Rattle.system.specs.Dash.{dash}
 use Rattle.entries.specs.Entries.{entrySize, goodTo}
-use Rattle.layout.specs.Layout.{siteSize, view, encode}
+use Rattle.layout.specs.Layout.{siteSize, spanPlace, rowAt, view, encode}
 use Rattle.layout.specs.Good.{goodSite}
 use Rattle.judging.specs.declared.Judgement.{Judgement}
 use Rattle.judging.specs.Outcomes.{isTaken}
@@ -68,6 +69,10 @@ forLent sites book whole entries site =
 abbrev pub placesAfter : ℕ → ℕ → List ℕ → Bool → List ℕ → List ℕ
 placesAfter sites faults book sized places = pick (isTaken (verdict (forFirst sites faults sized))) (sets places 0 (walkedPlaces book)) places
 
+-- How many rows the table of sets heard of a lent site has.
+abbrev pub spanIn : List ℕ → ℕ
+spanIn site = readLe 2 (take siteSize site) spanPlace
+
 module _ (sites faults : ℕ) (book : List ℕ) where
   -- The system that a site belongs to.
   abbrev pub systemOf : System
@@ -77,9 +82,9 @@ module _ (sites faults : ℕ) (book : List ℕ) where
   abbrev pub siteIn : List ℕ → protocol.Site systemOf
   siteIn site = view (tableOf sites faults) (commandsOf book) (take siteSize site)
 
-  -- The lent bytes with another site in them; what is past the site stays.
-  abbrev pub withSite : List ℕ → protocol.Site systemOf → List ℕ
-  withSite site s = encode (tableOf sites faults) (commandsOf book) s ++ drop siteSize site
+  -- The lent bytes with another site in them, of k rows; what is past it stays.
+  abbrev pub withSite : ℕ → List ℕ → protocol.Site systemOf → List ℕ
+  withSite k site s = encode (tableOf sites faults) (commandsOf book) k s ++ drop (rowAt k) site
 
   -- What a call that is lent a site judges. The other buffers that it is lent are long enough or not.
   abbrev pub forSite : Bool → List ℕ → Demands

@@ -17,7 +17,7 @@ use Rattle.sets.specs.Sets.{has, readSet}
 use Rattle.table.specs.Table.{maxSites}
 use Rattle.register.specs.Register.{bikes, bike}
 use Rattle.register.specs.Lent.{bikeSize, bikeIn, registerOf}
-use Rattle.layout.specs.Layout.{heardPlace, registerPlace, deliveriesPlace, siteRounds, inTable, cell, slot, heardOf, deliveriesOf}
+use Rattle.layout.specs.Layout.{heardPlace, registerPlace, deliveriesPlace, inTable, rowAt, cell, slot, heardIn, deliveriesOf}
 
 -- Every number that stands between two places is the same in both.
 pub record Agree (b b′ : List ℕ) (from to : ℕ) : Type 0 where
@@ -48,21 +48,22 @@ under-test : (t : Bool) (p q : Bool) → (t ≡ true → p ≡ q) → (t && p) �
 under-test true p q h = h refl
 under-test false p q h = refl
 
--- A place of the table of sets heard.
-pub cell-inside : (j r : ℕ) → inTable j r ≡ true → (heardPlace ≤ cell j r) × (cell j r + 8 ≤ registerPlace)
-cell-inside j r h =
-    let hj = ltb-true j maxSites (left (ltb j maxSites) (leb 1 r && leb r siteRounds) h) in
-    let hr = leb-true r siteRounds (right (leb 1 r) (leb r siteRounds) (right (ltb j maxSites) (leb 1 r && leb r siteRounds) h)) in
+-- A place of a table of k rows.
+pub cell-inside : (k j r : ℕ) → inTable k j r ≡ true → (heardPlace ≤ cell j r) × (cell j r + 8 ≤ rowAt k)
+cell-inside k j r h =
+    let hj = ltb-true j maxSites (left (ltb j maxSites) (leb 1 r && leb r k) h) in
+    let h1 = leb-true 1 r (left (leb 1 r) (leb r k) (right (ltb j maxSites) (leb 1 r && leb r k) h)) in
+    let hr = leb-true r k (right (leb 1 r) (leb r k) (right (ltb j maxSites) (leb 1 r && leb r k) h)) in
     (omega arith, omega arith)
 
-pub heard-agree : {b b′ : List ℕ} → Agree b b′ heardPlace registerPlace → heardOf b′ ≡ heardOf b
-unfolding heardOf
-heard-agree {b} {b′} g = λ i j r m. point j r m i
+pub heard-agree : (k : ℕ) {b b′ : List ℕ} → Agree b b′ heardPlace (rowAt k) → heardIn k b′ ≡ heardIn k b
+unfolding heardIn
+heard-agree k {b} {b′} g = λ i j r m. point j r m i
   where
-    point : (j r m : ℕ) → (inTable j r && has (readLe 8 b′ (cell j r)) m) ≡ (inTable j r && has (readLe 8 b (cell j r)) m)
+    point : (j r m : ℕ) → (inTable k j r && has (readLe 8 b′ (cell j r)) m) ≡ (inTable k j r && has (readLe 8 b (cell j r)) m)
     point j r m =
-        under-test (inTable j r) (has (readLe 8 b′ (cell j r)) m) (has (readLe 8 b (cell j r)) m)
-        (λ h. let w = cell-inside j r h in ap (λ (x : ℕ). has x m) (g .reads 8 (cell j r) (w .0) (w .1)))
+        under-test (inTable k j r) (has (readLe 8 b′ (cell j r)) m) (has (readLe 8 b (cell j r)) m)
+        (λ h. let w = cell-inside k j r h in ap (λ (x : ℕ). has x m) (g .reads 8 (cell j r) (w .0) (w .1)))
 
 pub register-agree : {b b′ : List ℕ} → Agree b b′ registerPlace deliveriesPlace → registerOf b′ registerPlace ≡ registerOf b registerPlace
 register-agree {b} {b′} g = λ i k. point k (ltb k bikes) refl i

@@ -5,7 +5,7 @@ use mathlib.Core.List.{List, [], _∷_, _++_, append-nil, append-assoc}
 use Prim.Native.Nat.{ℕ, zero, suc, _+_, _*_, _-_, _≤_, _<_}
 use native.Mathlib.Omega.{arith}
 use lib.IntN.{ℤ}
-use lib.ListN.{length, take, drop, getD, replicate, length-append, drop-of-length-le}
+use lib.ListN.{length, take, drop, getD, replicate, length-append}
 use lib.Seq.{drop-drop, take-add}
 use mir.Syntax.{w32}
 use mir.Val.{SFits}
@@ -15,7 +15,7 @@ use Rattle.wire.proofs.Laws.{length-bytes, peel, read-same, read-before, length
 use Rattle.signed.specs.Signed.{signed32, word32}
 use Rattle.signed.proofs.Laws.{signed-word, read-signed, bytes-signed}
 use Rattle.sets.specs.Sets.{capacity}
-use Rattle.layout.specs.Layout.{siteSize, deliveriesPlace, deliverySize, slot, deliveryOf, deliveriesOf, deliveryBytes, deliveriesBytes}
+use Rattle.layout.specs.Layout.{siteSize, deliveriesPlace, heardPlace, deliverySize, slot, deliveryOf, deliveriesOf, deliveryBytes, deliveriesBytes}
 use Rattle.layout.proofs.Header.{next}
 use Rattle.layout.proofs.Agree.{agree-before, deliveries-agree}
 use Rattle.layout.proofs.Senders.{read-bytes}
@@ -98,11 +98,11 @@ module _ (b : List ℕ) (small : (i : ℕ) → getD b i 0 < 256) (size : length 
       ∙ sym (take-add (deliverySize * n) deliverySize (drop deliveriesPlace b))
       ∙ ap (λ (m : ℕ). take m (drop deliveriesPlace b)) (sym e)
 
-  -- Where nothing is recorded, 0 stands to the end.
+  -- Where nothing is recorded, 0 stands to the end of the table.
   pub rest-bytes : (left k : ℕ) → k + left ≡ capacity
-      → ((i : ℕ) → k ≤ i → i < capacity → (readLe 1 b (slot i) ≡ 0) × (readLe 4 b (slot i + 1) ≡ 0)) → drop (slot k) b ≡ replicate (deliverySize * left) 0
+      → ((i : ℕ) → k ≤ i → i < capacity → (readLe 1 b (slot i) ≡ 0) × (readLe 4 b (slot i + 1) ≡ 0)) → drop (slot k) b ≡ replicate (deliverySize * left) 0 ++ drop heardPlace b
   unfolding bytes
-  rest-bytes zero k e h = drop-of-length-le b {i = slot k} (omega arith)
+  rest-bytes zero k e h = let q : slot k ≡ heardPlace = omega arith in ap (λ (n : ℕ). drop n b) q
   rest-bytes (suc left) k e h =
       let w = h k (omega arith) (omega arith) in
       let past : slot k + 1 + 4 ≡ slot (suc k) = omega arith in
@@ -111,4 +111,4 @@ module _ (b : List ℕ) (small : (i : ℕ) → getD b i 0 < 256) (size : length 
       ∙ (λ i. bytes 1 (w .0 i) ++ sym (peel b small 4 (slot k + 1) (omega arith)) i)
       ∙ (λ i. bytes 1 0 ++ (bytes 4 (w .1 i) ++ drop (past i) b))
       ∙ (λ i. bytes 1 0 ++ (bytes 4 0 ++ rest-bytes left (suc k) (omega arith) (λ j l m. h j (omega arith) m) i))
-      ∙ ap (λ (n : ℕ). replicate n 0) (sym five)
+      ∙ ap (λ (n : ℕ). replicate n 0 ++ drop heardPlace b) (sym five)

@@ -16,7 +16,7 @@ use Rattle.sets.specs.Sets.{emptyOf, readSet, writeSet}
 use Rattle.layout.specs.declared.Phase.{Phase}
 use Rattle.layout.specs.declared.Phase.the-variants.{Waiting}
 use Rattle.layout.specs.declared.Site.{Site}
-use Rattle.layout.specs.Layout.{phasePlace, countPlace, positionPlace, receivedPlace, pendingPlace, fastPlace, ncPlace, cPlace, heardPlace, headOf, phaseFrom, isWaiting, numbersBytes, setsBytes, headBytes, waitsWith, acknowledges}
+use Rattle.layout.specs.Layout.{phasePlace, countPlace, spanPlace, positionPlace, receivedPlace, pendingPlace, fastPlace, ncPlace, cPlace, registerPlace, headOf, phaseFrom, isWaiting, numbersBytes, setsBytes, headBytes, waitsWith, acknowledges}
 use Rattle.layout.specs.Good.{Fit, Good}
 use Rattle.layout.proofs.Header.{length-head, head-back, head-bytes}
 
@@ -42,19 +42,19 @@ acknowledged b e₁ e₂ e₃ = e₃ ∙ ap (λ (l : List ℕ). writeSet l cPlac
 
 -- The bytes begin with those of a header.
 abbrev pub Begins : Site → List ℕ → Type 0
-Begins h b = take heardPlace b ≡ headBytes h
+Begins h b = take registerPlace b ≡ headBytes h
 
 -- Good bytes begin with those of the header that is read of them.
 pub begins : {sites commands : ℕ} (b : List ℕ) → Good sites commands b → ((i : ℕ) → getD b i 0 < 256) → Begins (headOf b) b
 begins b g small =
-    ap (take heardPlace) (sym (head-bytes b small (g .size) (g .tag) (g .idle))) ∙ take-at (headBytes (headOf b)) (drop heardPlace b) heardPlace (length-head (headOf b))
+    ap (take registerPlace) (sym (head-bytes b small (g .size) (g .tag) (g .idle))) ∙ take-at (headBytes (headOf b)) (drop registerPlace b) registerPlace (length-head (headOf b))
 
 -- They still do after a write behind it.
-pub begins-still : (b : List ℕ) (h : Site) (at : ℕ) (bs : List ℕ) → at ≤ length b → heardPlace ≤ at → Begins h b → Begins h (splice b at bs)
-begins-still b h at bs l m e = part-before b at bs heardPlace 0 l m ∙ e
+pub begins-still : (b : List ℕ) (h : Site) (at : ℕ) (bs : List ℕ) → at ≤ length b → registerPlace ≤ at → Begins h b → Begins h (splice b at bs)
+begins-still b h at bs l m e = part-before b at bs registerPlace 0 l m ∙ e
 
 -- What is left where a header is written.
-over : (b : List ℕ) (h : Site) → splice b 0 (headBytes h) ≡ headBytes h ++ drop heardPlace b
+over : (b : List ℕ) (h : Site) → splice b 0 (headBytes h) ≡ headBytes h ++ drop registerPlace b
 unfolding splice numbersBytes setsBytes bytes
 over b h = refl
 
@@ -62,7 +62,7 @@ over b h = refl
 pub in-head : (write : List ℕ → List ℕ) (h₀ h : Site) (b : List ℕ) → ((rest : List ℕ) → write (headBytes h₀ ++ rest) ≡ headBytes h ++ rest) → Begins h₀ b
     → write b ≡ splice b 0 (headBytes h)
 in-head write h₀ h b law e =
-    ap write (sym (take-append-drop heardPlace b) ∙ ap (λ (l : List ℕ). l ++ drop heardPlace b) e) ∙ law (drop heardPlace b) ∙ sym (over b h)
+    ap write (sym (take-append-drop registerPlace b) ∙ ap (λ (l : List ℕ). l ++ drop registerPlace b) e) ∙ law (drop registerPlace b) ∙ sym (over b h)
 
 -- The header that is read of bytes is the one that they begin with.
 pub begins-head : (b : List ℕ) (h : Site) → Fit h → Begins h b → headOf b ≡ h
@@ -78,6 +78,7 @@ module _ (h : Site) where
         phase = h .phase;
         position = h .position;
         deliveries = h .deliveries;
+        span = h .span;
         received = x;
         delivered = h .delivered;
         pending = h .pending;
@@ -91,6 +92,7 @@ module _ (h : Site) where
         phase = h .phase;
         position = n;
         deliveries = h .deliveries;
+        span = h .span;
         received = h .received;
         delivered = h .delivered;
         pending = h .pending;
@@ -104,6 +106,7 @@ module _ (h : Site) where
         phase = h .phase;
         position = h .position;
         deliveries = h .deliveries;
+        span = h .span;
         received = h .received;
         delivered = h .delivered;
         pending = x;
@@ -117,6 +120,21 @@ module _ (h : Site) where
         phase = p;
         position = h .position;
         deliveries = h .deliveries;
+        span = h .span;
+        received = h .received;
+        delivered = h .delivered;
+        pending = h .pending;
+        fast = h .fast;
+      }
+
+  abbrev pub withSpan : ℕ → Site
+  withSpan k =
+      record {
+        round = h .round;
+        phase = h .phase;
+        position = h .position;
+        deliveries = h .deliveries;
+        span = k;
         received = h .received;
         delivered = h .delivered;
         pending = h .pending;
@@ -131,6 +149,7 @@ module _ (h : Site) where
         phase = h .phase;
         position = h .position;
         deliveries = n;
+        span = h .span;
         received = h .received;
         delivered = h .delivered;
         pending = h .pending;
@@ -146,6 +165,15 @@ module _ (h : Site) where
     unfolding splice numbersBytes setsBytes bytes
     position-written n = in-head (λ l. splice l positionPlace (bytes 2 n)) h (withPosition n) b (λ rest. refl) e
 
+    pub span-written : (k : ℕ) → splice b spanPlace (bytes 2 k) ≡ splice b 0 (headBytes (withSpan k))
+    unfolding splice numbersBytes setsBytes bytes
+    span-written k = in-head (λ l. splice l spanPlace (bytes 2 k)) h (withSpan k) b (λ rest. refl) e
+
+    -- The bytes begin with the header with another span.
+    pub span-begins : (k : ℕ) → Begins (withSpan k) (splice b spanPlace (bytes 2 k))
+    span-begins k =
+        ap (take registerPlace) (span-written k ∙ over b (withSpan k)) ∙ take-at (headBytes (withSpan k)) (drop registerPlace b) registerPlace (length-head (withSpan k))
+
     pub pending-written : (x : Set) → writeSet b pendingPlace x ≡ splice b 0 (headBytes (withPending x))
     unfolding writeSet splice numbersBytes setsBytes bytes
     pending-written x = in-head (λ l. writeSet l pendingPlace x) h (withPending x) b (λ rest. refl) e
@@ -154,6 +182,6 @@ module _ (h : Site) where
     unfolding writeSet splice numbersBytes setsBytes bytes
     waiting-written nc c = in-head (λ l. waitsWith l nc c) h (withPhase (Waiting (record { nc = nc; c = c }))) b (λ rest. refl) e
 
-    pub fast-written : (n : ℕ) (x : Set) → splice (writeSet b fastPlace x) countPlace (bytes 4 n) ≡ splice b 0 (headBytes (withFast n x))
+    pub fast-written : (n : ℕ) (x : Set) → splice (writeSet b fastPlace x) countPlace (bytes 2 n) ≡ splice b 0 (headBytes (withFast n x))
     unfolding writeSet splice numbersBytes setsBytes bytes
-    fast-written n x = in-head (λ l. splice (writeSet l fastPlace x) countPlace (bytes 4 n)) h (withFast n x) b (λ rest. refl) e
+    fast-written n x = in-head (λ l. splice (writeSet l fastPlace x) countPlace (bytes 2 n)) h (withFast n x) b (λ rest. refl) e

@@ -14,7 +14,7 @@ use Rattle.sets.proofs.Laws.{set-of-members}
 use Rattle.layout.specs.declared.Phase.{Phase}
 use Rattle.layout.specs.declared.Phase.the-variants.{Acknowledging, Waiting}
 use Rattle.layout.specs.declared.Site.{Site}
-use Rattle.layout.specs.Layout.{siteSize, roundPlace, phasePlace, positionPlace, countPlace, receivedPlace, deliveredPlace, pendingPlace, fastPlace, ncPlace, cPlace, heardPlace, headOf, phaseFrom, phaseSeen, phaseFor, tagOf, proposalOf, numbersBytes, setsBytes, headBytes}
+use Rattle.layout.specs.Layout.{siteSize, roundPlace, phasePlace, positionPlace, countPlace, spanPlace, receivedPlace, deliveredPlace, pendingPlace, fastPlace, ncPlace, cPlace, registerPlace, headOf, phaseFrom, phaseSeen, phaseFor, tagOf, proposalOf, numbersBytes, setsBytes, headBytes}
 use Rattle.layout.specs.Good.{Fit}
 
 pub phase-waiting : (n : ℕ) (nc c : Set) → (n ≡ 0 → ⊥) → Waiting (record { nc = nc; c = c }) ≡ phaseFrom n nc c
@@ -27,7 +27,7 @@ pub next : (s : List ℕ) (at : ℕ) (a b : List ℕ) (k : ℕ) {l l′ : List �
 next s at a b k e h p q =
     q ∙ ap (λ (l : List ℕ). splice l k b) p ∙ ap (λ (m : ℕ). splice (splice s at a) m b) (sym e) ∙ splice-two s at a b h
 
-pub length-head : (h : Site) → length (headBytes h) ≡ heardPlace
+pub length-head : (h : Site) → length (headBytes h) ≡ registerPlace
 unfolding numbersBytes setsBytes bytes
 length-head h = refl
 
@@ -48,7 +48,8 @@ head-back b h f =
       round = value-bytes 1 (h .round) (f .round) i;
       phase = phase-back (h .phase) (f .nc) (f .c) i;
       position = value-bytes 2 (h .position) (f .position) i;
-      deliveries = value-bytes 4 (h .deliveries) (f .deliveries) i;
+      deliveries = value-bytes 2 (h .deliveries) (f .deliveries) i;
+      span = value-bytes 2 (h .span) (f .span) i;
       received = record { bits = value-bytes 8 (h .received .bits) (f .received) i };
       delivered = record { bits = value-bytes 8 (h .delivered .bits) (f .delivered) i };
       pending = record { bits = value-bytes 8 (h .pending .bits) (f .pending) i };
@@ -67,7 +68,8 @@ module _ (b : List ℕ) (small : (i : ℕ) → getD b i 0 < 256) (size : length 
   fit =
       record {
         round = read-lt b small 1 roundPlace (omega arith);
-        deliveries = read-lt b small 4 countPlace (omega arith);
+        deliveries = read-lt b small 2 countPlace (omega arith);
+        span = read-lt b small 2 spanPlace (omega arith);
         position = read-lt b small 2 positionPlace (omega arith);
         received = set-fits receivedPlace (omega arith);
         delivered = set-fits deliveredPlace (omega arith);
@@ -99,17 +101,17 @@ module _ (b : List ℕ) (small : (i : ℕ) → getD b i 0 < 256) (size : length 
   c-same (suc n) nc c h = refl
 
   -- The bytes of a header that was read are those that stand there.
-  pub head-bytes : readLe 1 b phasePlace ≤ 1 → (readLe 1 b phasePlace ≡ 0 → (readLe 8 b ncPlace ≡ 0) × (readLe 8 b cPlace ≡ 0)) → headBytes (headOf b) ++ drop heardPlace b ≡ b
+  pub head-bytes : readLe 1 b phasePlace ≤ 1 → (readLe 1 b phasePlace ≡ 0 → (readLe 8 b ncPlace ≡ 0) × (readLe 8 b cPlace ≡ 0)) → headBytes (headOf b) ++ drop registerPlace b ≡ b
   unfolding headOf numbersBytes setsBytes readSet
   head-bytes tag idle =
       let et = tag-same (readLe 1 b phasePlace) (readSet b ncPlace) (readSet b cPlace) tag in
       let en = nc-same (readLe 1 b phasePlace) (readSet b ncPlace) (readSet b cPlace) (λ e. idle e .0) in
       let ec = c-same (readLe 1 b phasePlace) (readSet b ncPlace) (readSet b cPlace) (λ e. idle e .1) in
       (λ i.
-      ((((bytes 1 (readLe 1 b roundPlace) ++ bytes 1 (et i)) ++ bytes 2 (readLe 2 b positionPlace)) ++ bytes 4 (readLe 4 b countPlace))
+      (((((bytes 1 (readLe 1 b roundPlace) ++ bytes 1 (et i)) ++ bytes 2 (readLe 2 b positionPlace)) ++ bytes 2 (readLe 2 b countPlace)) ++ bytes 2 (readLe 2 b spanPlace))
       ++ (((((bytes 8 (readLe 8 b receivedPlace) ++ bytes 8 (readLe 8 b deliveredPlace)) ++ bytes 8 (readLe 8 b pendingPlace)) ++ bytes 8 (readLe 8 b fastPlace))
       ++ bytes 8 (en i)) ++ bytes 8 (ec i)))
-      ++ drop heardPlace b)
+      ++ drop registerPlace b)
       ∙ simp append-assoc (rw (
         peel b small 8 cPlace (omega arith),
         peel b small 8 ncPlace (omega arith),
@@ -117,7 +119,8 @@ module _ (b : List ℕ) (small : (i : ℕ) → getD b i 0 < 256) (size : length 
         peel b small 8 pendingPlace (omega arith),
         peel b small 8 deliveredPlace (omega arith),
         peel b small 8 receivedPlace (omega arith),
-        peel b small 4 countPlace (omega arith),
+        peel b small 2 spanPlace (omega arith),
+        peel b small 2 countPlace (omega arith),
         peel b small 2 positionPlace (omega arith),
         peel b small 1 phasePlace (omega arith),
         peel b small 1 roundPlace (omega arith),

@@ -6,3 +6,4 @@ pub mod Deliveries
 pub mod Encode
 pub mod Tables
 pub mod Finish
+pub mod Rows

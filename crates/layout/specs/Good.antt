@@ -2,26 +2,28 @@
 -- Assumes nothing.
 use mathlib.Core.Path.{_≡_}
 use mathlib.Core.Bool.{Bool, true, _&&_, _||_}
-use mathlib.Core.List.{List}
+use mathlib.Core.List.{List, _++_}
 use Prim.Native.Nat.{ℕ, _+_, _*_, _^_, _≤_, _<_}
 use lib.Dec.{eqb, leb, ltb}
-use lib.ListN.{length}
+use lib.ListN.{length, drop}
 use Rattle.theory.specs.Sets.{all}
 use Rattle.wire.specs.Wire.{readLe}
 use Rattle.sets.specs.Sets.{capacity, withinOf, setBytes, readSet}
 use Rattle.table.specs.declared.SiteTable.{SiteTable}
+use Rattle.table.specs.Table.{maxSites}
 use Rattle.register.specs.declared.Command.{Command}
 use Rattle.register.specs.Register.{Within, isWithin}
 use Rattle.register.specs.Lent.{registerOf}
 use Rattle.protocol.specs.Site as protocol
 use Rattle.system.specs.Dash.{dash}
 use Rattle.layout.specs.declared.Site.{Site}
-use Rattle.layout.specs.Layout.{siteSize, phasePlace, countPlace, positionPlace, ncPlace, cPlace, registerPlace, siteRounds, heardSets, heardAt, slot, headOf, proposalOf, view, encode}
+use Rattle.layout.specs.Layout.{siteSize, phasePlace, countPlace, spanPlace, positionPlace, ncPlace, cPlace, registerPlace, siteRounds, rowAt, inTable, cell, slot, headOf, proposalOf, view, encode}
 
 -- A header that its bytes can hold.
 pub record Fit (h : Site) : Type 0 where
   pub round : h .round < 2 ^ 8
-  pub deliveries : h .deliveries < 2 ^ 32
+  pub deliveries : h .deliveries < 2 ^ 16
+  pub span : h .span < 2 ^ 16
   pub position : h .position < 2 ^ 16
   pub received : h .received .bits < 2 ^ 64
   pub delivered : h .delivered .bits < 2 ^ 64
@@ -36,6 +38,7 @@ pub record GoodHead (commands : ℕ) (h : Site) : Type 0 where
   pub last : h .round ≤ siteRounds
   pub few : h .deliveries ≤ commands
   pub room : h .deliveries ≤ capacity
+  pub span : h .span ≤ siteRounds
   pub received : withinOf (h .received) commands ≡ true
   pub delivered : withinOf (h .delivered) commands ≡ true
   pub pending : withinOf (h .pending) commands ≡ true
@@ -43,12 +46,12 @@ pub record GoodHead (commands : ℕ) (h : Site) : Type 0 where
   pub nc : withinOf (proposalOf (h .phase) .nc) commands ≡ true
   pub c : withinOf (proposalOf (h .phase) .c) commands ≡ true
 
--- The tables and the register, with n deliveries recorded.
-pub record GoodTables (sites commands n : ℕ) (b : List ℕ) : Type 0 where
+-- The tables and the register, with n deliveries recorded and k rows of sets heard.
+pub record GoodTables (sites commands n k : ℕ) (b : List ℕ) : Type 0 where
   -- every set heard is within the book,
-  pub heard : (k : ℕ) → k < heardSets → withinOf (readSet b (heardAt k)) commands ≡ true
+  pub heard : (j r : ℕ) → inTable k j r ≡ true → withinOf (readSet b (cell j r)) commands ≡ true
   -- and those of senders that there are not are empty
-  pub silent : (k : ℕ) → k < heardSets → siteRounds * sites ≤ k → readLe setBytes b (heardAt k) ≡ 0
+  pub silent : (j r : ℕ) → inTable k j r ≡ true → sites ≤ j → readLe setBytes b (cell j r) ≡ 0
   pub readings : Within (registerOf b registerPlace)
   -- each recorded command is one of the book,
   pub recorded : (k : ℕ) → k < n → readLe 1 b (slot k) < commands
@@ -62,20 +65,23 @@ pub record Good (sites commands : ℕ) (b : List ℕ) : Type 0 where
   -- nothing is proposed while the site acknowledges
   pub idle : readLe 1 b phasePlace ≡ 0 → (readLe setBytes b ncPlace ≡ 0) × (readLe setBytes b cPlace ≡ 0)
   pub head : GoodHead commands (headOf b)
-  pub tables : GoodTables sites commands (readLe 4 b countPlace) b
+  pub tables : GoodTables sites commands (readLe 2 b countPlace) (readLe 2 b spanPlace) b
 
 -- ---- the same as a test
 
 unfoldable pub goodHead : ℕ → Site → Bool
 goodHead commands h =
-    leb 1 (h .round) && leb (h .round) siteRounds && leb (h .deliveries) commands && leb (h .deliveries) capacity
+    leb 1 (h .round) && leb (h .round) siteRounds && leb (h .deliveries) commands && leb (h .deliveries) capacity && leb (h .span) siteRounds
     && withinOf (h .received) commands && withinOf (h .delivered) commands && withinOf (h .pending) commands && withinOf (h .fast) commands
     && withinOf (proposalOf (h .phase) .nc) commands && withinOf (proposalOf (h .phase) .c) commands
 
--- The k-th set heard.
-abbrev pub goodHeard : ℕ → ℕ → List ℕ → ℕ → Bool
-goodHeard sites commands b k =
-    withinOf (readSet b (heardAt k)) commands && (ltb k (siteRounds * sites) || eqb (readLe setBytes b (heardAt k)) 0)
+-- The set heard of sender j in round r: within the book, and empty where there is no such sender.
+abbrev pub goodCell : ℕ → ℕ → List ℕ → ℕ → ℕ → Bool
+goodCell sites commands b j r = withinOf (readSet b (cell j r)) commands && (ltb j sites || eqb (readLe setBytes b (cell j r)) 0)
+
+-- All sets heard, sender by sender.
+abbrev pub goodHeard : ℕ → ℕ → List ℕ → Bool
+goodHeard sites commands b = all maxSites (λ j. all (readLe 2 b spanPlace) (λ i. goodCell sites commands b j (i + 1)))
 
 -- The k-th place for a delivery, where n are recorded.
 abbrev pub goodSlot : ℕ → ℕ → List ℕ → ℕ → Bool
@@ -95,18 +101,24 @@ goodSite sites commands entries b =
     && leb (readLe 2 b positionPlace) entries
     && goodPhase b
     && goodHead commands (headOf b)
-    && all heardSets (goodHeard sites commands b)
+    && goodHeard sites commands b
     && isWithin (registerOf b registerPlace)
-    && all capacity (goodSlot commands (readLe 4 b countPlace) b)
+    && all capacity (goodSlot commands (readLe 2 b countPlace) b)
 
 -- ---- what a step promises
 
 module _ (t : SiteTable) (book : List Command) where
-  -- The bytes are those of a site, they say it, and they are good.
-  pub record Holds (b : List ℕ) (s : protocol.Site (dash t book)) : Type 0 where
-    pub bytes : b ≡ encode t book s
+  -- The bytes are those of a site with k rows, they say it, and they are good. Past the site stands what stood there before.
+  pub record Holds (k : ℕ) (before b : List ℕ) (s : protocol.Site (dash t book)) : Type 0 where
+    pub span : readLe 2 b spanPlace ≡ k
+    pub bytes : b ≡ encode t book k s ++ drop (rowAt k) b
+    pub past : drop (rowAt k) b ≡ drop (rowAt k) before
     pub says : view t book b ≡ s
     pub good : Good (t .sites) (length book) b
+
+  -- The same, where the table of sets heard has the rows that it had before.
+  abbrev pub HoldsOver : List ℕ → List ℕ → protocol.Site (dash t book) → Type 0
+  HoldsOver before b s = Holds (readLe 2 before spanPlace) before b s
 
   -- Lent bytes are good at this site table and book.
   abbrev pub GoodAt : List ℕ → Type 0

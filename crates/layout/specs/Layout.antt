@@ -8,6 +8,7 @@ use lib.Dec.{leb, ltb}
 use lib.IntN.{ℤ}
 use lib.ListN.{length, take, replicate}
 use Rattle.theory.specs.Machine.{Delivery}
+use Rattle.theory.specs.Sets.{pick}
 use Rattle.wire.specs.Wire.{bytes, readLe, splice}
 use Rattle.signed.specs.Signed.{signed32, word32}
 use Rattle.sets.specs.declared.Set.{Set}
@@ -29,7 +30,7 @@ use Rattle.layout.specs.declared.Delivery as declared
 abbrev pub siteSize : ℕ
 siteSize = 3536
 
--- Where each field stands. The round takes 1 byte, the log position 2, the number of recorded deliveries 4, a set 8.
+-- Where each field stands. The round takes 1 byte, the log position, the number of recorded deliveries and the span 2 each, a set 8.
 -- The phase is a tag of 1 byte, 0 acknowledging and 1 waiting, and two sets.
 -- Every number of the header, every set and every number of the register stands at a multiple of its width.
 abbrev pub roundPlace : ℕ
@@ -43,6 +44,10 @@ positionPlace = 2
 
 abbrev pub countPlace : ℕ
 countPlace = 4
+
+-- The span: for how many rounds the table of sets heard has rows.
+abbrev pub spanPlace : ℕ
+spanPlace = 6
 
 abbrev pub receivedPlace : ℕ
 receivedPlace = 8
@@ -62,35 +67,36 @@ ncPlace = 40
 abbrev pub cPlace : ℕ
 cPlace = 48
 
--- A set for each sender and round, all rounds of a sender together.
-abbrev pub heardPlace : ℕ
-heardPlace = 56
-
+-- The header ends where the register stands.
 abbrev pub registerPlace : ℕ
-registerPlace = 2960
+registerPlace = 56
 
 -- Each recorded delivery: the command in 1 byte, its answer in 4.
 abbrev pub deliveriesPlace : ℕ
-deliveriesPlace = 3216
+deliveriesPlace = 312
+
+-- The table of sets heard is last: a row for each round from 1 on, in it a set for each of 11 senders.
+abbrev pub heardPlace : ℕ
+heardPlace = 632
 
 -- The rounds of a site: 1 to 33.
 abbrev pub siteRounds : ℕ
 siteRounds = 33
 
--- The sets heard: one for each of 11 senders and each round.
-abbrev pub heardSets : ℕ
-heardSets = 363
+-- The bytes of a row.
+abbrev pub rowSize : ℕ
+rowSize = 88
 
 abbrev pub deliverySize : ℕ
 deliverySize = 5
 
--- The place of the n-th set heard.
-abbrev pub heardAt : ℕ → ℕ
-heardAt n = heardPlace + setBytes * n
+-- The place after k rows: a site with that span has no bytes from there on.
+abbrev pub rowAt : ℕ → ℕ
+rowAt k = heardPlace + rowSize * k
 
 -- The place of what sender j acknowledged in round r.
 abbrev pub cell : ℕ → ℕ → ℕ
-cell j r = heardAt (siteRounds * j + (r - 1))
+cell j r = rowAt (r - 1) + setBytes * j
 
 -- The place of the k-th recorded delivery.
 abbrev pub slot : ℕ → ℕ
@@ -109,7 +115,8 @@ headOf b =
       round = readLe 1 b roundPlace;
       phase = phaseFrom (readLe 1 b phasePlace) (readSet b ncPlace) (readSet b cPlace);
       position = readLe 2 b positionPlace;
-      deliveries = readLe 4 b countPlace;
+      deliveries = readLe 2 b countPlace;
+      span = readLe 2 b spanPlace;
       received = readSet b receivedPlace;
       delivered = readSet b deliveredPlace;
       pending = readSet b pendingPlace;
@@ -120,17 +127,31 @@ abbrev pub isWaiting : Phase → Bool
 isWaiting Acknowledging = false
 isWaiting (Waiting p) = true
 
--- A sender and a round that the bytes have a set for.
-abbrev pub inTable : ℕ → ℕ → Bool
-inTable j r = ltb j maxSites && (leb 1 r && leb r siteRounds)
+-- A sender and a round that a table of k rows has a set for.
+abbrev pub inTable : ℕ → ℕ → ℕ → Bool
+inTable k j r = ltb j maxSites && (leb 1 r && leb r k)
 
--- What each sender acknowledged in each round; nothing outside the table.
-unfoldable pub heardOf : List ℕ → ℕ → ℕ → ℕ → Bool
-heardOf b j r m = inTable j r && has (readLe setBytes b (cell j r)) m
+-- What each sender acknowledged in each round, by a table of k rows; nothing outside the table.
+unfoldable pub heardIn : ℕ → List ℕ → ℕ → ℕ → ℕ → Bool
+heardIn k b j r m = inTable k j r && has (readLe setBytes b (cell j r)) m
 
--- The bytes with an acknowledgment united with what its sender acknowledged in its round.
+-- The same by the rows that the bytes have.
+abbrev pub heardOf : List ℕ → ℕ → ℕ → ℕ → Bool
+heardOf b = heardIn (readLe 2 b spanPlace) b
+
+-- How many rows there are where round r was reached from k of them.
+abbrev pub spanWith : ℕ → ℕ → ℕ
+spanWith k r = pick (leb r k) k r
+
+-- The bytes with rows up to round r: those that were not there are empty.
+abbrev pub reached : List ℕ → ℕ → List ℕ
+reached b r =
+    pick (leb r (readLe 2 b spanPlace)) b
+    (splice (splice b (rowAt (readLe 2 b spanPlace)) (replicate (rowAt r - rowAt (readLe 2 b spanPlace)) 0)) spanPlace (bytes 2 r))
+
+-- The bytes with an acknowledgment united with what its sender acknowledged in its round, in a table that has the round.
 abbrev pub heardMore : List ℕ → ℕ → ℕ → Set → List ℕ
-heardMore b j r x = writeSet b (cell j r) (unionOf (readSet b (cell j r)) x)
+heardMore b j r x = writeSet (reached b r) (cell j r) (unionOf (readSet (reached b r) (cell j r)) x)
 
 abbrev pub deliveryOf : List ℕ → ℕ → Delivery ℤ
 deliveryOf b k = record { command = readLe 1 b (slot k); answer = signed32 (readLe 4 b (slot k + 1)) }
@@ -161,7 +182,7 @@ proposalOf (Waiting p) = p
 
 -- The numbers of a header, and its sets.
 unfoldable pub numbersBytes : Site → List ℕ
-numbersBytes h = ((bytes 1 (h .round) ++ bytes 1 (tagOf (h .phase))) ++ bytes 2 (h .position)) ++ bytes 4 (h .deliveries)
+numbersBytes h = (((bytes 1 (h .round) ++ bytes 1 (tagOf (h .phase))) ++ bytes 2 (h .position)) ++ bytes 2 (h .deliveries)) ++ bytes 2 (h .span)
 
 unfoldable pub setsBytes : Site → List ℕ
 setsBytes h =
@@ -173,7 +194,7 @@ headBytes h = numbersBytes h ++ setsBytes h
 
 -- The bytes begin with those of the header that is read of them.
 abbrev pub Headed : List ℕ → Type 0
-Headed b = take heardPlace b ≡ headBytes (headOf b)
+Headed b = take registerPlace b ≡ headBytes (headOf b)
 
 -- The bytes with the site waiting with two sets.
 abbrev pub waitsWith : List ℕ → Set → Set → List ℕ
@@ -183,10 +204,10 @@ waitsWith b nc c = writeSet (writeSet (splice b phasePlace (bytes 1 1)) ncPlace 
 abbrev pub acknowledges : List ℕ → List ℕ
 acknowledges b = writeSet (writeSet (splice b phasePlace (bytes 1 0)) ncPlace emptyOf) cPlace emptyOf
 
--- The first n of the sets heard: that of sender 0 and round 1 first.
+-- The first n of the sets heard: that of sender 0 and round 1 first, then that of sender 1.
 unfoldable pub heardBytes : ℕ → (ℕ → ℕ → ℕ → Bool) → List ℕ
 heardBytes zero h = []
-heardBytes (suc n) h = heardBytes n h ++ bytes setBytes (setOf capacity (h (n / siteRounds) (n % siteRounds + 1)) .bits)
+heardBytes (suc n) h = heardBytes n h ++ bytes setBytes (setOf capacity (h (n % maxSites) (n / maxSites + 1)) .bits)
 
 abbrev pub deliveryBytes : ℕ → ℤ → List ℕ
 deliveryBytes m z = bytes 1 m ++ bytes 4 (word32 z)
@@ -221,26 +242,27 @@ module _ (t : SiteTable) (book : List Command) where
 
   -- The site that lent bytes are seen as.
   abbrev pub view : List ℕ → protocol.Site (dash t book)
-  view b = siteOf (headOf b) (heardOf b) (ledgerOf (readLe 4 b countPlace) b)
+  view b = siteOf (headOf b) (heardOf b) (ledgerOf (readLe 2 b countPlace) b)
 
-  -- The header of a site.
-  abbrev pub headFor : protocol.Site (dash t book) → Site
-  headFor s =
+  -- The header of a site, with its span.
+  abbrev pub headFor : ℕ → protocol.Site (dash t book) → Site
+  headFor k s =
       record {
         round = s .round;
         phase = phaseFor (s .phase);
         position = s .position;
         deliveries = length (s .ledger .deliveries);
+        span = k;
         received = setOf capacity (s .received);
         delivered = setOf capacity (s .delivered);
         pending = setOf capacity (s .pending);
         fast = setOf capacity (s .fast);
       }
 
-  -- The bytes of a site.
-  abbrev pub encode : protocol.Site (dash t book) → List ℕ
-  encode s =
-      headBytes (headFor s)
-      ++ (heardBytes heardSets (s .heard)
+  -- The bytes of a site, with so many rows in its table of sets heard.
+  abbrev pub encode : ℕ → protocol.Site (dash t book) → List ℕ
+  encode k s =
+      headBytes (headFor k s)
       ++ (registerBytes (s .ledger .state)
-      ++ (deliveriesBytes (s .ledger .deliveries) ++ replicate (deliverySize * (capacity - length (s .ledger .deliveries))) 0)))
+      ++ (deliveriesBytes (s .ledger .deliveries)
+      ++ (replicate (deliverySize * (capacity - length (s .ledger .deliveries))) 0 ++ heardBytes (maxSites * k) (s .heard))))

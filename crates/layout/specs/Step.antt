@@ -9,7 +9,7 @@ use Rattle.table.specs.declared.SiteTable.{SiteTable}
 use Rattle.register.specs.declared.Command.{Command}
 use Rattle.protocol.specs.Site as protocol
 use Rattle.system.specs.Dash.{dash}
-use Rattle.layout.specs.Good.{Holds}
+use Rattle.layout.specs.Good.{HoldsOver}
 
 -- The new state where a step is taken, else the old.
 abbrev pub settled : {A : Type 0} → Verdict → A → A → A
@@ -17,7 +17,7 @@ settled Taken new old = new
 settled (Refused r) new old = old
 
 module _ (t : SiteTable) (book : List Command) where
-  -- The answer is the verdict, and the bytes hold what it leaves.
-  pub record Carried (v : Verdict) (new old : protocol.Site (dash t book)) (r : Verdict) (b : List ℕ) : Type 0 where
+  -- The answer is the verdict, and the bytes hold what it leaves over those before.
+  pub record Carried (v : Verdict) (new old : protocol.Site (dash t book)) (before : List ℕ) (r : Verdict) (b : List ℕ) : Type 0 where
     pub answer : r ≡ v
-    pub site : Holds t book b (settled v new old)
+    pub site : HoldsOver t book before b (settled v new old)

@@ -5,7 +5,7 @@ ghost use lib.ListN.{length};
 ghost use Rattle.wire.specs.Wire.{bytes, splice};
 ghost use Rattle.sets.specs.Sets.{capacity, readSet, writeSet};
 ghost use Rattle.table.specs.Table.{maxSites};
-ghost use Rattle.layout.specs.Layout.{siteSize, siteRounds, registerPlace, cell, slot, headOf, phaseFrom, deliveryOf, deliveryBytes, deliverySeen, heardMore};
+ghost use Rattle.layout.specs.Layout.{siteSize, siteRounds, cell, slot, headOf, phaseFrom, deliveryOf, deliveryBytes, deliverySeen, reached, heardMore};
 ghost use Rattle.layout.specs.Layout.{roundPlace, countPlace, positionPlace, receivedPlace, deliveredPlace, pendingPlace, fastPlace, isWaiting, waitsWith, acknowledges};
 use sets::Set;
 
@@ -28,7 +28,9 @@ pub struct Site {
     // the log position: how many entries were read
     pub position: u16,
     // how many deliveries are recorded
-    pub deliveries: u32,
+    pub deliveries: u16,
+    // how many rounds the table of sets heard has rows for
+    pub span: u16,
     pub received: Set,
     pub delivered: Set,
     pub pending: Set,
@@ -53,6 +55,8 @@ impl Site {
 
     pub const COUNT: usize = 4;
 
+    pub const SPAN: usize = 6;
+
     pub const RECEIVED: usize = 8;
 
     pub const DELIVERED: usize = 16;
@@ -65,15 +69,15 @@ impl Site {
 
     pub const C: usize = 48;
 
-    pub const HEARD: usize = 56;
+    pub const REGISTER: usize = 56;
 
-    pub const REGISTER: usize = 2960;
-
-    pub const DELIVERIES: usize = 3216;
+    pub const DELIVERIES: usize = 312;
+    // The table of sets heard is last: a row for each round up to the span, a set for each of 11 senders. Past its rows a site has no bytes.
+    pub const HEARD: usize = 632;
     // The rounds of a site: 1 to 33.
     pub const ROUNDS: usize = 33;
-    // The sets heard: one for each of 11 senders and each round.
-    pub const HEARD_SETS: usize = 363;
+    // The bytes of a row of the table of sets heard.
+    pub const ROW: usize = 88;
     // The bytes of a recorded delivery: its command, then its answer.
     pub const DELIVERY: usize = 5;
 
@@ -88,7 +92,8 @@ impl Site {
         let phase = phase_of(tag, nc, c);
         let round = wire::get1(site, Site::ROUND);
         let position = wire::get2(site, Site::POSITION);
-        let deliveries = wire::get4(site, Site::COUNT);
+        let deliveries = wire::get2(site, Site::COUNT);
+        let span = wire::get2(site, Site::SPAN);
         let received = Set::read(site, Site::RECEIVED);
         let delivered = Set::read(site, Site::DELIVERED);
         let pending = Set::read(site, Site::PENDING);
@@ -98,6 +103,7 @@ impl Site {
             phase,
             position,
             deliveries,
+            span,
             received,
             delivered,
             pending,
@@ -132,11 +138,19 @@ pub fn is_waiting(site: &[u8]) -> bool
 }
 
 // How many deliveries are recorded.
-pub fn count(site: &[u8]) -> u32
+pub fn count(site: &[u8]) -> u16
     requires { ⌜ length (now site) ≡ siteSize ⌝ }
     ensures { λ r. ⌜ r ≡ headOf (now (site .entry)) .deliveries ⌝ }
 {
-    wire::get4(site, Site::COUNT)
+    wire::get2(site, Site::COUNT)
+}
+
+// How many rounds the table of sets heard has rows for.
+pub fn span(site: &[u8]) -> u16
+    requires { ⌜ length (now site) ≡ siteSize ⌝ }
+    ensures { λ r. ⌜ r ≡ headOf (now (site .entry)) .span ⌝ }
+{
+    wire::get2(site, Site::SPAN)
 }
 
 pub fn position(site: &[u8]) -> u16
@@ -181,11 +195,11 @@ pub fn set_round(site: &mut [u8], round: u8)
     wire::put1(site, Site::ROUND, round);
 }
 
-pub fn set_count(site: &mut [u8], count: u32)
+pub fn set_count(site: &mut [u8], count: u16)
     requires { ⌜ length (now site) ≡ siteSize ⌝ }
-    ensures { λ _. ⌜ now (site .exit) ≡ splice (now (site .entry)) countPlace (bytes 4 count) ⌝ }
+    ensures { λ _. ⌜ now (site .exit) ≡ splice (now (site .entry)) countPlace (bytes 2 count) ⌝ }
 {
-    wire::put4(site, Site::COUNT, count);
+    wire::put2(site, Site::COUNT, count);
 }
 
 pub fn set_position(site: &mut [u8], position: u16)
@@ -247,12 +261,12 @@ pub fn acknowledge(site: &mut [u8])
 // The place of what a sender acknowledged in a round.
 fn heard_place(sender: usize, round: usize) -> usize
     requires { ⌜ (sender < maxSites) × (1 ≤ round) × (round ≤ siteRounds) ⌝ }
-    ensures { λ r. ⌜ (r ≡ cell sender round) × (r + 8 ≤ registerPlace) ⌝ }
+    ensures { λ r. ⌜ (r ≡ cell sender round) × (r + 8 ≤ siteSize) ⌝ }
 {
-    Site::HEARD + Set::BYTES * (Site::ROUNDS * sender + (round - 1))
+    Site::HEARD + Site::ROW * (round - 1) + Set::BYTES * sender
 }
 
-// What a sender acknowledged in a round.
+// What a sender acknowledged in a round that there is a row for.
 pub fn heard(site: &[u8], sender: usize, round: usize) -> Set
     requires { ⌜ (length (now site) ≡ siteSize) × (sender < maxSites) × (1 ≤ round) × (round ≤ siteRounds) ⌝ }
     ensures { λ r. ⌜ r ≡ readSet (now (site .entry)) (cell sender round) ⌝ }
@@ -260,11 +274,27 @@ pub fn heard(site: &[u8], sender: usize, round: usize) -> Set
     Set::read(site, heard_place(sender, round))
 }
 
+// The table of sets heard gets rows up to a round where it has fewer: nothing was heard in these rounds.
+fn reach(site: &mut [u8], round: usize)
+    requires { ⌜ (length (now site) ≡ siteSize) × (round ≤ siteRounds) ⌝ }
+    ensures { λ _. ⌜ now (site .exit) ≡ reached (now (site .entry)) round ⌝ }
+{
+    let rows = span(&site[..]) as usize;
+    if round <= rows {
+        return;
+    }
+    let from = Site::HEARD + Site::ROW * rows;
+    let to = Site::HEARD + Site::ROW * round;
+    wire::clear(&mut site[from..to]);
+    wire::put2(site, Site::SPAN, round as u16);
+}
+
 // An acknowledgment is united with what its sender acknowledged in its round.
 pub fn hear(site: &mut [u8], sender: usize, round: usize, set: Set)
     requires { ⌜ (length (now site) ≡ siteSize) × (sender < maxSites) × (1 ≤ round) × (round ≤ siteRounds) ⌝ }
     ensures { λ _. ⌜ now (site .exit) ≡ heardMore (now (site .entry)) sender round set ⌝ }
 {
+    reach(site, round);
     let place = heard_place(sender, round);
     let before = Set::read(&site[..], place);
     before.union(set).write(site, place);

@@ -2,3 +2,4 @@ pub mod Judged
 pub mod Blank
 pub mod RoundTrip
 pub mod Tables
+pub mod Heard

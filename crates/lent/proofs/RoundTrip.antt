@@ -9,7 +9,7 @@ use native.Mathlib.Numerals.{add-one}
 use native.Mathlib.Omega.{arith}
 use lib.Dec.{lit<}
 use lib.IntN.{ℤ}
-use lib.ListN.{length, take, drop, replicate, length-append}
+use lib.ListN.{length, take, drop, replicate, length-append, length-replicate}
 use lib.Seq.{drop-at, take-at, drop-drop}
 use mir.Syntax.{w32}
 use mir.Val.{SFits}
@@ -23,6 +23,7 @@ use Rattle.signed.proofs.Laws.{signed-word}
 use Rattle.sets.specs.Sets.{has, word, capacity, inSet, setOf}
 use Rattle.sets.proofs.Laws.{has-word, has-word-above, word-lt}
 use Rattle.table.specs.declared.SiteTable.{SiteTable}
+use Rattle.table.specs.Table.{maxSites}
 use Rattle.register.specs.declared.Command.{Command}
 use Rattle.register.specs.Lent.{registerOf, registerBytes, registerSize}
 use Rattle.register.proofs.Lent.{length-register, register-view}
@@ -30,10 +31,11 @@ use Rattle.protocol.specs.Site as protocol
 use Rattle.protocol.specs.Site.{acknowledging, waiting}
 use Rattle.system.specs.Dash.{dash}
 use Rattle.layout.specs.declared.Site.{Site}
-use Rattle.layout.specs.Layout.{siteRounds, heardPlace, registerPlace, deliveriesPlace, deliverySize, heardSets, countPlace, cell, slot, inTable, proposalOf, phaseFor, phaseSeen, headOf, headBytes, heardOf, heardBytes, deliveryOf, deliveriesOf, deliveryBytes, deliveriesBytes, siteOf, headFor, view, encode}
+use Rattle.layout.specs.Layout.{heardPlace, registerPlace, deliveriesPlace, deliverySize, countPlace, spanPlace, cell, slot, inTable, proposalOf, phaseFor, phaseSeen, headOf, headBytes, heardIn, heardBytes, deliveryOf, deliveriesOf, deliveryBytes, deliveriesBytes, siteOf, headFor, view, encode}
 use Rattle.layout.specs.Good.{Fit}
 use Rattle.layout.proofs.Header.{head-back, length-head}
 use Rattle.layout.proofs.Senders.{table-bounds}
+use Rattle.layout.proofs.Encode.{regroup}
 use Rattle.layout.proofs.Deliveries.{length-delivery, deliveries-append}
 use Rattle.lent.specs.Range.{Held, HeldPhase, HeldDeliveries, InRange}
 
@@ -77,29 +79,29 @@ unfolding heardBytes
 length-heard zero h = refl
 length-heard (suc n) h =
     let l = length-heard n h in
-    let k = length-bytes 8 (word capacity (h (n / siteRounds) (n % siteRounds + 1))) in
-    length-append (heardBytes n h) (bytes 8 (word capacity (h (n / siteRounds) (n % siteRounds + 1)))) ∙ omega arith
+    let k = length-bytes 8 (word capacity (h (n % maxSites) (n / maxSites + 1))) in
+    length-append (heardBytes n h) (bytes 8 (word capacity (h (n % maxSites) (n / maxSites + 1)))) ∙ omega arith
 
 heard-read : (n : ℕ) (h : ℕ → ℕ → ℕ → Bool) (q : List ℕ) (k : ℕ) → k < n
-    → readLe 8 (heardBytes n h ++ q) (8 * k) ≡ word capacity (h (k / siteRounds) (k % siteRounds + 1))
+    → readLe 8 (heardBytes n h ++ q) (8 * k) ≡ word capacity (h (k % maxSites) (k / maxSites + 1))
 unfolding heardBytes
 heard-read zero h q k l = absurd (omega arith)
 heard-read (suc n) h q k l =
     ap (λ (b : List ℕ). readLe 8 b (8 * k)) (append-assoc (heardBytes n h) last q) ∙ go (last-or-below k n l) (λ m. heard-read n h (last ++ q) k m)
   where
     last : List ℕ
-    last = bytes 8 (word capacity (h (n / siteRounds) (n % siteRounds + 1)))
+    last = bytes 8 (word capacity (h (n % maxSites) (n / maxSites + 1)))
 
-    go : (k ≡ n) ⊎ (k < n) → (k < n → readLe 8 (heardBytes n h ++ (last ++ q)) (8 * k) ≡ word capacity (h (k / siteRounds) (k % siteRounds + 1)))
-        → readLe 8 (heardBytes n h ++ (last ++ q)) (8 * k) ≡ word capacity (h (k / siteRounds) (k % siteRounds + 1))
+    go : (k ≡ n) ⊎ (k < n) → (k < n → readLe 8 (heardBytes n h ++ (last ++ q)) (8 * k) ≡ word capacity (h (k % maxSites) (k / maxSites + 1)))
+        → readLe 8 (heardBytes n h ++ (last ++ q)) (8 * k) ≡ word capacity (h (k % maxSites) (k / maxSites + 1))
     go (inr m) r = r m
     go (inl e) r =
         let z : 8 * n ≡ 8 * n + 0 = omega arith in
         ap (λ (i : ℕ). readLe 8 (heardBytes n h ++ (last ++ q)) (8 * i)) e
         ∙ ap (λ (i : ℕ). readLe 8 (heardBytes n h ++ (last ++ q)) i) z
         ∙ read-past 8 (heardBytes n h) (last ++ q) (8 * n) 0 (length-heard n h)
-        ∙ read-front 8 (word capacity (h (n / siteRounds) (n % siteRounds + 1))) q (word-lt 64 (h (n / siteRounds) (n % siteRounds + 1)))
-        ∙ ap (λ (i : ℕ). word capacity (h (i / siteRounds) (i % siteRounds + 1))) (sym e)
+        ∙ read-front 8 (word capacity (h (n % maxSites) (n / maxSites + 1))) q (word-lt 64 (h (n % maxSites) (n / maxSites + 1)))
+        ∙ ap (λ (i : ℕ). word capacity (h (i % maxSites) (i / maxSites + 1))) (sym e)
 
 -- ---- the table of deliveries
 
@@ -178,26 +180,38 @@ deliveries-read p q e xs (d ∷ ds) b eb h =
 
 -- ---- the whole site
 
-module _ (t : SiteTable) (book : List Command) (s : protocol.Site (dash t book)) (h : InRange t book s) where
+module _ (t : SiteTable) (book : List Command) (k : ℕ) (s : protocol.Site (dash t book)) (h : InRange t book k s) (past : List ℕ) where
   heads : List ℕ
-  heads = headBytes (headFor t book s)
-
-  senders : List ℕ
-  senders = heardBytes heardSets (s .heard)
+  heads = headBytes (headFor t book k s)
 
   bikes : List ℕ
   bikes = registerBytes (s .ledger .state)
 
+  listed : List ℕ
+  listed = deliveriesBytes (s .ledger .deliveries)
+
   zeros : List ℕ
   zeros = replicate (deliverySize * (capacity - length (s .ledger .deliveries))) 0
 
-  head-fits : Fit (headFor t book s)
+  senders : List ℕ
+  senders = heardBytes (maxSites * k) (s .heard)
+
+  -- The bytes of the site, before what is past it.
+  whole : List ℕ
+  whole = heads ++ (bikes ++ (listed ++ (zeros ++ (senders ++ past))))
+
+  grouped : encode t book k s ++ past ≡ whole
+  unfolding whole heads bikes listed zeros senders
+  grouped = regroup heads bikes listed zeros senders past
+
+  head-fits : Fit (headFor t book k s)
   head-fits =
       let few = h .few in
       let w = phase-fits (s .phase) in
       record {
         round = h .round;
         deliveries = omega arith;
+        span = h .span;
         position = h .position;
         received = word-lt 64 (s .received);
         delivered = word-lt 64 (s .delivered);
@@ -207,90 +221,96 @@ module _ (t : SiteTable) (book : List Command) (s : protocol.Site (dash t book))
         c = w .1;
       }
 
-  length-heads : length heads ≡ heardPlace
+  length-heads : length heads ≡ registerPlace
   unfolding heads
-  length-heads = length-head (headFor t book s)
-
-  length-senders : length senders ≡ 2904
-  unfolding senders
-  length-senders = length-heard heardSets (s .heard)
+  length-heads = length-head (headFor t book k s)
 
   -- The header is read back.
-  head-read : headOf (encode t book s) ≡ headFor t book s
-  unfolding heads senders bikes zeros
+  head-read : headOf whole ≡ headFor t book k s
+  unfolding whole heads
   head-read =
-      ap headOf (sym (splice-there [] heads (senders ++ (bikes ++ (deliveriesBytes (s .ledger .deliveries) ++ zeros))) 0 refl))
-      ∙ head-back (encode t book s) (headFor t book s) head-fits
+      ap headOf (sym (splice-there [] heads (bikes ++ (listed ++ (zeros ++ (senders ++ past)))) 0 refl)) ∙ head-back whole (headFor t book k s) head-fits
 
-  count-read : readLe 4 (encode t book s) countPlace ≡ length (s .ledger .deliveries)
+  count-read : readLe 2 whole countPlace ≡ length (s .ledger .deliveries)
   unfolding headOf
   count-read = λ i. head-read i .deliveries
 
-  listed : List ℕ
-  listed = deliveriesBytes (s .ledger .deliveries)
+  span-read : readLe 2 whole spanPlace ≡ k
+  unfolding headOf
+  span-read = λ i. head-read i .span
 
-  -- So are the sets heard,
-  cell-read : (j r : ℕ) → inTable j r ≡ true → readLe 8 (encode t book s) (cell j r) ≡ word capacity (s .heard j r)
-  unfolding heads senders bikes zeros listed
+  -- So are the register,
+  register-back : registerOf whole registerPlace ≡ s .ledger .state
+  unfolding whole bikes
+  register-back =
+      let rest = listed ++ (zeros ++ (senders ++ past)) in
+      let long : registerPlace + registerSize ≤ length (heads ++ (bikes ++ rest)) =
+      let a = length-heads in
+      let b = length-register (s .ledger .state) in
+      let c = length-append heads (bikes ++ rest) in
+      let d = length-append bikes rest in
+      omega arith in
+      ap (λ (b : List ℕ). registerOf b registerPlace) (sym (splice-there heads bikes rest registerPlace length-heads))
+      ∙ register-view (s .ledger .state) (heads ++ (bikes ++ rest)) registerPlace long (h .readings) (h .register)
+
+  -- the deliveries,
+  length-front : length (heads ++ bikes) ≡ deliveriesPlace
+  unfolding bikes
+  length-front = let a = length-heads in let b = length-register (s .ledger .state) in length-append heads bikes ∙ omega arith
+
+  deliveries-back : deliveriesOf (length (s .ledger .deliveries)) whole ≡ s .ledger .deliveries
+  unfolding whole listed
+  deliveries-back =
+      let n : length (s .ledger .deliveries) ≡ 0 + length (s .ledger .deliveries) = omega arith in
+      ap (λ (m : ℕ). deliveriesOf m whole) n
+      ∙ deliveries-read (heads ++ bikes) (zeros ++ (senders ++ past)) length-front [] (s .ledger .deliveries) whole
+      (sym (append-assoc heads bikes (listed ++ (zeros ++ (senders ++ past))))) (h .deliveries)
+      ∙ ap (λ (x : List (Delivery ℤ)). x ++ s .ledger .deliveries) (deliveries-zero whole)
+
+  -- and the sets heard.
+  before : List ℕ
+  before = (heads ++ bikes) ++ (listed ++ zeros)
+
+  length-before : length before ≡ heardPlace
+  unfolding before listed zeros
+  length-before =
+      let few = h .few in
+      let a = length-front in
+      let b = length-deliveries (s .ledger .deliveries) in
+      let c = length-replicate {A = ℕ} (deliverySize * (capacity - length (s .ledger .deliveries))) 0 in
+      let d = length-append listed zeros in
+      length-append (heads ++ bikes) (listed ++ zeros) ∙ omega arith
+
+  heard-last : whole ≡ before ++ (senders ++ past)
+  unfolding whole before
+  heard-last = simp append-assoc refl
+
+  cell-read : (j r : ℕ) → inTable k j r ≡ true → readLe 8 whole (cell j r) ≡ word capacity (s .heard j r)
+  unfolding senders
   cell-read j r e =
-      let w = table-bounds j r e in
-      let n = siteRounds * j + (r - 1) in
-      let ej : n / siteRounds ≡ j = omega (arith, w .0, w .1, w .2) in
-      let er : n % siteRounds + 1 ≡ r = omega (arith, w .0, w .1, w .2) in
-      read-past 8 heads (senders ++ (bikes ++ (listed ++ zeros))) heardPlace (8 * n) length-heads
-      ∙ heard-read heardSets (s .heard) (bikes ++ (listed ++ zeros)) n (omega (arith, w .0, w .1, w .2))
+      let w = table-bounds k j r e in
+      let n = maxSites * (r - 1) + j in
+      let ep : cell j r ≡ heardPlace + 8 * n = omega arith in
+      let ej : n % maxSites ≡ j = omega (arith, w .0) in
+      let er : n / maxSites + 1 ≡ r = omega (arith, w .0, w .1) in
+      (λ i. readLe 8 (heard-last i) (ep i))
+      ∙ read-past 8 before (senders ++ past) heardPlace (8 * n) length-before
+      ∙ heard-read (maxSites * k) (s .heard) past n (omega (arith, w .0, w .1, w .2))
       ∙ (λ i. word capacity (s .heard (ej i) (er i)))
 
-  heard-back : heardOf (encode t book s) ≡ s .heard
-  unfolding heardOf
-  heard-back = λ i j r m. point j r m (inTable j r) refl i
+  heard-back : heardIn k whole ≡ s .heard
+  unfolding heardIn
+  heard-back = λ i j r m. point j r m (inTable k j r) refl i
     where
-      point : (j r m : ℕ) (b : Bool) → inTable j r ≡ b → (b && has (readLe 8 (encode t book s) (cell j r)) m) ≡ s .heard j r m
+      point : (j r m : ℕ) (b : Bool) → inTable k j r ≡ b → (b && has (readLe 8 whole (cell j r)) m) ≡ s .heard j r m
       point j r m false e = sym (h .silent j r m e)
       point j r m true e = ap (λ (x : ℕ). has x m) (cell-read j r e) ∙ in-word (s .heard j r) (h .heard j r) m
 
-  -- the register,
-  front : List ℕ
-  front = heads ++ senders
-
-  length-front : length front ≡ registerPlace
-  unfolding front
-  length-front = let a = length-heads in let b = length-senders in length-append heads senders ∙ omega arith
-
-  front-split : encode t book s ≡ front ++ (bikes ++ (listed ++ zeros))
-  unfolding front heads senders bikes zeros listed
-  front-split = sym (append-assoc heads senders (bikes ++ (listed ++ zeros)))
-
-  register-back : registerOf (encode t book s) registerPlace ≡ s .ledger .state
-  unfolding bikes
-  register-back =
-      let long : registerPlace + registerSize ≤ length (front ++ (bikes ++ (listed ++ zeros))) =
-      let a = length-front in
-      let b = length-register (s .ledger .state) in
-      let c = length-append front (bikes ++ (listed ++ zeros)) in
-      let d = length-append bikes (listed ++ zeros) in
-      omega arith in
-      ap (λ (b : List ℕ). registerOf b registerPlace) (front-split ∙ sym (splice-there front bikes (listed ++ zeros) registerPlace length-front))
-      ∙ register-view (s .ledger .state) (front ++ (bikes ++ (listed ++ zeros))) registerPlace long (h .readings) (h .register)
-
-  -- and the deliveries.
-  deliveries-back : deliveriesOf (length (s .ledger .deliveries)) (encode t book s) ≡ s .ledger .deliveries
-  unfolding listed bikes
-  deliveries-back =
-      let n : length (s .ledger .deliveries) ≡ 0 + length (s .ledger .deliveries) = omega arith in
-      let a = length-front in
-      let b = length-register (s .ledger .state) in
-      let l : length (front ++ bikes) ≡ deliveriesPlace = length-append front bikes ∙ omega arith in
-      ap (λ (k : ℕ). deliveriesOf k (encode t book s)) n
-      ∙ deliveries-read (front ++ bikes) zeros l [] (s .ledger .deliveries) (encode t book s)
-      (front-split ∙ sym (append-assoc front bikes (listed ++ zeros))) (h .deliveries)
-      ∙ ap (λ (x : List (Delivery ℤ)). x ++ s .ledger .deliveries) (deliveries-zero (encode t book s))
-
-  -- A site that bytes can hold is what its bytes say.
-  pub view-encode : view t book (encode t book s) ≡ s
+  -- A site that bytes can hold is what its bytes say, whatever is past it.
+  pub view-encode : view t book (encode t book k s ++ past) ≡ s
   view-encode =
-      (λ i.
-      siteOf t book (head-read i) (heard-back i) (record { state = register-back i; deliveries = deliveriesOf (count-read i) (encode t book s) }))
+      ap (view t book) grouped
+      ∙ (λ i. siteOf t book (head-read i) (heardIn (span-read i) whole) (record { state = register-back i; deliveries = deliveriesOf (count-read i) whole }))
       ∙ (λ i.
       record {
         received = λ m. in-word (s .received) (h .received) m i;
@@ -300,6 +320,6 @@ module _ (t : SiteTable) (book : List Command) (s : protocol.Site (dash t book))
         round = s .round;
         phase = phase-seen (s .phase) (h .phase) i;
         position = s .position;
-        heard = s .heard;
+        heard = heard-back i;
         ledger = record { state = s .ledger .state; deliveries = deliveries-back i };
       })

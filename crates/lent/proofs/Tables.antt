@@ -1,4 +1,4 @@
--- The tables of a lent site are good where the sets and commands that count are within the book and the bytes of all others are 0.
+-- Bytes that are 0, and the deliveries of a lent site: good where the commands that count are within the book and the bytes of all others are 0.
 -- Rests on sets' Laws.
 use mathlib.Core.Path.{_≡_, refl, sym, ap, subst, _∙_}
 use mathlib.Core.Bool.{Bool, true, false, not, _&&_, _||_}
@@ -9,21 +9,19 @@ use native.Mathlib.Nat.{mul-suc}
 use native.Mathlib.Decide.{ℕ-discrete}
 use native.Mathlib.Omega.{arith}
 use lib.Bits.{bitOr, or-lt}
-use lib.Dec.{eqb, leb, ltb, lit<}
+use lib.Dec.{eqb, ltb, lit<}
 use lib.ListN.{length, getD}
-use borrow.Author.Tests.{eq-eqb, ne-eqb, eqb-true, lt-ltb, le-ltb, ltb-true, ltb-false, le-leb, lt-leb, leb-true}
+use borrow.Author.Tests.{eq-eqb, ne-eqb, eqb-true, lt-ltb, le-ltb, ltb-true, ltb-false, le-leb, lt-leb}
 use Rattle.theory.specs.Sets.{all, pick}
-use Rattle.theory.specs.Counting.{both, left, right, never, same-test, lt-or-le, all-at, all-of, all-none, all-ext, any-not-all, not-not, or-false}
+use Rattle.theory.specs.Counting.{both, left, right, same-test, lt-or-le, all-at, all-of, all-ext, any-not-all, not-not, or-false}
 use Rattle.wire.specs.Wire.{readLe}
 use Rattle.wire.proofs.Laws.{read-suc, read-none, read-one}
 use Rattle.sets.specs.declared.Set.{Set}
-use Rattle.sets.specs.Sets.{capacity, inSet, emptyOf, unionOf, isEmptyOf, withinOf, setBytes, readSet}
-use Rattle.sets.proofs.Laws.{in-union, within-at, within-of, within-all, empty-word, read-fits}
-use Rattle.layout.specs.Layout.{siteSize, siteRounds, heardSets, heardAt, deliveriesPlace, deliverySize, slot}
-use Rattle.table.specs.Table.{maxSites}
-use Rattle.layout.specs.Good.{goodHeard, goodSlot}
-use Rattle.layout.proofs.Tables.{within-empty}
-use Rattle.lent.specs.Clear.{clearFrom, unionFrom, recordedAt}
+use Rattle.sets.specs.Sets.{capacity, inSet, unionOf, isEmptyOf, withinOf}
+use Rattle.sets.proofs.Laws.{in-union, empty-word}
+use Rattle.layout.specs.Layout.{siteSize, heardPlace, deliveriesPlace, deliverySize, slot}
+use Rattle.layout.specs.Good.{goodSlot}
+use Rattle.lent.specs.Clear.{clearFrom, recordedAt}
 
 -- ---- tests, all together
 
@@ -37,11 +35,11 @@ pub and-assoc : (a b c : Bool) → (a && b) && c ≡ a && (b && c)
 and-assoc true b c = refl
 and-assoc false b c = refl
 
-and-true : (a : Bool) → a && true ≡ a
+pub and-true : (a : Bool) → a && true ≡ a
 and-true true = refl
 and-true false = refl
 
-and-false : (a : Bool) → a && false ≡ false
+pub and-false : (a : Bool) → a && false ≡ false
 and-false true = refl
 and-false false = refl
 
@@ -49,17 +47,12 @@ pub same-false : (a : Bool) → (a ≡ true → ⊥) → a ≡ false
 same-false true h = absurd (h refl)
 same-false false h = refl
 
-absorbed : (x y : Bool) → (y ≡ true → x ≡ true) → x && y ≡ y
-absorbed x true h = ap (λ (t : Bool). t && true) (h refl)
-absorbed true false h = refl
-absorbed false false h = refl
-
 all-both : (n : ℕ) (p q : ℕ → Bool) → all n (λ m. p m && q m) ≡ all n p && all n q
 unfolding all
 all-both zero p q = refl
 all-both (suc n) p q = ap (λ (t : Bool). t && (p n && q n)) (all-both n p q) ∙ and-swap (all n p) (all n q) (p n) (q n)
 
-all-split : (m n : ℕ) (p : ℕ → Bool) → all (m + n) p ≡ all m p && all n (λ i. p (m + i))
+pub all-split : (m n : ℕ) (p : ℕ → Bool) → all (m + n) p ≡ all m p && all n (λ i. p (m + i))
 unfolding all
 all-split m zero p = let q : m + 0 ≡ m = omega arith in ap (λ (k : ℕ). all k p) q ∙ sym (and-true (all m p))
 all-split m (suc n) p =
@@ -93,14 +86,14 @@ within-union x y c =
     ∙ all-both capacity (λ m. not (inSet x m) || ltb m c) (λ m. not (inSet y m) || ltb m c)
 
 -- An empty set is one within a book of no commands.
-empty-within : (x : Set) → isEmptyOf x ≡ withinOf x 0
+pub empty-within : (x : Set) → isEmptyOf x ≡ withinOf x 0
 empty-within x =
     ap not (any-not-all capacity (inSet x))
     ∙ not-not (all capacity (λ m. not (inSet x m)))
     ∙ all-ext capacity (λ m. not (inSet x m)) (λ m. not (inSet x m) || ltb m 0)
     (λ m l. sym (or-false (not (inSet x m))) ∙ ap (λ (t : Bool). not (inSet x m) || t) (sym (le-ltb m 0 (omega arith))))
 
-zero-word : (x : Set) → x .bits < 2 ^ 64 → eqb (x .bits) 0 ≡ withinOf x 0
+pub zero-word : (x : Set) → x .bits < 2 ^ 64 → eqb (x .bits) 0 ≡ withinOf x 0
 zero-word x h = empty-word x h ∙ empty-within x
 
 pub or-zero : (a b : ℕ) → a < 2 ^ 64 → b < 2 ^ 64 → eqb (bitOr a b) 0 ≡ eqb a 0 && eqb b 0
@@ -188,102 +181,13 @@ clear-both b from m at n h l g =
     (all-of n _ (λ i o. let q : from + (at + i - from) ≡ at + i = omega arith in ap (λ (j : ℕ). eqb (getD b j 0) 0) (sym q) ∙ all-at (at + n - from) _ e (at + i - from) (omega arith))))
 
 -- What the code makes of the first word and of the words up to the end.
-pub rest-judged : (b : List ℕ) (from words : ℕ) {x : ℕ} {t : Bool} → length b ≡ siteSize → from + 8 * words ≤ siteSize → siteSize < from + 8 * words + 8 → (words ≡ 0 → ⊥)
-    → x ≡ readLe 8 b from → t ≡ clearFrom b (siteSize - 8 * words) (8 * words) → eqb x 0 && t ≡ clearFrom b from (siteSize - from)
+pub rest-judged : (b : List ℕ) (from words : ℕ) {x : ℕ} {t : Bool} → length b ≡ siteSize → from + 8 * words ≤ heardPlace → heardPlace < from + 8 * words + 8 → (words ≡ 0 → ⊥)
+    → x ≡ readLe 8 b from → t ≡ clearFrom b (heardPlace - 8 * words) (8 * words) → eqb x 0 && t ≡ clearFrom b from (heardPlace - from)
 rest-judged b from words size l g n ex et =
-    let q : siteSize - 8 * words + 8 * words - from ≡ siteSize - from = omega arith in
+    let q : heardPlace - 8 * words + 8 * words - from ≡ heardPlace - from = omega arith in
     (λ i. (ap (λ (z : ℕ). eqb z 0) ex ∙ clear-word 8 b from (omega (arith, size))) i && et i)
-    ∙ clear-both b from 8 (siteSize - 8 * words) (8 * words) (omega arith) (omega arith) (omega arith)
+    ∙ clear-both b from 8 (heardPlace - 8 * words) (8 * words) (omega arith) (omega arith) (omega arith)
     ∙ ap (clearFrom b from) q
-
--- ---- the sets heard
-
--- A union is within a book where all its sets are.
-union-within : (b : List ℕ) (at commands n : ℕ) → withinOf (unionFrom b at n) commands ≡ all n (λ k. withinOf (readSet b (at + setBytes * k)) commands)
-unfolding unionFrom all
-union-within b at commands zero = within-empty commands
-union-within b at commands (suc n) =
-    within-union (unionFrom b at n) (readSet b (at + setBytes * n)) commands
-    ∙ ap (λ (t : Bool). t && withinOf (readSet b (at + setBytes * n)) commands) (union-within b at commands n)
-
--- One set more.
-pub union-more : (b : List ℕ) (at k : ℕ) {x y z : Set} → x ≡ unionFrom b at k → y ≡ readSet b (at + setBytes * k) → z ≡ unionOf x y → z ≡ unionFrom b at (k + 1)
-unfolding unionFrom
-union-more b at k ex ey ez = let q : suc k ≡ k + 1 = omega arith in ez ∙ (λ i. unionOf (ex i) (ey i)) ∙ ap (unionFrom b at) q
-
-pub union-none : (b : List ℕ) (at : ℕ) → emptyOf ≡ unionFrom b at 0
-unfolding unionFrom
-union-none b at = refl
-
-pub first-few : (t : Bool) (sites : ℕ) → sites ≤ maxSites → pick t sites 0 ≤ maxSites
-first-few true sites h = h
-first-few false sites h = omega arith
-
-module _ (b : List ℕ) (sites commands : ℕ) (size : length b ≡ siteSize) (small : (i : ℕ) → getD b i 0 < 256) where
-  abbrev good : ℕ → Bool
-  good = goodHeard sites commands b
-
-  spoken : (m : ℕ) → m < siteRounds * sites → withinOf (readSet b (heardAt m)) commands ≡ good m
-  spoken m l =
-      sym (and-true (withinOf (readSet b (heardAt m)) commands))
-      ∙ ap (λ (t : Bool). withinOf (readSet b (heardAt m)) commands && (t || eqb (readLe setBytes b (heardAt m)) 0)) (sym (lt-ltb m (siteRounds * sites) l))
-
-  silent : (m : ℕ) → m < heardSets → siteRounds * sites ≤ m → withinOf (readSet b (heardAt m)) 0 ≡ good m
-  unfolding readSet
-  silent m l g =
-      let s = readSet b (heardAt m) in
-      let e : eqb (readLe setBytes b (heardAt m)) 0 ≡ withinOf s 0 = zero-word s (read-fits b (heardAt m) small (omega (arith, size))) in
-      sym
-      (ap (λ (t : Bool). withinOf s commands && (t || eqb (readLe setBytes b (heardAt m)) 0)) (le-ltb m (siteRounds * sites) g)
-      ∙ ap (λ (t : Bool). withinOf s commands && t) e
-      ∙ absorbed (withinOf s commands) (withinOf s 0) (λ h. within-of s commands (λ j lj hj. absurd (nothing (within-at s 0 h j lj hj)))))
-    where
-      nothing : {j : ℕ} → j < 0 → ⊥
-      nothing h = omega arith
-
-  -- The k-th set of a sender.
-  of-sender : (sender k : ℕ) → sender < maxSites → k < siteRounds
-      → withinOf (readSet b (heardAt (siteRounds * sender) + setBytes * k)) (pick (ltb sender sites) commands 0) ≡ good (siteRounds * sender + k)
-  of-sender sender k l g =
-      let q : heardAt (siteRounds * sender) + setBytes * k ≡ heardAt (siteRounds * sender + k) = omega arith in
-      ap (λ (at : ℕ). withinOf (readSet b at) (pick (ltb sender sites) commands 0)) q
-      ∙ ⊎-elim
-      (λ h. ap (λ (t : Bool). withinOf (readSet b (heardAt (siteRounds * sender + k))) (pick t commands 0)) (lt-ltb sender sites h)
-      ∙ spoken (siteRounds * sender + k) (omega arith))
-      (λ h. ap (λ (t : Bool). withinOf (readSet b (heardAt (siteRounds * sender + k))) (pick t commands 0)) (le-ltb sender sites h)
-      ∙ silent (siteRounds * sender + k) (omega arith) (omega arith))
-      (lt-or-le sender sites)
-
-  -- All sets of a sender.
-  sender-sets : (sender : ℕ) → sender < maxSites
-      → withinOf (unionFrom b (heardAt (siteRounds * sender)) siteRounds) (pick (ltb sender sites) commands 0) ≡ all siteRounds (λ k. good (siteRounds * sender + k))
-  sender-sets sender l =
-      union-within b (heardAt (siteRounds * sender)) (pick (ltb sender sites) commands 0) siteRounds
-      ∙ all-ext siteRounds _ (λ k. good (siteRounds * sender + k)) (λ k g. of-sender sender k l g)
-
-  -- What the code tells of one sender more.
-  module _ (sender : ℕ) {u : Set} {n : ℕ} {t : Bool} (l : sender < maxSites) (eu : u ≡ unionFrom b (heardAt (siteRounds * sender)) siteRounds)
-      (en : n ≡ pick (ltb sender sites) commands 0) (et : t ≡ withinOf u n) where
-    told : t ≡ all siteRounds (λ k. good (siteRounds * sender + k))
-    told = et ∙ (λ i. withinOf (eu i) (en i)) ∙ sender-sets sender l
-
-    pub senders-more : all (siteRounds * sender) good ≡ true → t ≡ true → all (siteRounds * (sender + 1)) good ≡ true
-    senders-more h y =
-        let q : siteRounds * sender + siteRounds ≡ siteRounds * (sender + 1) = omega arith in
-        ap (λ (n : ℕ). all n good) (sym q)
-        ∙ all-split (siteRounds * sender) siteRounds good
-        ∙ (λ i. h i && (sym told ∙ y) i)
-
-    pub senders-not : t ≡ false → false ≡ all heardSets good
-    senders-not y = sym (same-false (all heardSets good) (λ h. never t (told ∙ all-of siteRounds _ (λ k g. all-at heardSets good h (siteRounds * sender + k) (omega arith))) y))
-
-  -- Where the first looked at is the first that there is not, the book has all that a set can hold.
-  pub senders-first : all (siteRounds * pick (leb capacity commands) sites 0) good ≡ true
-  senders-first = go (leb capacity commands) refl
-    where
-      go : (t : Bool) → leb capacity commands ≡ t → all (siteRounds * pick t sites 0) good ≡ true
-      go true e = all-of (siteRounds * sites) good (λ m l. sym (spoken m l) ∙ within-all (readSet b (heardAt m)) commands (leb-true capacity commands e))
-      go false e = let q : 0 ≡ siteRounds * 0 = omega arith in ap (λ (n : ℕ). all n good) (sym q) ∙ all-none good
 
 -- ---- the deliveries
 
@@ -298,7 +202,7 @@ module _ (b : List ℕ) (commands : ℕ) (size : length b ≡ siteSize) where
       read-one b (slot k) (omega (arith, size))
       ∙ sym (ap (λ (t : Bool). pick t (getD b (slot k) 0) 0) (eq-eqb (deliverySize * k % deliverySize) 0 e))
 
-  counted-below : 0 < commands → all capacity (recordedAt commands b) ≡ true → (m : ℕ) → m < siteSize - deliveriesPlace → counted b m < commands
+  counted-below : 0 < commands → all capacity (recordedAt commands b) ≡ true → (m : ℕ) → m < heardPlace - deliveriesPlace → counted b m < commands
   counted-below h e m l = go (eqb (m % deliverySize) 0) refl
     where
       go : (t : Bool) → eqb (m % deliverySize) 0 ≡ t → counted b m < commands
@@ -338,8 +242,8 @@ module _ (b : List ℕ) (commands : ℕ) (size : length b ≡ siteSize) where
           same m l h = omega arith
 
   -- The greatest command is one of the book where all are.
-  pub greatest-told : {g : ℕ} → ((m : ℕ) → m < siteSize - deliveriesPlace → counted b m ≤ g)
-      → ((c : ℕ) → 0 < c → ((m : ℕ) → m < siteSize - deliveriesPlace → counted b m < c) → g < c) → ltb g commands ≡ all capacity (recordedAt commands b)
+  pub greatest-told : {g : ℕ} → ((m : ℕ) → m < heardPlace - deliveriesPlace → counted b m ≤ g)
+      → ((c : ℕ) → 0 < c → ((m : ℕ) → m < heardPlace - deliveriesPlace → counted b m < c) → g < c) → ltb g commands ≡ all capacity (recordedAt commands b)
   greatest-told {g} most least =
       same-test (ltb g commands) (all capacity (recordedAt commands b))
       (λ h. all-of capacity (recordedAt commands b)
@@ -370,11 +274,11 @@ module _ (b : List ℕ) (commands recorded : ℕ) where
         || sym (le-leb recorded k h) i && eqb (readLe 1 b (slot k)) 0 && eqb (readLe 4 b (slot k + 1)) 0)
 
     -- What the code makes of the two parts.
-    slots-judged : {w e : Bool} → recorded ≤ capacity → w ≡ all recorded (recordedAt commands b) → e ≡ clearFrom b (slot recorded) (siteSize - slot recorded)
+    slots-judged : {w e : Bool} → recorded ≤ capacity → w ≡ all recorded (recordedAt commands b) → e ≡ clearFrom b (slot recorded) (heardPlace - slot recorded)
         → w && e ≡ all capacity (goodSlot commands recorded b)
     slots-judged h ew ee =
         let q : recorded + (capacity - recorded) ≡ capacity = omega arith in
-        let z : siteSize - slot recorded ≡ 5 * (capacity - recorded) = omega arith in
+        let z : heardPlace - slot recorded ≡ 5 * (capacity - recorded) = omega arith in
         (λ i.
         (ew ∙ all-ext recorded _ (goodSlot commands recorded b) (λ m l. slot-recorded m l)) i
         && (ee ∙ ap (clearFrom b (slot recorded)) z
@@ -387,7 +291,7 @@ module _ (b : List ℕ) (commands recorded : ℕ) where
         ∙ ap (λ (n : ℕ). all n (goodSlot commands recorded b)) q
 
     -- Where there is a recorded command of the book, the places after it may be taken for commands 0.
-    recorded-all : 0 < recorded → recorded ≤ capacity → clearFrom b (slot recorded) (siteSize - slot recorded) ≡ true
+    recorded-all : 0 < recorded → recorded ≤ capacity → clearFrom b (slot recorded) (heardPlace - slot recorded) ≡ true
         → all recorded (recordedAt commands b) ≡ all capacity (recordedAt commands b)
     unfolding clearFrom
     recorded-all h l e =
@@ -400,18 +304,21 @@ module _ (b : List ℕ) (commands recorded : ℕ) where
         unrecorded a k g m =
             let p = ltb-true _ commands (all-at recorded (recordedAt commands b) a 0 h) in
             let q : slot recorded + (slot k - slot recorded) ≡ slot k = omega arith in
-            let z : getD b (slot recorded + (slot k - slot recorded)) 0 ≡ 0 = eqb-true _ 0 (all-at (siteSize - slot recorded) _ e (slot k - slot recorded) (omega arith)) in
+            let z : getD b (slot recorded + (slot k - slot recorded)) 0 ≡ 0 = eqb-true _ 0 (all-at (heardPlace - slot recorded) _ e (slot k - slot recorded) (omega arith)) in
             let y = read-one b (slot k) (omega (arith, size)) in
             let x = ap (λ (i : ℕ). getD b i 0) q in
             lt-ltb _ commands (omega arith)
 
-    -- What the code tells.
-    module _ {e : Bool} (l : recorded ≤ capacity) (ee : e ≡ clearFrom b (slot recorded) (siteSize - slot recorded)) where
+    -- What the code tells where none is recorded,
+    pub slots-none : {e : Bool} → recorded ≡ 0 → e ≡ clearFrom b deliveriesPlace (heardPlace - deliveriesPlace) → e ≡ all capacity (goodSlot commands recorded b)
+    slots-none z ee =
+        let q : deliveriesPlace ≡ slot recorded = omega arith in
+        slots-judged (omega arith) (all-zero (recordedAt commands b) ∙ ap (λ (n : ℕ). all n (recordedAt commands b)) (sym z)) (ee ∙ ap (λ (at : ℕ). clearFrom b at (heardPlace - at)) q)
+
+    -- and where one is.
+    module _ {e : Bool} (l : recorded ≤ capacity) (ee : e ≡ clearFrom b (slot recorded) (heardPlace - slot recorded)) where
       pub slots-not : e ≡ false → false ≡ all capacity (goodSlot commands recorded b)
       slots-not h = sym (and-false (all recorded (recordedAt commands b))) ∙ slots-judged l refl (sym h ∙ ee)
-
-      pub slots-none : recorded ≡ 0 → e ≡ true → true ≡ all capacity (goodSlot commands recorded b)
-      slots-none z h = slots-judged l (all-zero (recordedAt commands b) ∙ ap (λ (n : ℕ). all n (recordedAt commands b)) (sym z)) (sym h ∙ ee)
 
       pub slots-some : 0 < recorded → e ≡ true → {w : Bool} → w ≡ all capacity (recordedAt commands b) → w ≡ all capacity (goodSlot commands recorded b)
       slots-some z h ew = sym (and-true _) ∙ slots-judged l (ew ∙ sym (recorded-all z l (sym ee ∙ h))) (sym h ∙ ee)

@@ -32,7 +32,9 @@ abbrev pub HeldDeliveries : List (Delivery ℤ) → Type 0
 HeldDeliveries [] = Unit {0}
 HeldDeliveries (d ∷ ds) = (d .command < 2 ^ 8) × SFits w32 (d .answer) × HeldDeliveries ds
 
-pub record InRange (t : SiteTable) (book : List Command) (s : protocol.Site (dash t book)) : Type 0 where
+-- With k rows in its table of sets heard.
+pub record InRange (t : SiteTable) (book : List Command) (k : ℕ) (s : protocol.Site (dash t book)) : Type 0 where
+  pub span : k < 2 ^ 16
   pub received : Held (s .received)
   pub delivered : Held (s .delivered)
   pub pending : Held (s .pending)
@@ -40,9 +42,9 @@ pub record InRange (t : SiteTable) (book : List Command) (s : protocol.Site (das
   pub round : s .round < 2 ^ 8
   pub phase : HeldPhase (s .phase)
   pub position : s .position < 2 ^ 16
-  -- nothing is heard but of 11 senders and 33 rounds
+  -- nothing is heard but of 11 senders and of rounds that there are rows for
   pub heard : (j r : ℕ) → Held (s .heard j r)
-  pub silent : (j r m : ℕ) → inTable j r ≡ false → s .heard j r m ≡ false
+  pub silent : (j r m : ℕ) → inTable k j r ≡ false → s .heard j r m ≡ false
   pub readings : Within (s .ledger .state)
   pub register : Sized (s .ledger .state)
   pub few : length (s .ledger .deliveries) ≤ capacity

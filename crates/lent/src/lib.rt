@@ -1,19 +1,20 @@
 // A lent site judged byte by byte, and a fresh site written over a lent buffer.
 ghost use mathlib.Core.Path.{_≡_};
 ghost use mathlib.Core.List.{List};
-ghost use Prim.Native.Nat.{_+_, _-_, _*_, _%_, _≤_, _<_, ℕ};
-ghost use lib.ListN.{length, getD};
+ghost use Prim.Native.Nat.{ℕ, _+_, _-_, _*_, _%_, _≤_, _<_};
+ghost use lib.ListN.{length};
 ghost use mathlib.Core.Bool.{_&&_};
 ghost use lib.Dec.{eqb, leb, ltb};
 ghost use Rattle.theory.specs.Sets.{all, pick};
-ghost use Rattle.sets.specs.Sets.{capacity};
+ghost use Rattle.wire.specs.Wire.{readLe};
+ghost use Rattle.sets.specs.Sets.{capacity, withinOf, loadSet};
 ghost use Rattle.table.specs.declared.SiteTable.{SiteTable};
 ghost use Rattle.table.specs.Table.{maxSites};
 ghost use Rattle.register.specs.declared.Command.{Command};
 ghost use Rattle.protocol.specs.Site as protocol;
 ghost use Rattle.system.specs.Dash.{dash};
-ghost use Rattle.layout.specs.Layout.{siteSize, siteRounds, heardSets, heardAt, deliverySize, headOf};
-ghost use Rattle.lent.specs.Clear.{clearFrom, unionFrom, recordedAt};
+ghost use Rattle.layout.specs.Layout.{siteSize, siteRounds, spanPlace, rowSize, heardPlace, deliverySize, headOf};
+ghost use Rattle.lent.specs.Clear.{clearFrom, united, goodSender, recordedAt};
 ghost use Rattle.layout.specs.Good.{goodHead, goodHeard, goodSlot, goodPhase, goodSite, Holds};
 use layout::Site;
 use sets::Set;
@@ -26,7 +27,8 @@ fn judge_header(site: &[u8], commands: usize) -> bool
 {
     let tag = wire::get1(site, Site::PHASE);
     let round = wire::get1(site, Site::ROUND) as usize;
-    let deliveries = wire::get4(site, Site::COUNT) as usize;
+    let deliveries = wire::get2(site, Site::COUNT) as usize;
+    let span = wire::get2(site, Site::SPAN) as usize;
     let proposed = Set::read(site, Site::NC).union(Set::read(site, Site::C));
     let sets = Set::read(site, Site::RECEIVED)
         .union(Set::read(site, Site::DELIVERED))
@@ -38,23 +40,8 @@ fn judge_header(site: &[u8], commands: usize) -> bool
         & (round <= Site::ROUNDS)
         & (deliveries <= commands)
         & (deliveries <= Set::CAPACITY)
+        & (span <= Site::ROUNDS)
         & sets.within(commands)
-}
-
-// The union of what a sender acknowledged in all rounds.
-fn sender_union(site: &[u8], sender: usize) -> Set
-    requires { ⌜ (length (now site) ≡ siteSize) × (sender < maxSites) ⌝ }
-    ensures { λ r. ⌜ r ≡ unionFrom (now (site .entry)) (heardAt (siteRounds * sender)) siteRounds ⌝ }
-{
-    let from = Site::HEARD + Set::BYTES * (Site::ROUNDS * sender);
-    let mut union = Set::empty();
-    let mut k = 0;
-    while k < Site::ROUNDS {
-        let set = Set::read(site, from + Set::BYTES * k);
-        union = union.union(set);
-        k += 1;
-    }
-    union
 }
 
 // The first sender whose sets are looked at: a book of 64 commands has all that a set can hold.
@@ -67,30 +54,74 @@ fn first_looked_at(sites: usize, commands: usize) -> usize
     0
 }
 
-// The commands that a sender may have acknowledged: none where there is no such sender.
-fn allowed(sender: usize, sites: usize, commands: usize) -> usize
-    ensures { λ r. ⌜ r ≡ pick (ltb sender sites) commands 0 ⌝ }
+// What the senders from one on acknowledged in the row at a place joins their unions.
+fn unite(unions: &mut [u64], site: &[u8], at: usize, from: usize)
+    requires { ⌜ (length (now unions) ≡ maxSites) × (at + rowSize ≤ length (now site)) × (from ≤ maxSites) ⌝ }
+    ensures { λ _. ⌜ ((j : ℕ) → loadSet (now (unions .exit)) j ≡ united (now (unions .entry)) (now (site .entry)) at from maxSites j) ⌝ }
 {
-    if sender < sites {
-        return commands;
+    let mut j = from;
+    while j < SiteTable::MAX_SITES {
+        unions[j] = unions[j] | wire::get8(site, at + Set::BYTES * j);
+        j += 1;
     }
-    0
 }
 
-// Whether every set heard is within the book, and those of senders that there are not are empty.
-fn judge_heard(site: &[u8], sites: usize, commands: usize) -> bool
-    requires { ⌜ (length (now site) ≡ siteSize) × (sites ≤ maxSites) ⌝ }
-    ensures { λ r. ⌜ r ≡ all heardSets (goodHeard sites commands (now (site .entry))) ⌝ }
+// The union of the sets from one place up to another.
+fn union_between(unions: &[u64], from: usize, to: usize) -> Set
+    requires { ⌜ (from ≤ to) × (to ≤ length (now unions)) ⌝ }
+    ensures { λ r. ⌜ ((c : ℕ) → withinOf r c ≡ all (to - from) (λ k. withinOf (loadSet (now (unions .entry)) (from + k)) c)) ⌝ }
 {
-    let mut sender = first_looked_at(sites, commands);
-    while sender < SiteTable::MAX_SITES {
-        let union = sender_union(site, sender);
-        if !union.within(allowed(sender, sites, commands)) {
-            return false;
-        }
-        sender += 1;
+    let mut union = Set::empty();
+    let mut k = from;
+    while k < to {
+        union = union.union(Set::load(unions, k));
+        k += 1;
     }
-    true
+    union
+}
+
+// Whether all that the senders from the first looked at on acknowledged in the first rounds is good: found by their unions,
+// row by row with all senders from one on side by side.
+fn judge_from(
+    site: &[u8],
+    sites: usize,
+    commands: usize,
+    rounds: usize,
+    first: usize,
+    from: usize,
+) -> bool
+    requires { ⌜ (length (now site) ≡ siteSize) × (sites ≤ maxSites) × (rounds ≤ siteRounds) × (first ≤ sites) × (from ≤ first) ⌝ }
+    ensures { λ r. ⌜ r ≡ all (maxSites - first) (λ k. goodSender sites commands (now (site .entry)) rounds (first + k)) ⌝ }
+{
+    let mut unions = [0u64; SiteTable::MAX_SITES];
+    let mut k = 0;
+    while k < rounds {
+        unite(&mut unions, site, Site::HEARD + Site::ROW * k, from);
+        k += 1;
+    }
+    let inside = union_between(&unions, first, sites);
+    let outside = union_between(&unions, sites, SiteTable::MAX_SITES);
+    inside.within(commands) & outside.is_empty()
+}
+
+// One half of the senders. Those before it are not united where none of them is looked at.
+const HALF: usize = 6;
+
+// Whether every set heard is within the book, and those of senders that there are not are empty.
+// The senders united are known to the compiler, 11 or 5, so that it unites a row without a loop.
+fn judge_heard(site: &[u8], sites: usize, commands: usize) -> bool
+    requires { ⌜ (length (now site) ≡ siteSize) × (sites ≤ maxSites) × (readLe 2 (now site) spanPlace ≤ siteRounds) ⌝ }
+    ensures { λ r. ⌜ r ≡ goodHeard sites commands (now (site .entry)) ⌝ }
+{
+    let rounds = wire::get2(site, Site::SPAN) as usize;
+    let first = first_looked_at(sites, commands);
+    if (rounds == 0) | (first == SiteTable::MAX_SITES) {
+        return true;
+    }
+    if first < HALF {
+        return judge_from(site, sites, commands, rounds, first, 0);
+    }
+    judge_from(site, sites, commands, rounds, first, HALF)
 }
 
 // Whether the bytes from one place up to another are 0: found by their union, without a branch a byte.
@@ -121,17 +152,17 @@ fn are_words_clear(site: &[u8], from: usize, n: usize) -> bool
     found == 0
 }
 
-// Whether the bytes from a place up to the site's end are 0: words up to the end, and before them the word at the place, which may overlap the next.
+// Whether the bytes from a place up to the end of the deliveries are 0: words up to the end, and before them the word at the place, which may overlap the next.
 fn is_rest_clear(site: &[u8], from: usize) -> bool
-    requires { ⌜ (length (now site) ≡ siteSize) × (from ≤ siteSize) ⌝ }
-    ensures { λ r. ⌜ r ≡ clearFrom (now (site .entry)) from (siteSize - from) ⌝ }
+    requires { ⌜ (length (now site) ≡ siteSize) × (from ≤ heardPlace) ⌝ }
+    ensures { λ r. ⌜ r ≡ clearFrom (now (site .entry)) from (heardPlace - from) ⌝ }
 {
-    let words = (Site::SIZE - from) / 8;
+    let words = (Site::HEARD - from) / 8;
     if words == 0 {
-        return is_clear(site, from, Site::SIZE);
+        return is_clear(site, from, Site::HEARD);
     }
     let first = wire::get8(site, from);
-    (first == 0) & are_words_clear(site, Site::SIZE - 8 * words, words)
+    (first == 0) & are_words_clear(site, Site::HEARD - 8 * words, words)
 }
 
 // The k-th byte of the places for deliveries where it is a command, and else 0.
@@ -161,7 +192,7 @@ fn commands_within(site: &[u8], commands: usize) -> bool
 {
     let mut greatest: u8 = 0;
     let mut k = 0;
-    while k < Site::SIZE - Site::DELIVERIES {
+    while k < Site::HEARD - Site::DELIVERIES {
         let command = command_byte(k, site[Site::DELIVERIES + k]);
         greatest = greater(greatest, command);
         k += 1;
@@ -170,16 +201,17 @@ fn commands_within(site: &[u8], commands: usize) -> bool
 }
 
 // Whether the recorded places for a delivery hold commands of the book, and those after them nothing. Where one is recorded, those that hold nothing may be taken for command 0.
+// Where none is, the words are as many as all places have, so that the compiler knows their number.
 fn judge_deliveries(site: &[u8], commands: usize, recorded: usize) -> bool
     requires { ⌜ (length (now site) ≡ siteSize) × (recorded ≤ capacity) ⌝ }
     ensures { λ r. ⌜ r ≡ all capacity (goodSlot commands recorded (now (site .entry))) ⌝ }
 {
+    if recorded == 0 {
+        return are_words_clear(site, Site::DELIVERIES, (Site::HEARD - Site::DELIVERIES) / 8);
+    }
     let rest = Site::DELIVERIES + Site::DELIVERY * recorded;
     if !is_rest_clear(site, rest) {
         return false;
-    }
-    if recorded == 0 {
-        return true;
     }
     commands_within(site, commands)
 }
@@ -205,34 +237,15 @@ pub fn judge(site: &[u8], sites: usize, commands: usize, entries: usize) -> bool
     if !register::judge(site, Site::REGISTER) {
         return false;
     }
-    let recorded = wire::get4(site, Site::COUNT) as usize;
+    let recorded = wire::get2(site, Site::COUNT) as usize;
     judge_deliveries(site, commands, recorded)
 }
 
-// Every byte becomes 0.
-pub fn clear(site: &mut [u8])
-    ensures { λ _. ⌜ ((k : ℕ) → getD (now (site .exit)) k 0 ≡ 0) ⌝ }
-{
-    let mut k = 0;
-    while k < site.len() {
-        site[k] = 0;
-        k += 1;
-    }
-}
-
-// The first round is written over bytes that are all 0: they are a fresh site, whose other numbers and sets are all 0.
-pub fn begin(site: &mut [u8])
-    requires { ⌜ (length (now site) ≡ siteSize) × ((k : ℕ) → getD (now site) k 0 ≡ 0) ⌝ }
-    ensures { λ _. ⌜ ((t : SiteTable) (book : List Command) → Holds t book (now (site .exit)) (protocol.fresh (dash t book))) ⌝ }
-{
-    layout::set_round(site, 1);
-}
-
-// A fresh site is written over the whole buffer.
+// A fresh site is written: all its bytes are 0 but the first, its round. Nothing was heard, so it has none in the table of sets heard.
 pub fn fresh(site: &mut [u8])
     requires { ⌜ length (now site) ≡ siteSize ⌝ }
-    ensures { λ _. ⌜ ((t : SiteTable) (book : List Command) → Holds t book (now (site .exit)) (protocol.fresh (dash t book))) ⌝ }
+    ensures { λ _. ⌜ ((t : SiteTable) (book : List Command) → Holds t book 0 (now (site .entry)) (now (site .exit)) (protocol.fresh (dash t book))) ⌝ }
 {
-    clear(site);
-    begin(site);
+    wire::clear(&mut site[..Site::HEARD]);
+    layout::set_round(site, 1);
 }

@@ -95,14 +95,14 @@ nth-past (x ∷ l) (suc k) h = nth-past l k (omega arith)
 
 module _ (n f : ℕ) (book site : List ℕ) where
   status-seen : Good n (length (commandsOf book)) (take siteSize site)
-      → ((bytes 1 (readLe 1 (take siteSize site) roundPlace) ++ bytes 1 (readLe 1 (take siteSize site) phasePlace)) ++ bytes 1 (readLe 4 (take siteSize site) countPlace))
+      → ((bytes 1 (readLe 1 (take siteSize site) roundPlace) ++ bytes 1 (readLe 1 (take siteSize site) phasePlace)) ++ bytes 1 (readLe 2 (take siteSize site) countPlace))
       ++ bytes 2 (readLe 2 (take siteSize site) positionPlace)
       ≡ statusBytes (systemOf n f book) (siteIn n f book site)
   unfolding headOf
   status-seen g =
       λ i.
       ((bytes 1 (readLe 1 (take siteSize site) roundPlace) ++ bytes 1 (sym (tag-waiting (readLe 1 (take siteSize site) phasePlace) (readSet (take siteSize site) ncPlace) (readSet (take siteSize site) cPlace) (g .tag)) i))
-      ++ bytes 1 (sym (length-deliveries (readLe 4 (take siteSize site) countPlace) (take siteSize site)) i))
+      ++ bytes 1 (sym (length-deliveries (readLe 2 (take siteSize site) countPlace) (take siteSize site)) i))
       ++ bytes 2 (readLe 2 (take siteSize site) positionPlace)
 
   -- ---- the status
@@ -119,7 +119,7 @@ module _ (n f : ℕ) (book site : List ℕ) where
       pub status-sized : siteSize ≤ length site
       status-sized = judged .1 .sized
 
-      pub status-few : readLe 4 (take siteSize site) countPlace ≤ capacity
+      pub status-few : readLe 2 (take siteSize site) countPlace ≤ capacity
       unfolding headOf
       status-few = judged .1 .good .head .room
 
@@ -127,7 +127,7 @@ module _ (n f : ℕ) (book site : List ℕ) where
       status-room = leb-true statusSize (length o) (judged .0)
 
       pub status-taken : {l : List ℕ} → l ≡ splice o 0
-          (((bytes 1 (readLe 1 (take siteSize site) roundPlace) ++ bytes 1 (readLe 1 (take siteSize site) phasePlace)) ++ bytes 1 (readLe 4 (take siteSize site) countPlace))
+          (((bytes 1 (readLe 1 (take siteSize site) roundPlace) ++ bytes 1 (readLe 1 (take siteSize site) phasePlace)) ++ bytes 1 (readLe 2 (take siteSize site) countPlace))
           ++ bytes 2 (readLe 2 (take siteSize site) positionPlace))
           → outcome 0 l ≡ statusCall n f book site o
       unfolding statusCall
@@ -166,7 +166,7 @@ module _ (n f : ℕ) (book site : List ℕ) where
     unfolding deliveryCall
     delivery-refused z =
         then-refused (forSite n f book (leb deliverySize (length o)) site)
-        (isSome (nth (deliveriesOf (readLe 4 (take siteSize site) countPlace) (take siteSize site)) i) else Range ⨾ granted) _ o q z
+        (isSome (nth (deliveriesOf (readLe 2 (take siteSize site) countPlace) (take siteSize site)) i) else Range ⨾ granted) _ o q z
 
     module _ (z : k ≡ 0) where
       pub delivery-sized : siteSize ≤ length site
@@ -175,7 +175,7 @@ module _ (n f : ℕ) (book site : List ℕ) where
       pub delivery-room : deliverySize ≤ length o
       delivery-room = leb-true deliverySize (length o) (site-judged n f book (leb deliverySize (length o)) site q z .0)
 
-      module _ {count : ℕ} (ec : count ≡ readLe 4 (take siteSize site) countPlace) where
+      module _ {count : ℕ} (ec : count ≡ readLe 2 (take siteSize site) countPlace) where
         pub delivery-below : i < count → i < capacity
         unfolding headOf
         delivery-below h = let r = site-judged n f book (leb deliverySize (length o)) site q z .1 .good .head .room in omega arith
@@ -184,16 +184,16 @@ module _ (n f : ℕ) (book site : List ℕ) where
         unfolding deliveryCall
         delivery-range h =
             last-refused (forSite n f book (leb deliverySize (length o)) site)
-            (isSome (nth (deliveriesOf (readLe 4 (take siteSize site) countPlace) (take siteSize site)) i)) Range _ o q z
-            (ap isSome (nth-past (deliveriesOf (readLe 4 (take siteSize site) countPlace) (take siteSize site)) i
-            (let e = length-deliveries (readLe 4 (take siteSize site) countPlace) (take siteSize site) in omega arith)))
+            (isSome (nth (deliveriesOf (readLe 2 (take siteSize site) countPlace) (take siteSize site)) i)) Range _ o q z
+            (ap isSome (nth-past (deliveriesOf (readLe 2 (take siteSize site) countPlace) (take siteSize site)) i
+            (let e = length-deliveries (readLe 2 (take siteSize site) countPlace) (take siteSize site) in omega arith)))
 
         pub delivery-taken : i < count → {l : List ℕ} → l ≡ splice o 0 (deliveryBytes (deliveryOf (take siteSize site) i .command) (deliveryOf (take siteSize site) i .answer))
             → outcome 0 l ≡ deliveryCall n f book site i o
         unfolding deliveryCall
         delivery-taken h e =
-            let found = nth-below (readLe 4 (take siteSize site) countPlace) i (take siteSize site) (omega arith) in
+            let found = nth-below (readLe 2 (take siteSize site) countPlace) i (take siteSize site) (omega arith) in
             (λ j. outcome 0 ((e ∙ ap (λ (x : Option (Delivery ℤ)). splice o 0 (foundBytes x)) (sym found)) j))
             ∙ last-taken (forSite n f book (leb deliverySize (length o)) site)
-            (isSome (nth (deliveriesOf (readLe 4 (take siteSize site) countPlace) (take siteSize site)) i)) Range _ o q z
+            (isSome (nth (deliveriesOf (readLe 2 (take siteSize site) countPlace) (take siteSize site)) i)) Range _ o q z
             (ap isSome found)

@@ -18,14 +18,14 @@ pub const STATUS_BYTES: usize = 5;
 
 // The numbers of a site's header are written.
 fn write_status(site: &[u8], out: &mut [u8])
-    requires { ⌜ (length (now site) ≡ siteSize) × (readLe 4 (now site) countPlace ≤ capacity) × (statusSize ≤ length (now out)) ⌝ }
+    requires { ⌜ (length (now site) ≡ siteSize) × (readLe 2 (now site) countPlace ≤ capacity) × (statusSize ≤ length (now out)) ⌝ }
     ensures { λ _. ⌜ now (out .exit) ≡ splice (now (out .entry)) 0
         (((bytes 1 (readLe 1 (now (site .entry)) roundPlace) ++ bytes 1 (readLe 1 (now (site .entry)) phasePlace))
-        ++ bytes 1 (readLe 4 (now (site .entry)) countPlace)) ++ bytes 2 (readLe 2 (now (site .entry)) positionPlace)) ⌝ }
+        ++ bytes 1 (readLe 2 (now (site .entry)) countPlace)) ++ bytes 2 (readLe 2 (now (site .entry)) positionPlace)) ⌝ }
 {
     let round = wire::get1(site, Site::ROUND);
     let phase = wire::get1(site, Site::PHASE);
-    let deliveries = wire::get4(site, Site::COUNT) as u8;
+    let deliveries = wire::get2(site, Site::COUNT) as u8;
     let position = wire::get2(site, Site::POSITION);
     wire::put1(out, 0, round);
     wire::put1(out, 1, phase);
@@ -82,9 +82,9 @@ pub fn bike(
 // How many deliveries a site has recorded.
 fn count(site: &[u8]) -> usize
     requires { ⌜ length (now site) ≡ siteSize ⌝ }
-    ensures { λ r. ⌜ r ≡ readLe 4 (now (site .entry)) countPlace ⌝ }
+    ensures { λ r. ⌜ r ≡ readLe 2 (now (site .entry)) countPlace ⌝ }
 {
-    let deliveries = wire::get4(site, Site::COUNT);
+    let deliveries = wire::get2(site, Site::COUNT);
     deliveries as usize
 }
 

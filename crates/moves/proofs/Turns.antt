@@ -40,7 +40,8 @@ use Rattle.register.specs.declared.Command.{Command}
 use Rattle.system.specs.Dash.{dash, lastRound}
 use Rattle.layout.specs.declared.Proposal.{Proposal}
 use Rattle.layout.specs.Layout.{siteRounds, headOf, view}
-use Rattle.layout.specs.Good.{Good, Holds}
+use Rattle.layout.specs.Good.{Good, HoldsOver}
+use Rattle.layout.proofs.Finish.{alone}
 use Rattle.layout.specs.Step.{settled}
 use Rattle.site.specs.declared.Turn.{Turn}
 use Rattle.site.specs.declared.Turn.the-variants as turns
@@ -50,10 +51,11 @@ use Rattle.entries.specs.Entries.{logTo, writeEntry, viewEntry, inRangeOf}
 use Rattle.entries.proofs.Bytes.{Fits}
 use Rattle.sent.specs.Sent as sent
 use Rattle.sent.specs.Sent.{maxAcknowledgments, cellOf, acksOf, checksOf, acknowledgedIn, checkedIn, oneMore, checked}
-use Rattle.world.specs.World.{Buffers, siteAt, knownTo, entryFor, worldOf, HoldsWorld, Outcome, Answered}
+use Rattle.world.specs.World.{Buffers, siteAt, PastRows, knownTo, entryFor, worldOf, HoldsWorld, Outcome, Answered}
 use Rattle.world.specs.Parts.{lent, AtSite}
 use Rattle.world.proofs.Sites.{small-site}
-use Rattle.world.proofs.Hold.{seen, position-seen, put-holds, refused, taken, refused-site}
+use Rattle.world.proofs.Past.{past-held}
+use Rattle.world.proofs.Hold.{seen, position-seen, put-holds, refused, taken, past-at, refused-site}
 use Rattle.world.proofs.Growing.{entry-holds, acknowledgment-holds, check-holds}
 use Rattle.moves.specs.Moves.{Ready, TurnedBy}
 use Rattle.moves.proofs.Words.{undelivered-word, unacknowledged-word, pending-word, undelivered-known, unacknowledged-known}
@@ -87,13 +89,13 @@ same-verdict true n k x y d h = λ j. verdict (true else Disabled ⨾ n else Dis
 same-verdict false n k x y d h = refl
 
 -- A turn by an empty log is that by any log without an entry of the site and its round, where the site acknowledges.
-by-any-log : (t : SiteTable) (book : List Command) (i : ℕ) (log : recovery.Log) (s : protocol.Site (dash t book)) {r : Turn} {after : List ℕ}
-    → (isAcknowledging (s .phase) ≡ true → recovery.entries i (s .round) log ≡ 0) → Turned t book i [] s r after → Turned t book i log s r after
-by-any-log t book i log s {r} {after} h w =
+by-any-log : (t : SiteTable) (book : List Command) (i : ℕ) (log : recovery.Log) (s : protocol.Site (dash t book)) {before : List ℕ} {r : Turn} {after : List ℕ}
+    → (isAcknowledging (s .phase) ≡ true → recovery.entries i (s .round) log ≡ 0) → Turned t book i [] s before r after → Turned t book i log s before r after
+by-any-log t book i log s {before} {r} {after} h w =
     record {
       answer = w .answer ∙ ap (λ (v : Verdict). answerTo t book v (acknowledges (dash t book) s) s) same;
       site =
-          subst (λ (v : Verdict). Holds t book after (settled v (pick (acknowledges (dash t book) s) (acknowledge (dash t book) s) (propose (dash t book) s)) s)) same
+          subst (λ (v : Verdict). HoldsOver t book before after (settled v (pick (acknowledges (dash t book) s) (acknowledge (dash t book) s) (propose (dash t book) s)) s)) same
           (w .site);
     }
   where
@@ -198,9 +200,9 @@ module _ (t : SiteTable) (bytes rows : List ℕ) (b : Buffers) (i : ℕ) (ready 
         (undelivered-known t book (siteAt (b .sites) i) part-good part-small)
 
     module _ (hf : faultyOf t i ≡ false) {r : Turn} {sites : List ℕ} (h : AtSite i (TurnedBy rows i r) (b .sites) sites) where
-      turned : Turned t book i (world .log) (world .site i) r (h .new)
+      turned : Turned t book i (world .log) (world .site i) (siteAt (b .sites) i) r (h .new)
       turned =
-          subst (λ (s : protocol.Site (dash t book)). Turned t book i (world .log) s r (h .new)) (sym at)
+          subst (λ (s : protocol.Site (dash t book)). Turned t book i (world .log) s (siteAt (b .sites) i) r (h .new)) (sym at)
           (h .did t bytes (world .log) (ready .conflicts) part-good (ready .pending i inside) (ready .unspoken i inside hf))
 
       judged : judge (dash t book) world (turn i) ≡ verdict (forTurn (dash t book) i (world .site i) (world .log))
@@ -214,10 +216,14 @@ module _ (t : SiteTable) (bytes rows : List ℕ) (b : Buffers) (i : ℕ) (ready 
           refused-site t book b (ready .world) (turn i) small i inside h
           (subst
           (λ (y : Verdict).
-          Holds t book (h .new)
+          HoldsOver t book (siteAt (b .sites) i) (h .new)
           (settled y (pick (acknowledges (dash t book) (world .site i)) (acknowledge (dash t book) (world .site i)) (propose (dash t book) (world .site i))) (world .site i)))
           v (turned .site))
           x (judged ∙ v)
+
+      -- What is past the rows of the sites after a turn.
+      turned-past : PastRows (t .sites) (b .sites) sites
+      turned-past = past-at t book b (ready .world) (turn i) i inside h (past-held t book (omega arith) (turned .site))
 
       -- The world with the site as it is after a turn that is taken.
       put-turned : (a : Bool) → verdict (forTurn (dash t book) i (world .site i) (world .log)) ≡ Taken → acknowledges (dash t book) (world .site i) ≡ a
@@ -227,8 +233,8 @@ module _ (t : SiteTable) (bytes rows : List ℕ) (b : Buffers) (i : ℕ) (ready 
           subst (λ (y : List ℕ). HoldsWorld t book (lent y (b .log) (b .entries) (b .sent)) (put (dash t book) i (pick a (acknowledge (dash t book) (world .site i)) (propose (dash t book) (world .site i))) world))
           (sym (h .bytes))
           (put-holds t book b (ready .world) small i inside
-          (subst (λ (y : protocol.Site (dash t book)). Holds t book (h .new) y)
-          (λ k. settled (ev k) (pick (ea k) (acknowledge (dash t book) (world .site i)) (propose (dash t book) (world .site i))) (world .site i)) (turned .site))
+          (subst (λ (y : protocol.Site (dash t book)). HoldsOver t book (h .new) (h .new) y)
+          (λ k. settled (ev k) (pick (ea k) (acknowledge (dash t book) (world .site i)) (propose (dash t book) (world .site i))) (world .site i)) (alone t book (turned .site)))
           (unread a))
         where
           unread : (y : Bool) → pick y (acknowledge (dash t book) (world .site i)) (propose (dash t book) (world .site i)) .position ≤ b .entries
@@ -275,6 +281,7 @@ module _ (t : SiteTable) (bytes rows : List ℕ) (b : Buffers) (i : ℕ) (ready 
             (new .bytes
             ∙ sym (ap (λ (y : Bool). pick y (acknowledgedIn (b .sent) (cellOf i (world .site i .round)) (setOf capacity (undelivered (dash t book) (world .site i))))
             (checkedIn (b .sent) (cellOf i (world .site i .round)) (setOf capacity (undelivered (dash t book) (world .site i))))) (told .1)))
+            turned-past
 
       module _ (x : Set) (p : Proposal) (e : r ≡ turns.Proposed x p) where
         proposal-told : (verdict (forTurn (dash t book) i (world .site i) (world .log)) ≡ Taken) × (acknowledges (dash t book) (world .site i) ≡ false)
@@ -359,3 +366,4 @@ module _ (t : SiteTable) (bytes rows : List ℕ) (b : Buffers) (i : ℕ) (ready 
             (new .bytes
             ∙ sym (ap (λ (y : Bool). pick y (acknowledgedIn (b .sent) (cellOf i (world .site i .round)) (setOf capacity (undelivered (dash t book) (world .site i))))
             (checkedIn (b .sent) (cellOf i (world .site i .round)) (setOf capacity (undelivered (dash t book) (world .site i))))) (proposal-told .1)))
+            turned-past

@@ -57,7 +57,7 @@ TurnedBy rows i r b after =
     (t : SiteTable) (book : List ℕ) (log : recovery.Log) → rows ≡ conflictRows book → Good (t .sites) (length (commandsOf book)) b
     → free (dash t (commandsOf book)) (view t (commandsOf book) b .pending) ≡ true
     → (isAcknowledging (view t (commandsOf book) b .phase) ≡ true → recovery.entries i (view t (commandsOf book) b .round) log ≡ 0)
-    → Turned t (commandsOf book) i log (view t (commandsOf book) b) r after
+    → Turned t (commandsOf book) i log (view t (commandsOf book) b) b r after
 
 -- A log read, which changes a site only, of any log with so many entries, at most two of a site in a round.
 abbrev pub LogRead : SiteTable → ℕ → ℕ → List ℕ → Verdict → List ℕ → Type 0

@@ -2,7 +2,7 @@
 -- Assumes nothing.
 use mathlib.Core.Path.{_≡_, refl, sym, ap, subst, _∙_}
 use mathlib.Core.List.{List, [], _∷_, _++_, append-nil, foldl-append}
-use Prim.Native.Nat.{ℕ, suc, _+_, _-_, _≤_, _<_}
+use Prim.Native.Nat.{ℕ, suc, _+_, _≤_, _<_}
 use native.Mathlib.Numerals.{add-one}
 use native.Mathlib.Omega.{arith}
 use lib.ListN.{length, drop}
@@ -23,11 +23,12 @@ use Rattle.steps.specs.declared.Reading.{Reading}
 use Rattle.steps.specs.declared.Reading.the-variants.{Whole, Unreadable}
 use Rattle.steps.specs.Steps.{sizeOf, readStep, stepsOf}
 use Rattle.steps.specs.Meaning.{meaning}
-use Rattle.steps.proofs.Walk.{more-at, bad-at, end-at, inside}
+use Rattle.steps.proofs.Walk.{more-at, bad-at, end-at}
 use Rattle.lines.specs.Lines.{stepLine}
 use Rattle.runs.specs.Run.{report, stepLines, worldAfter}
-use Rattle.world.specs.World.{Buffers, worldOf, HoldsWorld, Outcome, Answered}
-use Rattle.play.specs.Played.{linesRoom, afterOf, CarriedOut, PlayedAll}
+use Rattle.world.specs.World.{Buffers, siteAt, PastRows, worldOf, HoldsWorld, Outcome}
+use Rattle.world.proofs.Past.{past-same, past-more}
+use Rattle.play.specs.Played.{linesRoom, PlayedAll}
 
 -- ---- the line of a step
 
@@ -68,63 +69,36 @@ pub loud : (number : ℕ) {s after : List ℕ} {at past code : ℕ} → (code �
 loud number n w Taken q = absurd (n q)
 loud number {s} {after} {at} {past} n w (Refused r) q = subst (λ (k : ℕ). Wrote after past s at (stepLine number k)) q w
 
--- ---- the position after a reading
-
--- A reading has a byte at least, and two where others follow it.
-pub record Within (steps : List ℕ) (at next : ℕ) : Type 0 where
-  pub some-byte : at + 1 ≤ next
-  pub inside : next ≤ length steps
-  pub two : next < length steps → at + 2 ≤ next
-
-pub within : (steps : List ℕ) (at : ℕ) (r : Reading) {next : ℕ} → at < length steps → readStep (drop at steps) ≡ r → next ≡ afterOf r at (length steps) → Within steps at next
-within steps at (Whole u) h e q =
-    let same : sizeOf u ≡ sizeOf u = refl in
-    let i = inside steps at (omega arith) e same in
-    record { some-byte = omega (arith, i .0); inside = omega (arith, i .1); two = λ l. omega (arith, i .0) }
-within steps at Unreadable h e q = record { some-byte = omega arith; inside = omega arith; two = λ l. absurd (omega arith) }
-
-pub after-whole : (at n : ℕ) {r : Reading} {u : Step} {z : ℕ} → r ≡ Whole u → z ≡ sizeOf u → at + z ≡ afterOf r at n
-after-whole at n e q = ap (λ (z : ℕ). at + z) q ∙ sym (ap (λ (x : Reading). afterOf x at n) e)
-
-pub after-unreadable : (at n : ℕ) {r : Reading} → r ≡ Unreadable → n ≡ afterOf r at n
-after-unreadable at n e = sym (ap (λ (x : Reading). afterOf x at n) e)
-
-module _ (t : SiteTable) (book : List Command) {r : Reading} where
-  pub carried-none : (b : Buffers) → r ≡ Unreadable → {n : ℕ} → n ≡ numberOf Form → CarriedOut t book r b n b
-  carried-none b e {n} q = subst (λ (x : Reading). CarriedOut t book x b n b) (sym e) (record { verdict = Refused Form; number = q; did = (refl, refl) })
-
-  pub carried-step : {u : Step} {b after : Buffers} {n : ℕ} → r ≡ Whole u → Answered t book (meaning u) b n after → CarriedOut t book r b n after
-  carried-step {u} {b} {after} {n} e o =
-      subst (λ (x : Reading). CarriedOut t book x b n after) (sym e) (record { verdict = o .verdict; number = o .number; did = o .outcome })
-
 -- ---- what is left
 
 module _ (t : SiteTable) (book : List Command) where
   -- Played so far: what steps led to the world that the buffers hold, and what lines and world the steps left give from there.
-  pub record Playing (steps before : List ℕ) (from : ℕ) (b : Buffers) (out : List ℕ) (end at number : ℕ) : Type 0 where
+  pub record Playing (steps before : List ℕ) (from : ℕ) (earlier : List ℕ) (b : Buffers) (out : List ℕ) (end at number : ℕ) : Type 0 where
     pub past : List protocol.Step
     pub world : HoldsWorld t book b (play (dash t book) (start (dash t book)) past)
     pub lines :
         Left out end (stepLines t book number (play (dash t book) (start (dash t book)) past) (stepsOf (drop at steps))) before from
         (stepLines t book 1 (start (dash t book)) (stepsOf steps))
     pub after : worldAfter t book (play (dash t book) (start (dash t book)) past) (stepsOf (drop at steps)) ≡ worldAfter t book (start (dash t book)) (stepsOf steps)
+    pub kept : PastRows (t .sites) earlier (b .sites)
 
-  pub playing-none : (steps before : List ℕ) (from : ℕ) {b : Buffers} → HoldsWorld t book b (start (dash t book)) → Playing steps before from b before from 0 1
-  playing-none steps before from h =
+  pub playing-none : (steps before : List ℕ) (from : ℕ) {b : Buffers} → HoldsWorld t book b (start (dash t book)) → Playing steps before from (b .sites) b before from 0 1
+  playing-none steps before from {b} h =
       record {
         past = [];
         world = h;
         lines = left-all before from (stepLines t book 1 (start (dash t book)) (stepsOf steps));
         after = refl;
+        kept = λ i l. past-same (siteAt (b .sites) i);
       }
 
-  module _ (steps before : List ℕ) (from : ℕ) {b : Buffers} {out : List ℕ} {end at number : ℕ} (p : Playing steps before from b out end at number) where
+  module _ (steps before : List ℕ) (from : ℕ) {earlier : List ℕ} {b : Buffers} {out : List ℕ} {end at number : ℕ} (p : Playing steps before from earlier b out end at number) where
     now-world : worldOf t book b ≡ play (dash t book) (start (dash t book)) (p .past)
     now-world = p .world .says
 
     -- One step more.
-    playing-more : {u : Step} {next : ℕ} {v : Verdict} {b′ : Buffers} {out′ : List ℕ} {end′ : ℕ} → end ≤ length out → readStep (drop at steps) ≡ Whole u → next ≡ at + sizeOf u
-        → Outcome t book (meaning u) b v b′ → Wrote out′ end′ out end (report number v) → Playing steps before from b′ out′ end′ next (number + 1)
+    pub playing-more : {u : Step} {next : ℕ} {v : Verdict} {b′ : Buffers} {out′ : List ℕ} {end′ : ℕ} → end ≤ length out → readStep (drop at steps) ≡ Whole u → next ≡ at + sizeOf u
+        → Outcome t book (meaning u) b v b′ → Wrote out′ end′ out end (report number v) → Playing steps before from earlier b′ out′ end′ next (number + 1)
     playing-more {u} {next} {v} {b′} {out′} {end′} h e q o w =
         record {
           past = p .past ++ (meaning u ∷ []);
@@ -139,6 +113,7 @@ module _ (t : SiteTable) (book : List Command) where
               ap (λ (x : World (dash t book)). worldAfter t book x rest) grown
               ∙ ap (worldAfter t book past) (sym left)
               ∙ p .after;
+          kept = λ i l. past-more (p .kept i l) (o .past i l);
         }
       where
         past : World (dash t book)
@@ -162,18 +137,19 @@ module _ (t : SiteTable) (book : List Command) where
         judged = o .verdict ∙ ap (λ (x : World (dash t book)). judge (dash t book) x (meaning u)) now-world
 
     -- A step that cannot be read is the last.
-    playing-last : {next : ℕ} {v : Verdict} {b′ : Buffers} {out′ : List ℕ} {end′ : ℕ} → end ≤ length out → at < length steps → readStep (drop at steps) ≡ Unreadable → next ≡ length steps
-        → (v ≡ Refused Form) × (b′ ≡ b) → Wrote out′ end′ out end (report number v) → Playing steps before from b′ out′ end′ next (number + 1)
-    playing-last {next} {v} {b′} {out′} {end′} h g e q o w =
+    pub playing-last : {next : ℕ} {out′ : List ℕ} {end′ : ℕ} → end ≤ length out → at < length steps → readStep (drop at steps) ≡ Unreadable → next ≡ length steps
+        → Wrote out′ end′ out end (report number (Refused Form)) → Playing steps before from earlier b out′ end′ next (number + 1)
+    playing-last {next} {out′} {end′} h g e q w =
         record {
           past = p .past;
-          world = subst (λ (x : Buffers). HoldsWorld t book x past) (sym (o .1)) (p .world);
+          world = p .world;
           lines =
               subst (λ (rs : List Reading). Left out′ end′ (stepLines t book (number + 1) past rs) before from whole) (sym none)
-              (left-more h (subst (λ (x : Verdict). Wrote out′ end′ out end (report number x)) (o .0) w)
+              (left-more h w
               (subst (λ (l : List ℕ). Left out end l before from whole) (sym (append-nil (report number (Refused Form))))
               (subst (λ (rs : List Reading). Left out end (stepLines t book number past rs) before from whole) left (p .lines))));
           after = ap (worldAfter t book past) none ∙ ap (worldAfter t book past) (sym left) ∙ p .after;
+          kept = p .kept;
         }
       where
         past : World (dash t book)
@@ -188,20 +164,14 @@ module _ (t : SiteTable) (book : List Command) where
         none : stepsOf (drop next steps) ≡ []
         none = end-at steps next (omega arith)
 
-    -- One reading more.
-    pub playing-next : (r : Reading) {next n : ℕ} {b′ : Buffers} {out′ : List ℕ} {end′ : ℕ} → end ≤ length out → at < length steps → readStep (drop at steps) ≡ r
-        → next ≡ afterOf r at (length steps) → CarriedOut t book r b n b′ → ((v : Verdict) → n ≡ codeOf v → Wrote out′ end′ out end (report number v))
-        → Playing steps before from b′ out′ end′ next (number + 1)
-    playing-next (Whole u) h g e q o w = playing-more h e q (o .did) (w (o .verdict) (o .number))
-    playing-next Unreadable h g e q o w = playing-last h g e q (o .did) (w (o .verdict) (o .number))
-
     -- No bytes are left.
-    pub playing-end : length steps ≤ at → end ≤ from + linesRoom → PlayedAll t book steps before out from end b
+    pub playing-end : length steps ≤ at → end ≤ from + linesRoom → PlayedAll t book steps before out from end earlier b
     playing-end g r =
         record {
           lines = left-none (subst (λ (rs : List Reading). Left out end (stepLines t book number past rs) before from whole) left (p .lines));
           world = subst (λ (x : World (dash t book)). HoldsWorld t book b x) (ap (worldAfter t book past) (sym left) ∙ p .after) (p .world);
           room = r;
+          past = p .kept;
         }
       where
         past : World (dash t book)

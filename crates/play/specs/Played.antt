@@ -5,10 +5,6 @@ use mathlib.Core.Bool.{true}
 use mathlib.Core.List.{List}
 use Prim.Native.Nat.{ℕ, _+_, _*_, _/_, _≤_, _<_}
 use lib.ListN.{length}
-use Rattle.refusals.specs.Refusals.{codeOf}
-use Rattle.refusals.specs.declared.Refusal.the-variants.{Form}
-use Rattle.refusals.specs.declared.Verdict.{Verdict}
-use Rattle.refusals.specs.declared.Verdict.the-variants.{Refused}
 use Rattle.table.specs.declared.SiteTable.{SiteTable}
 use Rattle.table.specs.Table.{maxSites, isGood}
 use Rattle.register.specs.declared.Command.{Command}
@@ -17,14 +13,11 @@ use Rattle.conflicts.specs.Conflicts.{conflictRows}
 use Rattle.protocol.specs.World.{start}
 use Rattle.system.specs.Dash.{dash, lastRound}
 use Rattle.print.specs.Print.{Wrote}
-use Rattle.steps.specs.declared.Reading.{Reading}
-use Rattle.steps.specs.declared.Reading.the-variants.{Whole, Unreadable}
-use Rattle.steps.specs.Steps.{sizeOf, stepsOf}
-use Rattle.steps.specs.Meaning.{meaning}
+use Rattle.steps.specs.Steps.{stepsOf}
 use Rattle.runs.specs.Run.{maxRun, stepLines, worldAfter}
 use Rattle.deliver.specs.Delivering.{Noted}
 use Rattle.entries.specs.Entries.{entrySize}
-use Rattle.world.specs.World.{Buffers, HoldsWorld, Outcome}
+use Rattle.world.specs.World.{Buffers, PastRows, HoldsWorld}
 
 -- The bytes of the line of a refused step, at most: five digits of its place, one of the refusal.
 abbrev pub lineRoom : ℕ
@@ -33,22 +26,6 @@ lineRoom = 21
 -- A step has 2 bytes at least, so a run has at most half as many steps as bytes.
 abbrev pub linesRoom : ℕ
 linesRoom = maxRun / 2 * lineRoom
-
--- The position after a reading at a position: past a step's own bytes, and the end of all n where it cannot be read, so that nothing is read after it.
-abbrev pub afterOf : Reading → ℕ → ℕ → ℕ
-afterOf (Whole u) at n = at + sizeOf u
-afterOf Unreadable at n = n
-
--- What becomes of a reading on lent buffers: a step is taken or refused as the protocol has it, and refusal 3 changes nothing.
-abbrev pub carried : SiteTable → List Command → Reading → Buffers → Verdict → Buffers → Type 0
-carried t book (Whole u) b v after = Outcome t book (meaning u) b v after
-carried t book Unreadable b v after = (v ≡ Refused Form) × (after ≡ b)
-
--- The same, where the answer is a number: 0, or that of the refusal.
-pub record CarriedOut (t : SiteTable) (book : List Command) (r : Reading) (b : Buffers) (code : ℕ) (after : Buffers) : Type 0 where
-  pub verdict : Verdict
-  pub number : code ≡ codeOf verdict
-  pub did : carried t book r b verdict after
 
 -- The log entries that there is room for: one more than two a site and round.
 abbrev pub logRoom : ℕ
@@ -66,7 +43,9 @@ pub record Playable (t : SiteTable) (book places rows : List ℕ) (commands : �
   pub world : HoldsWorld t (commandsOf book) b (start (dash t (commandsOf book)))
 
 -- Steps played from the start of a run: `before` became `after` by the lines of the refused ones, written from `from` to `end`.
-pub record PlayedAll (t : SiteTable) (book : List Command) (steps before after : List ℕ) (from end : ℕ) (b : Buffers) : Type 0 where
+-- What is past the rows of the sites is as it was in `earlier`.
+pub record PlayedAll (t : SiteTable) (book : List Command) (steps before after : List ℕ) (from end : ℕ) (earlier : List ℕ) (b : Buffers) : Type 0 where
   pub lines : Wrote after end before from (stepLines t book 1 (start (dash t book)) (stepsOf steps))
   pub world : HoldsWorld t book b (worldAfter t book (start (dash t book)) (stepsOf steps))
   pub room : end ≤ from + linesRoom
+  pub past : PastRows (t .sites) earlier (b .sites)

@@ -1,29 +1,54 @@
 // The steps of a run, played one after another on lent buffers, with a line for each refused one.
 ghost use mathlib.Core.Path.{_≡_};
-ghost use Prim.Native.Nat.{_+_, _≤_, _<_};
-ghost use lib.ListN.{length};
+ghost use mathlib.Core.Bool.{true};
+ghost use mathlib.Core.List.{List};
+ghost use Prim.Native.Nat.{_+_, _*_, _≤_, _<_, ℕ};
+ghost use lib.ListN.{length, drop};
+ghost use Rattle.table.specs.Table.{isGood};
 ghost use Rattle.commands.specs.Book.{commandsOf};
 ghost use Rattle.refusals.specs.declared.Verdict.{Verdict};
 ghost use Rattle.refusals.specs.Refusals.{codeOf};
 ghost use Rattle.print.specs.Print.{Wrote};
 ghost use Rattle.runs.specs.Run as runs;
 ghost use Rattle.runs.specs.Run.{maxRun};
+ghost use Rattle.layout.specs.Layout.{siteSize};
+ghost use Rattle.steps.specs.declared.Reading.the-variants.{Whole};
+ghost use Rattle.steps.specs.Steps.{byte, readStep};
+ghost use Rattle.sent.specs.Sent.{GoodSent};
 ghost use Rattle.world.specs.Parts.{lent};
-ghost use Rattle.protocol.specs.World as protocol;
-ghost use Rattle.deliver.specs.Delivering.{Noted};
-ghost use Rattle.moves.specs.Moves.{Ready};
 ghost use Rattle.roles.specs.Roles.{Roles};
 ghost use Rattle.rounds.specs.Rounds.{Kept};
-ghost use Rattle.play.specs.Played.{lineRoom, afterOf, CarriedOut, Playable, PlayedAll};
+ghost use Rattle.play.specs.Played.{lineRoom, Playable, PlayedAll};
+ghost use Rattle.play.specs.Batches.{BatchOf, Ends, ToldOf, startOf};
 use refusals::Refusal;
 use steps::Reading;
+use steps::Step;
 use table::SiteTable;
-use world::Stepped;
 
 // What playing the steps answers: the position after the last line, and how many entries of the log are meant.
 pub struct Played {
     pub end: usize,
     pub entries: usize,
+}
+
+// A batch that was played: how many steps before its last, the position after it, and the number that answers the last.
+pub struct Batch {
+    pub past: usize,
+    pub next: usize,
+    pub code: u32,
+}
+
+// The same with its line: the position after that, the position after the batch, and the number of the step there.
+pub struct Told {
+    pub end: usize,
+    pub next: usize,
+    pub number: usize,
+}
+
+// What a step starts: many steps that were played, or only itself, which is still to be carried out.
+pub enum Start {
+    Many(Told),
+    One,
 }
 
 // The line of a step is written where it is refused.
@@ -37,58 +62,166 @@ fn report(out: &mut [u8], at: usize, number: usize, code: u32) -> usize
     lines::put_step_line(out, at, number, code as usize)
 }
 
-// The position after a reading: the end of all n bytes where it cannot be read.
-fn after(reading: Reading, at: usize, n: usize) -> usize
-    requires { ⌜ (at ≤ n) × (n < maxRun) ⌝ }
-    ensures { λ r. ⌜ r ≡ afterOf reading at n ⌝ }
+// The line of a batch's last step, where that is refused.
+fn tell(out: &mut [u8], end: usize, number: usize, batch: Batch) -> Told
+    requires { ⌜ (end + lineRoom ≤ length (now out)) × (number + batch .past < 100000) × ((v : Verdict) × (batch .code ≡ codeOf v)) ⌝ }
+    ensures { λ r. ⌜ ToldOf batch number end (now (out .entry)) r (now (out .exit)) ⌝ }
 {
-    match reading {
-        Reading::Whole(step) => at + steps::size(step),
-        Reading::Unreadable => n,
+    let last = number + batch.past;
+    let code = batch.code;
+    let after = report(out, end, last, code);
+    let next = batch.next;
+    Told {
+        end: after,
+        next: next,
+        number: last + 1,
     }
 }
 
-// A reading is carried out: a step, or refusal 3.
-fn carry_out(
+// Acknowledgments one after another, up to one that is refused.
+fn acknowledgments(
     sites: &mut [u8],
-    log: &mut [u8],
-    sent: &mut [u8],
-    entries: usize,
-    kept: &mut [u64],
+    sent: &[u8],
     table: SiteTable,
     roles: &[u8],
-    book: &[u8],
-    places: &[u16],
-    rows: &[u64],
-    commands: usize,
-    reading: Reading,
-) -> Stepped
-    requires { ⌜ ((u : protocol.Step) → Ready table (now book) (now rows) (lent (now sites) (now log) entries (now sent)) u) × Noted (now book) (now places)
-        × Roles table (now roles) × (length (commandsOf (now book)) ≡ commands) × Kept table (now rows) (now log) entries (now kept) ⌝ }
-    ensures { λ r. ⌜ CarriedOut table (commandsOf (now (book .entry))) reading (lent (now (sites .entry)) (now (log .entry)) entries (now (sent .entry)))
-        (r .code) (lent (now (sites .exit)) (now (log .exit)) (r .entries) (now (sent .exit)))
-        × Kept table (now (rows .entry)) (now (log .exit)) (r .entries) (now (kept .exit)) ⌝ }
+    steps: &[u8],
+    from: usize,
+) -> Batch
+    requires { ⌜ (length (now sites) ≡ table .sites * siteSize) × Roles table (now roles) × (isGood table ≡ true) × GoodSent (now sent)
+        × (byte (now steps) from ≡ 2) × (from + 5 ≤ length (now steps)) × (length (now steps) < maxRun) ⌝ }
+    ensures { λ r. ⌜ Ends (now (steps .entry)) from r
+        × ((entries : ℕ) → BatchOf table (now (steps .entry)) from entries (now (sent .entry)) (now (sites .entry)) r (now (sites .exit))) ⌝ }
 {
-    let Reading::Whole(step) = reading else {
-        return Stepped {
-            code: refusals::number(Refusal::Form),
-            entries: entries,
-        };
-    };
-    stepping::step(
-        sites,
-        log,
-        sent,
-        entries,
-        kept,
-        table,
-        roles,
-        book,
-        places,
-        rows,
-        commands,
-        step,
-    )
+    let n = steps.len();
+    let mut at = from;
+    loop {
+        let site = steps[at + 1];
+        let sender = steps[at + 2];
+        let round = steps[at + 3];
+        let number = steps[at + 4];
+        let verdict = arrivals::acknowledgment(
+            sites,
+            sent,
+            table,
+            roles,
+            site,
+            sender,
+            round,
+            number,
+        );
+        let code = refusals::code(verdict);
+        let next = at + 5;
+        if code != 0 || next + 5 > n || steps[next] != 2 {
+            return Batch {
+                past: (at - from) / 5,
+                next: next,
+                code: code,
+            };
+        }
+        at = next;
+    }
+}
+
+// Check messages one after another, up to one that is refused.
+fn checks(
+    sites: &mut [u8],
+    sent: &[u8],
+    table: SiteTable,
+    roles: &[u8],
+    steps: &[u8],
+    from: usize,
+) -> Batch
+    requires { ⌜ (length (now sites) ≡ table .sites * siteSize) × Roles table (now roles) × (isGood table ≡ true) × GoodSent (now sent)
+        × (byte (now steps) from ≡ 3) × (from + 4 ≤ length (now steps)) × (length (now steps) < maxRun) ⌝ }
+    ensures { λ r. ⌜ Ends (now (steps .entry)) from r
+        × ((entries : ℕ) → BatchOf table (now (steps .entry)) from entries (now (sent .entry)) (now (sites .entry)) r (now (sites .exit))) ⌝ }
+{
+    let n = steps.len();
+    let mut at = from;
+    loop {
+        let site = steps[at + 1];
+        let sender = steps[at + 2];
+        let round = steps[at + 3];
+        let verdict = arrivals::check(sites, sent, table, roles, site, sender, round);
+        let code = refusals::code(verdict);
+        let next = at + 4;
+        if code != 0 || next + 4 > n || steps[next] != 3 {
+            return Batch {
+                past: (at - from) / 4,
+                next: next,
+                code: code,
+            };
+        }
+        at = next;
+    }
+}
+
+// Log reads one after another, up to one that is refused.
+fn log_reads(
+    sites: &mut [u8],
+    entries: usize,
+    table: SiteTable,
+    roles: &[u8],
+    steps: &[u8],
+    from: usize,
+) -> Batch
+    requires { ⌜ (length (now sites) ≡ table .sites * siteSize) × Roles table (now roles) × (entries ≤ 65535)
+        × (byte (now steps) from ≡ 9) × (from + 2 ≤ length (now steps)) × (length (now steps) < maxRun) ⌝ }
+    ensures { λ r. ⌜ Ends (now (steps .entry)) from r
+        × ((sent : List ℕ) → BatchOf table (now (steps .entry)) from entries sent (now (sites .entry)) r (now (sites .exit))) ⌝ }
+{
+    let n = steps.len();
+    let mut at = from;
+    loop {
+        let site = steps[at + 1];
+        let verdict = moves::log_read(sites, entries, table, roles, site);
+        let code = refusals::code(verdict);
+        let next = at + 2;
+        if code != 0 || next + 2 > n || steps[next] != 9 {
+            return Batch {
+                past: (at - from) / 2,
+                next: next,
+                code: code,
+            };
+        }
+        at = next;
+    }
+}
+
+// A step that can start a batch is played with those that follow it.
+fn play_batch(
+    sites: &mut [u8],
+    sent: &[u8],
+    entries: usize,
+    table: SiteTable,
+    roles: &[u8],
+    steps: &[u8],
+    at: usize,
+    out: &mut [u8],
+    end: usize,
+    number: usize,
+    step: Step,
+) -> Start
+    requires { ⌜ (length (now sites) ≡ table .sites * siteSize) × (isGood table ≡ true) × Roles table (now roles) × GoodSent (now sent) × (entries ≤ 65535)
+        × (readStep (drop at (now steps)) ≡ Whole step) × (at ≤ length (now steps)) × (length (now steps) < maxRun)
+        × (end + lineRoom ≤ length (now out)) × (2 * number ≤ at + 2) ⌝ }
+    ensures { λ r. ⌜ startOf table (now (steps .entry)) at entries (now (sent .entry)) number end (now (sites .entry)) (now (out .entry)) r (now (sites .exit)) (now (out .exit)) ⌝ }
+{
+    match step {
+        Step::Acknowledgment { .. } => {
+            let batch = acknowledgments(sites, sent, table, roles, steps, at);
+            Start::Many(tell(out, end, number, batch))
+        }
+        Step::Check { .. } => {
+            let batch = checks(sites, sent, table, roles, steps, at);
+            Start::Many(tell(out, end, number, batch))
+        }
+        Step::LogRead { .. } => {
+            let batch = log_reads(sites, entries, table, roles, steps, at);
+            Start::Many(tell(out, end, number, batch))
+        }
+        _ => Start::One,
+    }
 }
 
 // The steps are played from the start of a run, with words to keep what the log says. Nothing is read after a step that cannot be read.
@@ -109,7 +242,7 @@ fn play_on(
 ) -> Played
     requires { ⌜ Playable table (now book) (now places) (now rows) commands (now steps) (now out) from (lent (now sites) (now log) 0 (now sent))
         × Roles table (now roles) × Kept table (now rows) (now log) 0 (now kept) ⌝ }
-    ensures { λ r. ⌜ PlayedAll table (commandsOf (now (book .entry))) (now (steps .entry)) (now (out .entry)) (now (out .exit)) from (r .end)
+    ensures { λ r. ⌜ PlayedAll table (commandsOf (now (book .entry))) (now (steps .entry)) (now (out .entry)) (now (out .exit)) from (r .end) (now (sites .entry))
         (lent (now (sites .exit)) (now (log .exit)) (r .entries) (now (sent .exit))) ⌝ }
 {
     let n = steps.len();
@@ -119,26 +252,55 @@ fn play_on(
     let mut number: usize = 1;
     while at < n {
         let reading = steps::read_step(steps, at);
-        let next = after(reading, at, n);
-        let stepped = carry_out(
+        let Reading::Whole(step) = reading else {
+            let last = report(out, end, number, refusals::number(Refusal::Form));
+            return Played {
+                end: last,
+                entries: entries,
+            };
+        };
+        let start = play_batch(
             sites,
-            log,
-            sent,
+            &sent[..],
             entries,
-            kept,
             table,
             roles,
-            book,
-            places,
-            rows,
-            commands,
-            reading,
+            steps,
+            at,
+            out,
+            end,
+            number,
+            step,
         );
-        let code = stepped.code;
-        end = report(out, end, number, code);
-        entries = stepped.entries;
-        at = next;
-        number += 1;
+        match start {
+            Start::Many(told) => {
+                end = told.end;
+                at = told.next;
+                number = told.number;
+            }
+            Start::One => {
+                let next = at + steps::size(step);
+                let stepped = stepping::step(
+                    sites,
+                    log,
+                    sent,
+                    entries,
+                    kept,
+                    table,
+                    roles,
+                    book,
+                    places,
+                    rows,
+                    commands,
+                    step,
+                );
+                let code = stepped.code;
+                end = report(out, end, number, code);
+                entries = stepped.entries;
+                at = next;
+                number += 1;
+            }
+        }
     }
     Played {
         end: end,
@@ -161,7 +323,7 @@ pub fn play_steps(
     from: usize,
 ) -> Played
     requires { ⌜ Playable table (now book) (now places) (now rows) commands (now steps) (now out) from (lent (now sites) (now log) 0 (now sent)) ⌝ }
-    ensures { λ r. ⌜ PlayedAll table (commandsOf (now (book .entry))) (now (steps .entry)) (now (out .entry)) (now (out .exit)) from (r .end)
+    ensures { λ r. ⌜ PlayedAll table (commandsOf (now (book .entry))) (now (steps .entry)) (now (out .entry)) (now (out .exit)) from (r .end) (now (sites .entry))
         (lent (now (sites .exit)) (now (log .exit)) (r .entries) (now (sent .exit))) ⌝ }
 {
     let mut kept = [0u64; rounds::WORDS];

@@ -27,7 +27,7 @@ pub record Printable (b : List ℕ) : Type 0 where
 
 -- The line of the site that lent bytes are seen as, under a number.
 abbrev pub lineOf : ℕ → List ℕ → List ℕ
-lineOf number b = siteLine number (headOf b .round) (deliveriesOf (readLe 4 b countPlace) b)
+lineOf number b = siteLine number (headOf b .round) (deliveriesOf (readLe 2 b countPlace) b)
 
 -- The bytes of site i, where sites stand end to end.
 abbrev pub siteAt : List ℕ → ℕ → List ℕ

@@ -14,7 +14,7 @@ use Rattle.refusals.specs.declared.Refusal.{Refusal}
 use Rattle.refusals.specs.declared.Verdict.the-variants.{Taken, Refused}
 use Rattle.theory.specs.Sets.{pick}
 use Rattle.theory.specs.Counting.{both as both-true, left, right, never}
-use Rattle.wire.specs.Wire.{splice}
+use Rattle.wire.specs.Wire.{readLe, splice}
 use Rattle.table.specs.declared.SiteTable.{SiteTable}
 use Rattle.table.specs.Table.{isGood, faultyCountOf}
 use Rattle.table.proofs.Laws.{good-limits, good-few}
@@ -35,9 +35,11 @@ use Rattle.header.specs.declared.Opened.the-variants as opened
 use Rattle.header.specs.Header.{judgeRun, placesAfter}
 use Rattle.header.proofs.Laws.{Sound, judged-taken, places-noted}
 use Rattle.runs.specs.Run.{maxRun, headerSize, bookSize, tableOf, bookOf, stepBytes, forRun, siteLines, played, printAs, printOf}
-use Rattle.layout.specs.Layout.{siteSize}
+use Rattle.layout.specs.Layout.{siteSize, spanPlace}
 use Rattle.world.specs.World as world
 use Rattle.world.specs.World.{Buffers, HoldsWorld}
+use Rattle.world.specs.Started.{Started}
+use Rattle.world.proofs.Past.{further}
 use Rattle.play.specs.Played.{PlayedAll}
 use Rattle.report.specs.Report.{AllPrintable, siteAt, linesBelow}
 use Rattle.report.proofs.Laws.{good-all-printable, lines-seen}
@@ -45,7 +47,7 @@ use Rattle.sent.specs.Sent.{sentSize}
 use Rattle.world.specs.Parts.{lent}
 use Rattle.entries.proofs.Logs.{log-length}
 use Rattle.run.specs.Ran.{runLineRoom, printRoom, sitesBytes, logBytes, Ran, ran, runOf, Working, working, isRoomy}
-use Rattle.run.specs.Left.{lastWorld, HoldsLast, Worked, isPlayed, Left}
+use Rattle.run.specs.Left.{PastLeft, lastWorld, HoldsLast, Worked, isPlayed, Left}
 use Rattle.run.specs.Prepared.{Roomy}
 
 -- ---- the first line
@@ -67,20 +69,27 @@ module _ (t : SiteTable) (book : List Command) {b : Buffers} {w : World (dash t 
   held-lines = lines-seen t book (b .sites) w (t .sites) (λ i l. sym (h .site i l .says))
 
 -- The first line, those of the refused steps and those of the sites are the print.
-pub all-parts : (t : SiteTable) (book : List Command) (steps : List ℕ) {s s₁ s₂ s₃ : List ℕ} {r₁ r₂ r₃ f c : ℕ} {b : Buffers} → f ≡ faultyCountOf t → c ≡ length book
-    → Wrote s₁ r₁ s 0 (runLine (t .sites) f c) → PlayedAll t book steps s₁ s₂ r₁ r₂ b → Wrote s₃ r₃ s₂ r₂ (linesBelow t (b .sites) (t .sites))
+pub all-parts : (t : SiteTable) (book : List Command) (steps : List ℕ) {s s₁ s₂ s₃ e : List ℕ} {r₁ r₂ r₃ f c : ℕ} {b : Buffers} → f ≡ faultyCountOf t → c ≡ length book
+    → Wrote s₁ r₁ s 0 (runLine (t .sites) f c) → PlayedAll t book steps s₁ s₂ r₁ r₂ e b → Wrote s₃ r₃ s₂ r₂ (linesBelow t (b .sites) (t .sites))
     → Wrote s₃ r₃ s 0 (played t book (stepsOf steps))
-all-parts t book steps {s} {s₁} {s₂} {s₃} {r₁} {r₂} {r₃} {f} {c} {b} ef ec x p y =
+all-parts t book steps {s} {s₁} {s₂} {s₃} {e} {r₁} {r₂} {r₃} {f} {c} {b} ef ec x p y =
     both (omega arith)
     (both (omega arith) (subst (λ (l : List ℕ). Wrote s₁ r₁ s 0 l) (λ i. runLine (t .sites) (ef i) (ec i)) x) (p .lines))
     (subst (λ (l : List ℕ). Wrote s₃ r₃ s₂ r₂ l) (held-lines t book (p .world)) y)
 
 -- The buffers then hold the last world, with as many log entries as it has.
-pub last-held : (t : SiteTable) (book : List Command) (steps : List ℕ) {s₁ s₂ sites log sent : List ℕ} {r₁ r₂ n : ℕ}
-    → PlayedAll t book steps s₁ s₂ r₁ r₂ (lent sites log n sent) → HoldsLast t book (stepsOf steps) sites log sent
-last-held t book steps {s₁} {s₂} {sites} {log} {sent} {r₁} {r₂} {n} p =
+pub last-held : (t : SiteTable) (book : List Command) (steps : List ℕ) {s₁ s₂ e sites log sent : List ℕ} {r₁ r₂ n : ℕ}
+    → PlayedAll t book steps s₁ s₂ r₁ r₂ e (lent sites log n sent) → HoldsLast t book (stepsOf steps) sites log sent
+last-held t book steps {s₁} {s₂} {e} {sites} {log} {sent} {r₁} {r₂} {n} p =
     subst (λ (k : ℕ). HoldsWorld t book (lent sites log k sent) (lastWorld t book (stepsOf steps)))
     (sym (log-length log n) ∙ (λ i. length (p .world .says i .log))) (p .world)
+
+-- What is past the rows of the sites is as it was before the start.
+pub past-left : (t : SiteTable) (book : List Command) {steps earlier started sent unsent s₁ s₂ : List ℕ} {r₁ r₂ : ℕ} {b : Buffers} → Started t started sent earlier unsent
+    → PlayedAll t book steps s₁ s₂ r₁ r₂ started b → PastLeft t earlier (b .sites)
+past-left t book {earlier = earlier} {started = started} {b = b} fresh played i l =
+    played .past i l .past
+    ∙ further 0 (readLe 2 (world.siteAt (b .sites) i) spanPlace) (world.siteAt earlier i) (world.siteAt started i) (omega arith) (fresh .past i l)
 
 -- ---- the first parts of the working memory
 
@@ -95,8 +104,9 @@ module _ (t : SiteTable) {w : Working} (good : isGood t ≡ true) (room : Roomy 
   -- The three parts put back: they hold the last world, and what is past them is as it was.
   pub worked : (book : List Command) (steps : List Reading) {sites log sent : List ℕ} → length sites ≡ length (take (t .sites * siteSize) (w .sites)) → length log ≡ length (take logBytes (w .log))
       → length sent ≡ length (take sentSize (w .sent)) → HoldsLast t book steps sites log sent
+      → PastLeft t (take (t .sites * siteSize) (w .sites)) sites
       → Worked t book steps w (working (sites ++ drop (t .sites * siteSize) (w .sites)) (log ++ drop logBytes (w .log)) (sent ++ drop sentSize (w .sent)))
-  worked book steps {sites} {log} {sent} a b c h =
+  worked book steps {sites} {log} {sent} a b c h p =
       let i = a ∙ length-take-le (t .sites * siteSize) (w .sites) sites-room in
       let j = b ∙ length-take-le logBytes (w .log) (room .log) in
       let k = c ∙ length-take-le sentSize (w .sent) (room .sent) in
@@ -105,6 +115,7 @@ module _ (t : SiteTable) {w : Working} (good : isGood t ≡ true) (room : Roomy 
             coe 1 0 (z.
             HoldsLast t book steps (take-at sites (drop (t .sites * siteSize) (w .sites)) (t .sites * siteSize) i z) (take-at log (drop logBytes (w .log)) logBytes j z)
             (take-at sent (drop sentSize (w .sent)) sentSize k z)) h;
+        rows = subst (PastLeft t (take (t .sites * siteSize) (w .sites))) (sym (take-at sites (drop (t .sites * siteSize) (w .sites)) (t .sites * siteSize) i)) p;
         sites = drop-at sites (drop (t .sites * siteSize) (w .sites)) (t .sites * siteSize) i;
         log = drop-at log (drop logBytes (w .log)) logBytes j;
         sent = drop-at sent (drop sentSize (w .sent)) sentSize k;

@@ -3,7 +3,7 @@
 use mathlib.Core.Path.{_≡_}
 use mathlib.Core.Bool.{Bool, true, false, _&&_}
 use mathlib.Core.List.{List}
-use Prim.Native.Nat.{ℕ, _*_}
+use Prim.Native.Nat.{ℕ, _*_, _<_}
 use lib.ListN.{length, take, drop}
 use Rattle.table.specs.declared.SiteTable.{SiteTable}
 use Rattle.register.specs.declared.Command.{Command}
@@ -15,11 +15,18 @@ use Rattle.system.specs.Dash.{dash}
 use Rattle.steps.specs.declared.Reading.{Reading}
 use Rattle.steps.specs.Steps.{stepsOf}
 use Rattle.runs.specs.Run.{tableOf, bookOf, stepBytes, forRun, worldAfter}
-use Rattle.layout.specs.Layout.{siteSize}
+use Rattle.wire.specs.Wire.{readLe}
+use Rattle.layout.specs.Layout.{siteSize, spanPlace, rowAt}
 use Rattle.sent.specs.Sent.{sentSize}
-use Rattle.world.specs.World.{HoldsWorld}
+use Rattle.world.specs.World.{siteAt, HoldsWorld}
 use Rattle.world.specs.Parts.{lent}
 use Rattle.run.specs.Ran.{Working, logBytes, isRoomy}
+
+-- What is past the rows of each site of the table is as it was.
+abbrev pub PastLeft : SiteTable → (before after : List ℕ) → Type 0
+PastLeft t before after =
+    (i : ℕ) → i < t .sites
+    → drop (rowAt (readLe 2 (siteAt after i) spanPlace)) (siteAt after i) ≡ drop (rowAt (readLe 2 (siteAt after i) spanPlace)) (siteAt before i)
 
 module _ (t : SiteTable) (book : List Command) (steps : List Reading) where
   -- The world after the steps of a run.
@@ -30,9 +37,10 @@ module _ (t : SiteTable) (book : List Command) (steps : List Reading) where
   abbrev pub HoldsLast : List ℕ → List ℕ → List ℕ → Type 0
   HoldsLast sites log sent = HoldsWorld t book (lent sites log (length (lastWorld .log)) sent) lastWorld
 
-  -- The first bytes of the working memory hold it, and what is past them is as it was.
+  -- The first bytes of the working memory hold it, and what is past them and past the rows of each site is as it was.
   pub record Worked (before after : Working) : Type 0 where
     pub world : HoldsLast (take (t .sites * siteSize) (after .sites)) (take logBytes (after .log)) (take sentSize (after .sent))
+    pub rows : PastLeft t (take (t .sites * siteSize) (before .sites)) (take (t .sites * siteSize) (after .sites))
     pub sites : drop (t .sites * siteSize) (after .sites) ≡ drop (t .sites * siteSize) (before .sites)
     pub log : drop logBytes (after .log) ≡ drop logBytes (before .log)
     pub sent : drop sentSize (after .sent) ≡ drop sentSize (before .sent)

@@ -6,7 +6,7 @@ ghost use Rattle.print.specs.Print.{Wrote};
 ghost use Rattle.steps.specs.Steps.{stepsOf};
 ghost use Rattle.runs.specs.Run.{played};
 ghost use Rattle.run.specs.Ran.{working, hasRoom, ran, runOf};
-ghost use Rattle.run.specs.Left.{HoldsLast, Worked, Left};
+ghost use Rattle.run.specs.Left.{PastLeft, HoldsLast, Worked, Left};
 ghost use Rattle.run.specs.Prepared.{Playable, Roomy, Sized, Noted};
 use header::Opened;
 use layout::Site;
@@ -39,7 +39,8 @@ fn print_on(
 ) -> usize
     requires { ⌜ Playable table (now steps) (now out) × Sized table (working (now sites) (now log) (now sent)) × Noted (now book) (now places) (now rows) commands ⌝ }
     ensures { λ r. ⌜ Wrote (now (out .exit)) r (now (out .entry)) 0 (played table (commandsOf (now (book .entry))) (stepsOf (now (steps .entry))))
-        × HoldsLast table (commandsOf (now (book .entry))) (stepsOf (now (steps .entry))) (now (sites .exit)) (now (log .exit)) (now (sent .exit)) ⌝ }
+        × HoldsLast table (commandsOf (now (book .entry))) (stepsOf (now (steps .entry))) (now (sites .exit)) (now (log .exit)) (now (sent .exit))
+        × PastLeft table (now (sites .entry)) (now (sites .exit)) ⌝ }
 {
     world::start(sites, sent, table);
     let faulty = table.faulty_count();

@@ -1,6 +1,6 @@
 -- A log entry read: the position is raised where the protocol takes the step.
 -- Assumes nothing.
-use mathlib.Core.Path.{_≡_, sym, ap, _∙_}
+use mathlib.Core.Path.{_≡_, refl, sym, ap, _∙_}
 use mathlib.Core.Bool.{Bool, true, false, not}
 use mathlib.Core.List.{List}
 use Prim.Native.Nat.{ℕ, _+_, _<_}
@@ -38,10 +38,11 @@ module _ (b : List ℕ) (small : (i : ℕ) → getD b i 0 < 256) (left third : B
       let o = g .head in
       let k = headOf b in
       taken t book _ (λ i. verdict ((sym el ∙ e) i else Disabled ⨾ (sym et ∙ ap not h) i else ThirdEntry ⨾ granted))
-      (finish t book b (withPosition k n) (g .size) (eb ∙ position-written k b (begins b g small) n) small′
+      (finish t book b b (withPosition k n) (g .size) (eb ∙ position-written k b (begins b g small) n) small′
       (record {
         round = f .round;
         deliveries = f .deliveries;
+        span = f .span;
         position = l;
         received = f .received;
         delivered = f .delivered;
@@ -55,6 +56,7 @@ module _ (b : List ℕ) (small : (i : ℕ) → getD b i 0 < 256) (left third : B
         last = o .last;
         few = o .few;
         room = o .room;
+        span = o .span;
         received = o .received;
         delivered = o .delivered;
         pending = o .pending;
@@ -62,7 +64,7 @@ module _ (b : List ℕ) (small : (i : ℕ) → getD b i 0 < 256) (left third : B
         nc = o .nc;
         c = o .c;
       })
-      (g .tables)
+      (g .tables) refl
       (λ i.
       record {
         received = inSet (k .received);

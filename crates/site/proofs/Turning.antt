@@ -29,7 +29,7 @@ use Rattle.layout.specs.declared.Phase.{Phase}
 use Rattle.layout.specs.declared.Phase.the-variants.{Acknowledging, Waiting}
 use Rattle.layout.specs.declared.Site.{Site}
 use Rattle.layout.specs.Layout.{pendingPlace, headOf, heardOf, phaseSeen, isWaiting, waitsWith, siteOf, view}
-use Rattle.layout.specs.Good.{Fit, GoodHead, Good, Holds}
+use Rattle.layout.specs.Good.{Fit, GoodHead, Good, HoldsOver}
 use Rattle.layout.specs.Step.{settled}
 use Rattle.layout.proofs.Header.{fit}
 use Rattle.layout.proofs.Fields.{begins, withPending, withPhase, pending-written, waiting-written}
@@ -212,16 +212,17 @@ module _ (t : SiteTable) (book : List Command) (b : List ℕ) (small : (i : ℕ)
   module _ {b′ : List ℕ} (small′ : (i : ℕ) → getD b′ i 0 < 256) where
     turn-site : (v : Verdict) (free : Bool) (u : Set) (p : Proposal) → u ≡ undeliveredOf (headOf b) → p ≡ record { nc = headOf b .pending; c = newOf (headOf b) }
         → b′ ≡ writtenBy (answered v free u p) b
-        → Holds t book b′ (settled v (pick free (protocol.acknowledge (dash t book) (view t book b)) (protocol.propose (dash t book) (view t book b))) (view t book b))
+        → HoldsOver t book b b′ (settled v (pick free (protocol.acknowledge (dash t book) (view t book b)) (protocol.propose (dash t book) (view t book b))) (view t book b))
     unfolding answered headOf
     turn-site Taken true u p eu ep eb =
         let f = fit b small (good .size) in
         let g = good .head in
         let h = headOf b in
-        finish t book b (withPending h (undeliveredOf h)) (good .size) (eb ∙ ap (writeSet b pendingPlace) eu ∙ pending-written h b (begins b good small) (undeliveredOf h)) small′
+        finish t book b b (withPending h (undeliveredOf h)) (good .size) (eb ∙ ap (writeSet b pendingPlace) eu ∙ pending-written h b (begins b good small) (undeliveredOf h)) small′
         (record {
           round = f .round;
           deliveries = f .deliveries;
+          span = f .span;
           position = f .position;
           received = f .received;
           delivered = f .delivered;
@@ -235,6 +236,7 @@ module _ (t : SiteTable) (book : List Command) (b : List ℕ) (small : (i : ℕ)
           last = g .last;
           few = g .few;
           room = g .room;
+          span = g .span;
           received = g .received;
           delivered = g .delivered;
           pending = within-without (h .received) (h .delivered) (length book) (g .received);
@@ -242,7 +244,7 @@ module _ (t : SiteTable) (book : List Command) (b : List ℕ) (small : (i : ℕ)
           nc = g .nc;
           c = g .c;
         })
-        (good .tables)
+        (good .tables) refl
         (λ i.
         record {
           received = inSet (h .received);
@@ -259,11 +261,12 @@ module _ (t : SiteTable) (book : List Command) (b : List ℕ) (small : (i : ℕ)
         let f = fit b small (good .size) in
         let g = good .head in
         let h = headOf b in
-        finish t book b (withPhase h (Waiting (record { nc = h .pending; c = newOf h }))) (good .size)
+        finish t book b b (withPhase h (Waiting (record { nc = h .pending; c = newOf h }))) (good .size)
         (eb ∙ ap (λ (x : Proposal). waitsWith b (x .nc) (x .c)) ep ∙ waiting-written h b (begins b good small) (h .pending) (newOf h)) small′
         (record {
           round = f .round;
           deliveries = f .deliveries;
+          span = f .span;
           position = f .position;
           received = f .received;
           delivered = f .delivered;
@@ -277,6 +280,7 @@ module _ (t : SiteTable) (book : List Command) (b : List ℕ) (small : (i : ℕ)
           last = g .last;
           few = g .few;
           room = g .room;
+          span = g .span;
           received = g .received;
           delivered = g .delivered;
           pending = g .pending;
@@ -284,7 +288,7 @@ module _ (t : SiteTable) (book : List Command) (b : List ℕ) (small : (i : ℕ)
           nc = g .pending;
           c = new-within t book h (heardOf b) (view t book b .ledger) f g;
         })
-        (good .tables)
+        (good .tables) refl
         (λ i.
         record {
           received = inSet (h .received);
@@ -298,7 +302,7 @@ module _ (t : SiteTable) (book : List Command) (b : List ℕ) (small : (i : ℕ)
           ledger = view t book b .ledger;
         })
     turn-site (Refused r) free u p eu ep eb =
-        subst (λ (l : List ℕ). Holds t book l (view t book b)) (sym eb) (unchanged t book good small)
+        subst (λ (l : List ℕ). HoldsOver t book b l (view t book b)) (sym eb) (unchanged t book good small)
 
   -- A turn that is not enabled.
   pub no-turn : (i : ℕ) (log : Log) → hasTurn (headOf b) ≡ false → verdict (protocol.forTurn (dash t book) i (view t book b) log) ≡ Refused Disabled
@@ -311,7 +315,7 @@ module _ (t : SiteTable) (book : List Command) (b : List ℕ) (small : (i : ℕ)
 
   pub turn-holds : {r : Turn} {b′ : List ℕ} (free third : Bool) (i : ℕ) (log : Log) → r ≡ chosen (headOf b) free third → b′ ≡ writtenBy r b
       → ((i : ℕ) → getD b′ i 0 < 256) → free ≡ protocol.acknowledges (dash t book) (view t book b) → not third ≡ ltb (entries i (view t book b .round) log) 2
-      → Turned t book i log (view t book b) r b′
+      → Turned t book i log (view t book b) b r b′
   turn-holds {r = r} free third i log er eb small′ ef eo =
       let v = verdict (protocol.forTurn (dash t book) i (view t book b) log) in
       let k = protocol.acknowledges (dash t book) (view t book b) in

@@ -19,8 +19,9 @@ use Rattle.protocol.specs.Recovery.{Log, entries}
 use Rattle.protocol.specs.Site as protocol
 use Rattle.system.specs.Dash.{dash, lastRound}
 use Rattle.layout.specs.declared.Site.{Site}
-use Rattle.layout.specs.Layout.{isWaiting, view}
-use Rattle.layout.specs.Good.{Good, Holds}
+use Rattle.wire.specs.Wire.{readLe}
+use Rattle.layout.specs.Layout.{spanPlace, isWaiting, spanWith, view}
+use Rattle.layout.specs.Good.{Good, Holds, HoldsOver}
 use Rattle.layout.specs.Step.{settled, Carried}
 use Rattle.site.specs.declared.Turn.{Turn}
 use Rattle.site.specs.declared.Turn.the-variants as turn
@@ -53,19 +54,19 @@ chosen h free third =
 abbrev pub Received : Set → List ℕ → List ℕ → Type 0
 Received x b b′ =
     (t : SiteTable) (book : List Command) → Good (t .sites) (length book) b → withinOf x (length book) ≡ true
-    → Holds t book b′ (protocol.receive (dash t book) (inSet x) (view t book b))
+    → HoldsOver t book b b′ (protocol.receive (dash t book) (inSet x) (view t book b))
 
 -- A command of the book joins Received.
 abbrev pub Commanded : ℕ → List ℕ → List ℕ → Type 0
 Commanded m b b′ =
     (t : SiteTable) (book : List Command) → Good (t .sites) (length book) b → m < length book
-    → Holds t book b′ (protocol.receive (dash t book) (only m) (view t book b))
+    → HoldsOver t book b b′ (protocol.receive (dash t book) (only m) (view t book b))
 
--- An acknowledgment of a site that there is, within the book, is heard.
+-- An acknowledgment of a site that there is, within the book, is heard, in a table that has its round.
 abbrev pub Heard : ℕ → ℕ → Set → List ℕ → List ℕ → Type 0
 Heard j r x b b′ =
     (t : SiteTable) (book : List Command) → Good (t .sites) (length book) b → j < t .sites → withinOf x (length book) ≡ true
-    → Holds t book b′ (protocol.hear (dash t book) j r (inSet x) (view t book b))
+    → Holds t book (spanWith (readLe 2 b spanPlace) r) b b′ (protocol.hear (dash t book) j r (inSet x) (view t book b))
 
 module _ (t : SiteTable) (book : List Command) where
   -- What a turn sends: an acknowledgment, or a check message and an entry's two sets.
@@ -77,10 +78,10 @@ module _ (t : SiteTable) (book : List Command) where
   answerTo (Refused r) free s = turn.Refused r
 
   -- A turn of site i, with its append judged by the whole log.
-  pub record Turned (i : ℕ) (log : Log) (s : protocol.Site (dash t book)) (r : Turn) (b : List ℕ) : Type 0 where
+  pub record Turned (i : ℕ) (log : Log) (s : protocol.Site (dash t book)) (before : List ℕ) (r : Turn) (b : List ℕ) : Type 0 where
     pub answer : r ≡ answerTo (verdict (protocol.forTurn (dash t book) i s log)) (protocol.acknowledges (dash t book) s) s
     pub site :
-        Holds t book b
+        HoldsOver t book before b
         (settled (verdict (protocol.forTurn (dash t book) i s log))
         (pick (protocol.acknowledges (dash t book) s) (protocol.acknowledge (dash t book) s) (protocol.propose (dash t book) s))
         s)
@@ -90,7 +91,7 @@ abbrev pub TookTurn : Bool → Bool → List ℕ → Turn → List ℕ → Type 
 TookTurn free third b r b′ =
     (t : SiteTable) (book : List Command) (i : ℕ) (log : Log) → Good (t .sites) (length book) b
     → free ≡ protocol.acknowledges (dash t book) (view t book b) → not third ≡ ltb (entries i (view t book b .round) log) 2
-    → Turned t book i log (view t book b) r b′
+    → Turned t book i log (view t book b) b r b′
 
 -- The next entry of a log is read, where there is one and it is no third of its site and round.
 abbrev pub ReadEntry : Bool → Bool → List ℕ → Verdict → List ℕ → Type 0
@@ -98,4 +99,4 @@ ReadEntry left third b r b′ =
     (t : SiteTable) (book : List Command) (log : Log) → Good (t .sites) (length book) b
     → left ≡ protocol.isSome (protocol.next (dash t book) (view t book b) log)
     → not third ≡ protocol.noThird (dash t book) (take (view t book b .position) log) (protocol.next (dash t book) (view t book b) log)
-    → Carried t book (verdict (protocol.forLogRead (dash t book) (view t book b) log)) (protocol.readEntry (dash t book) (view t book b)) (view t book b) r b′
+    → Carried t book (verdict (protocol.forLogRead (dash t book) (view t book b) log)) (protocol.readEntry (dash t book) (view t book b)) (view t book b) b r b′

@@ -13,6 +13,7 @@ use Rattle.theory.specs.Sets.{pick, any}
 use Rattle.theory.specs.Counting.{not-true}
 use Rattle.wire.specs.Wire.{bytes, splice}
 use Rattle.wire.proofs.Laws.{mid-splice}
+use Rattle.wire.proofs.Small.{take-small}
 use Rattle.refusals.specs.declared.Refusal.{Refusal}
 use Rattle.refusals.specs.declared.Refusal.the-variants.{Range, Disabled, ThirdEntry, LastRound}
 use Rattle.refusals.specs.declared.Verdict.{Verdict}
@@ -37,7 +38,7 @@ use Rattle.entries.specs.Entries.{entrySize, entryBytes, writeEntry, logTo, log
 use Rattle.entries.proofs.Bytes.{length-entry}
 use Rattle.layout.specs.declared.Proposal.{Proposal}
 use Rattle.layout.specs.Layout.{siteSize, receivedPlace, deliveredPlace, headOf, view}
-use Rattle.layout.specs.Good.{Good, Holds}
+use Rattle.layout.specs.Good.{Good, HoldsOver}
 use Rattle.layout.specs.Step.{settled}
 use Rattle.layout.proofs.Header.{next}
 use Rattle.layout.proofs.Tables.{within-without}
@@ -46,10 +47,10 @@ use Rattle.site.specs.declared.Turn.the-variants as turn
 use Rattle.site.specs.Steps.{hasTurn, answerTo, Turned, TookTurn}
 use Rattle.site.proofs.Turning.{third-entry, no-turn}
 use Rattle.judging.specs.Outcomes.{outcome, answered, _then_}
-use Rattle.judging.specs.Judging.{tableOf, systemOf, siteIn, withSite, forSiteAndLog, placesAfter}
+use Rattle.judging.specs.Judging.{tableOf, systemOf, spanIn, siteIn, withSite, forSiteAndLog, placesAfter}
 use Rattle.judging.proofs.Demands.{then-taken, then-refused, answered-refused}
 use Rattle.judging.proofs.Laws.{Judged, log-judged, log-noted}
-use Rattle.judging.proofs.Steps.{first-small, written, as-before}
+use Rattle.judging.proofs.Steps.{written, as-before}
 use Rattle.turning.specs.Turning.{turnSize, buffers, acknowledgmentBytes, proposalBytes, entryFor, entryOf, sentBytes, turned, sent, turnCall}
 
 -- ---- the conflict test
@@ -98,7 +99,7 @@ module _ (t : SiteTable) (cs : List Command) (b : List ℕ) (own : ℕ) (log : L
       ⨾ granted)
 
   pub took : (free : Bool) {third : Bool} {answer : Turn} {b′ : List ℕ} → free ≡ protocol.acknowledges (dash t cs) (view t cs b)
-      → third ≡ (not free && leb 2 (entries own (view t cs b .round) log)) → TookTurn free third b answer b′ → Turned t cs own log (view t cs b) answer b′
+      → third ≡ (not free && leb 2 (entries own (view t cs b .round) log)) → TookTurn free third b answer b′ → Turned t cs own log (view t cs b) b answer b′
   took false {third} ef et h = h t cs own log good ef (ap not et ∙ third-entry (entries own (view t cs b .round) log))
   took true {third} {answer} {b′} ef et h =
       let s = view t cs b in
@@ -108,7 +109,7 @@ module _ (t : SiteTable) (cs : List Command) (b : List ℕ) (own : ℕ) (log : L
         answer = w .answer ∙ ap (λ (v : Verdict). answerTo t cs v (protocol.acknowledges (dash t cs) s) s) e;
         site =
             subst
-            (λ (v : Verdict). Holds t cs b′ (settled v (pick (protocol.acknowledges (dash t cs) s) (protocol.acknowledge (dash t cs) s) (protocol.propose (dash t cs) s)) s))
+            (λ (v : Verdict). HoldsOver t cs b b′ (settled v (pick (protocol.acknowledges (dash t cs) s) (protocol.acknowledge (dash t cs) s) (protocol.propose (dash t cs) s)) s))
             e (w .site);
       }
 
@@ -213,27 +214,27 @@ module _ (n f : ℕ) (book site log : List ℕ) (own : ℕ) (o : List ℕ) {k : 
       turn-disabled small {e} ee z =
           answered-refused Disabled _ (buffers site o)
           (first true (lt-ltb own n h)
-          ∙ no-turn (tableOf n f) (commandsOf book) (take siteSize site) (first-small siteSize site small) (judged .good) own (logOf log) (sym ee ∙ not-true e z))
+          ∙ no-turn (tableOf n f) (commandsOf book) (take siteSize site) (take-small siteSize site small) (judged .good) own (logOf log) (sym ee ∙ not-true e z))
 
       module _ (small : (i : ℕ) → getD site i 0 < 256) {round code : ℕ} {b l : List ℕ} (er : round ≡ headOf (take siteSize site) .round) where
         -- By the verdict and by what the turn does.
         done : (v : Verdict) (a : Bool) → outcome code l ≡ sent own round (answerTo (tableOf n f) (commandsOf book) v a (siteIn n f book site)) o
-            → Holds (tableOf n f) (commandsOf book) b
+            → HoldsOver (tableOf n f) (commandsOf book) (take siteSize site) b
             (settled v (pick a (protocol.acknowledge (systemOf n f book) (siteIn n f book site)) (protocol.propose (systemOf n f book) (siteIn n f book site))) (siteIn n f book site))
             → outcome code (buffers (b ++ drop siteSize site) l)
             ≡ answered v
             (buffers
-            (withSite n f book site (pick a (protocol.acknowledge (systemOf n f book) (siteIn n f book site)) (protocol.propose (systemOf n f book) (siteIn n f book site))))
+            (withSite n f book (spanIn site) site (pick a (protocol.acknowledge (systemOf n f book) (siteIn n f book site)) (protocol.propose (systemOf n f book) (siteIn n f book site))))
             (splice o 0
             (pick a (acknowledgmentBytes (setOf capacity (protocol.undelivered (systemOf n f book) (siteIn n f book site))))
             (proposalBytes (setOf capacity (protocol.undelivered (systemOf n f book) (siteIn n f book site))) (entryFor (systemOf n f book) own (siteIn n f book site))))))
             (buffers site o)
         unfolding sent
-        done Taken true e w = λ i. outcome (e i .code) (buffers (written n f book site w i) (e i .left))
+        done Taken true e w = λ i. outcome (e i .code) (buffers (written site (judged .sized) (tableOf n f) (commandsOf book) w i) (e i .left))
         done Taken false e w =
-            (λ i. outcome (e i .code) (buffers (written n f book site w i) (e i .left)))
+            (λ i. outcome (e i .code) (buffers (written site (judged .sized) (tableOf n f) (commandsOf book) w i) (e i .left)))
             ∙ (λ i. outcome 0
-            (buffers (withSite n f book site (protocol.propose (systemOf n f book) (siteIn n f book site)))
+            (buffers (withSite n f book (spanIn site) site (protocol.propose (systemOf n f book) (siteIn n f book site)))
             (splice o 0 (proposalBytes (setOf capacity (protocol.undelivered (systemOf n f book) (siteIn n f book site)))
             (record { site = own; round = er i; nc = setOf capacity (siteIn n f book site .pending); c = setOf capacity (protocol.unacknowledged (systemOf n f book) (siteIn n f book site)) })))))
         done (Refused r) a e w = λ i. outcome (e i .code) (buffers (as-before n f book site (judged .good) small w i) (e i .left))
@@ -248,5 +249,5 @@ module _ (n f : ℕ) (book site log : List ℕ) (own : ℕ) (o : List ℕ) {k : 
             done (verdict (protocol.forTurn (systemOf n f book) own (siteIn n f book site) (logOf log))) (protocol.acknowledges (systemOf n f book) (siteIn n f book site))
             (e ∙ ap (λ (y : Turn). sent own round y o) (w .answer)) (w .site)
             ∙ (λ i. answered (sym (first true (lt-ltb own n h)) i)
-            (buffers (withSite n f book site (turned (systemOf n f book) (siteIn n f book site))) (splice o 0 (sentBytes (systemOf n f book) own (siteIn n f book site))))
+            (buffers (withSite n f book (spanIn site) site (turned (systemOf n f book) (siteIn n f book site))) (splice o 0 (sentBytes (systemOf n f book) own (siteIn n f book site))))
             (buffers site o))

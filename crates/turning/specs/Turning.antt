@@ -18,7 +18,7 @@ use Rattle.layout.specs.declared.Proposal.{Proposal}
 use Rattle.site.specs.declared.Turn.{Turn}
 use Rattle.site.specs.declared.Turn.the-variants as turn
 use Rattle.judging.specs.Outcomes.{Outcome, outcome, answered, _then_}
-use Rattle.judging.specs.Judging.{systemOf, siteIn, withSite, forSiteAndLog}
+use Rattle.judging.specs.Judging.{systemOf, spanIn, siteIn, withSite, forSiteAndLog}
 
 -- The bytes of what a turn sends.
 abbrev pub turnSize : ℕ
@@ -72,6 +72,6 @@ module _ (sites faults : ℕ) (book : List ℕ) where
       (forSiteAndLog sites faults book (leb turnSize (length out)) site log
       then ltb own sites else Range
       ⨾ forTurn (systemOf sites faults book) own (siteIn sites faults book site) (logOf log)))
-      (buffers (withSite sites faults book site (turned (systemOf sites faults book) (siteIn sites faults book site)))
+      (buffers (withSite sites faults book (spanIn site) site (turned (systemOf sites faults book) (siteIn sites faults book site)))
       (splice out 0 (sentBytes (systemOf sites faults book) own (siteIn sites faults book site))))
       (buffers site out)

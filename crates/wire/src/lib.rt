@@ -1,7 +1,7 @@
 // Numbers of 1, 2, 4 and 8 bytes in lent bytes, least significant byte first.
 ghost use mathlib.Core.Path.{_≡_};
 ghost use Prim.Native.Nat.{_+_, _≤_, _<_};
-ghost use lib.ListN.{length};
+ghost use lib.ListN.{length, replicate};
 ghost use Rattle.wire.specs.Wire.{bytes, readLe, splice};
 
 fn wide2(x: u8) -> u16
@@ -73,6 +73,17 @@ pub fn get8(s: &[u8], at: usize) -> u64
         + 1099511627776 * b5
         + 281474976710656 * b6
         + 72057594037927936 * b7
+}
+
+// Every byte becomes 0.
+pub fn clear(s: &mut [u8])
+    ensures { λ _. ⌜ now (s .exit) ≡ replicate (length (now (s .entry))) 0 ⌝ }
+{
+    let mut k = 0;
+    while k < s.len() {
+        s[k] = 0;
+        k += 1;
+    }
 }
 
 // A byte is written at a position.

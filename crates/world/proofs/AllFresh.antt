@@ -4,26 +4,24 @@ use mathlib.Core.Path.{_≡_, refl, sym, ap, subst, _∙_}
 use mathlib.Core.Bool.{Bool, true, false}
 use mathlib.Core.List.{List, []}
 use mathlib.Core.Option.{none}
-use mathlib.Core.Logic.{⊎-elim}
 use Prim.Native.Nat.{ℕ, _+_, _*_, _≤_, _<_}
 use native.Mathlib.Omega.{arith}
 use native.Mathlib.Decide.{ℕ-discrete}
 use lib.Dec.{ltb}
-use lib.ListN.{length, getD, take, drop, length-take, List·getD-eq-default}
-use lib.Seq.{getD-take, getD-drop}
+use lib.ListN.{length, take, drop}
 use borrow.Author.Tests.{ltb-true}
 use borrow.Rule.Slice.PartMut.{putMid}
 use Rattle.theory.specs.Sets.{pick}
 use Rattle.theory.specs.Lists.{nth}
-use Rattle.theory.specs.Counting.{lt-or-le}
 use Rattle.wire.specs.Wire.{splice}
 use Rattle.table.specs.declared.SiteTable.{SiteTable}
 use Rattle.register.specs.declared.Command.{Command}
 use Rattle.protocol.specs.Site as protocol
 use Rattle.protocol.specs.World.{start}
 use Rattle.system.specs.Dash.{dash}
-use Rattle.layout.specs.Layout.{siteSize, view}
-use Rattle.layout.specs.Good.{Holds}
+use Rattle.layout.specs.Layout.{siteSize, heardPlace, view}
+use Rattle.layout.specs.Good.{Holds, HoldsOver}
+use Rattle.layout.proofs.Finish.{alone}
 use Rattle.entries.proofs.Logs.{log-none}
 use Rattle.sent.specs.Sent as sent
 use Rattle.sent.specs.Sent.{cleared}
@@ -31,60 +29,50 @@ use Rattle.world.specs.World.{siteAt, knownTo}
 use Rattle.world.specs.Started.{Started}
 use Rattle.world.proofs.Sites.{site-same, site-other, lent-part, given-back}
 
--- The first n sites are fresh, whatever the table and the book.
-pub record FreshTo (n : ℕ) (sites : List ℕ) : Type 0 where
-  pub site : (i : ℕ) → i < n → (t : SiteTable) (book : List Command) → Holds t book (siteAt sites i) (protocol.fresh (dash t book))
+-- The first n sites are fresh, whatever the table and the book, and nothing but these was written.
+pub record FreshTo (n : ℕ) (earlier sites : List ℕ) : Type 0 where
+  pub site : (i : ℕ) → i < n → (t : SiteTable) (book : List Command) → HoldsOver t book (siteAt sites i) (siteAt sites i) (protocol.fresh (dash t book))
+  pub past : (i : ℕ) → i < n → drop heardPlace (siteAt sites i) ≡ drop heardPlace (siteAt earlier i)
+  pub rest : (i : ℕ) → n ≤ i → siteAt sites i ≡ siteAt earlier i
 
-pub fresh-none : (sites : List ℕ) → FreshTo 0 sites
-fresh-none sites = record { site = λ i l. absurd (omega arith) }
+pub fresh-none : (sites : List ℕ) → FreshTo 0 sites sites
+fresh-none sites = record { site = λ i l. absurd (omega arith); past = λ i l. absurd (omega arith); rest = λ i l. refl }
+
+-- Some site table: what is past a fresh site is the same at each.
+someTable : SiteTable
+someTable = record { sites = 1; faults = 0; mask = 0 }
 
 -- One site more, written by way of its part.
-pub fresh-more : (sites : List ℕ) (n k : ℕ) (ys : List ℕ) → k ≡ siteSize → n * siteSize + siteSize ≤ length sites → length ys ≡ siteSize → FreshTo n sites
-    → ((t : SiteTable) (book : List Command) → Holds t book ys (protocol.fresh (dash t book)))
-    → FreshTo (n + 1) (putMid (n * siteSize) k sites ys)
-fresh-more sites n k ys e room size f h =
-    subst (FreshTo (n + 1)) (sym (given-back sites n k e ys size))
+pub fresh-more : (earlier sites : List ℕ) (n k : ℕ) (ys : List ℕ) → k ≡ siteSize → n * siteSize + siteSize ≤ length sites → length ys ≡ siteSize → FreshTo n earlier sites
+    → ((t : SiteTable) (book : List Command) → Holds t book 0 (take k (drop (n * siteSize) sites)) ys (protocol.fresh (dash t book)))
+    → FreshTo (n + 1) earlier (putMid (n * siteSize) k sites ys)
+fresh-more earlier sites n k ys e room size f h =
+    subst (FreshTo (n + 1) earlier) (sym (given-back sites n k e ys size))
     (record {
       site =
           λ i l t book.
           elim (ℕ-discrete i n) [
             | yes q ↦
-                subst (λ (y : List ℕ). Holds t book y (protocol.fresh (dash t book)))
-                (sym (ap (siteAt (splice sites (n * siteSize) ys)) q ∙ site-same sites n ys room size)) (h t book)
+                subst (λ (y : List ℕ). HoldsOver t book y y (protocol.fresh (dash t book)))
+                (sym (ap (siteAt (splice sites (n * siteSize) ys)) q ∙ site-same sites n ys room size)) (alone t book (h t book))
             | no m ↦
-                subst (λ (y : List ℕ). Holds t book y (protocol.fresh (dash t book))) (sym (site-other sites n ys room size i m)) (f .site i (omega arith) t book)
+                subst (λ (y : List ℕ). HoldsOver t book y y (protocol.fresh (dash t book))) (sym (site-other sites n ys room size i m)) (f .site i (omega arith) t book)
           ];
+      past =
+          λ i l.
+          elim (ℕ-discrete i n) [
+            | yes q ↦
+                ap (drop heardPlace) (ap (siteAt (splice sites (n * siteSize) ys)) q ∙ site-same sites n ys room size) ∙ h someTable [] .past
+                ∙ ap (drop heardPlace) (lent-part sites n k e ∙ f .rest n (omega arith) ∙ ap (siteAt earlier) (sym q))
+            | no m ↦ ap (drop heardPlace) (site-other sites n ys room size i m) ∙ f .past i (omega arith)
+          ];
+      rest = λ i l. site-other sites n ys room size i (λ q. omega arith) ∙ f .rest i (omega arith);
     })
 
--- The sites from n on have only bytes that are 0.
-pub record BlankFrom (n : ℕ) (sites : List ℕ) : Type 0 where
-  pub site : (i : ℕ) → n ≤ i → (j : ℕ) → getD (siteAt sites i) j 0 ≡ 0
-
-pub blank-all : (sites : List ℕ) → ((k : ℕ) → getD sites k 0 ≡ 0) → BlankFrom 0 sites
-unfolding siteAt
-blank-all sites z =
-    record {
-      site =
-          λ i l j.
-          ⊎-elim (λ h. getD-take siteSize (drop (i * siteSize) sites) j 0 h ∙ getD-drop (i * siteSize) sites j 0 ∙ z (i * siteSize + j))
-          (λ h. List·getD-eq-default (take siteSize (drop (i * siteSize) sites)) 0 {n = j} (omega (arith, length-take siteSize (drop (i * siteSize) sites)))) (lt-or-le j siteSize);
-    }
-
--- The part of the next site.
-pub blank-part : (sites : List ℕ) (n k : ℕ) → k ≡ siteSize → BlankFrom n sites → (j : ℕ) → getD (take k (drop (n * siteSize) sites)) j 0 ≡ 0
-blank-part sites n k e b j = ap (λ (l : List ℕ). getD l j 0) (lent-part sites n k e) ∙ b .site n (omega arith) j
-
--- The sites after one that is written stay as they were.
-pub blank-more : (sites : List ℕ) (n k : ℕ) (ys : List ℕ) → k ≡ siteSize → n * siteSize + siteSize ≤ length sites → length ys ≡ siteSize → BlankFrom n sites
-    → BlankFrom (n + 1) (putMid (n * siteSize) k sites ys)
-blank-more sites n k ys e room size b =
-    subst (BlankFrom (n + 1)) (sym (given-back sites n k e ys size))
-    (record { site = λ i l j. ap (λ (y : List ℕ). getD y j 0) (site-other sites n ys room size i (λ q. omega arith)) ∙ b .site i (omega arith) j })
-
 -- All sites are fresh and nothing is sent.
-pub started : (t : SiteTable) (n : ℕ) {sites now before : List ℕ} → n ≡ t .sites → length sites ≡ t .sites * siteSize → FreshTo n sites
-    → sent.Holds now (cleared before) (λ j r. []) (λ j r. none) → Started t sites now before
-started t n {sites} {now} {before} e size f h =
+pub started : (t : SiteTable) (n : ℕ) {earlier sites now before : List ℕ} → n ≡ t .sites → length sites ≡ t .sites * siteSize → FreshTo n earlier sites
+    → sent.Holds now (cleared before) (λ j r. []) (λ j r. none) → Started t sites now earlier before
+started t n {earlier} {sites} {now} {before} e size f h =
     record {
       holds =
           λ book log short.
@@ -113,6 +101,7 @@ started t n {sites} {now} {before} e size f h =
                 };
           };
       bytes = h .bytes;
+      past = λ i l. f .past i (omega arith);
     }
   where
     point : (book : List Command) (i : ℕ) (x : Bool) → ltb i (t .sites) ≡ x → pick x (view t book (siteAt sites i)) (protocol.fresh (dash t book)) ≡ protocol.fresh (dash t book)

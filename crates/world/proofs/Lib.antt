@@ -1,4 +1,5 @@
 pub mod Sites
+pub mod Past
 pub mod Hold
 pub mod AllFresh
 pub mod Growing

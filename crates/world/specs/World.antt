@@ -21,8 +21,9 @@ use Rattle.protocol.specs.World.{World, Step, command, acknowledgment, check, f
 use Rattle.protocol.specs.World as worlds
 use Rattle.protocol.specs.CommonSequence.{isTaken}
 use Rattle.system.specs.Dash.{dash}
-use Rattle.layout.specs.Layout.{siteSize, headOf, view}
-use Rattle.layout.specs.Good.{Good, Holds}
+use Rattle.wire.specs.Wire.{readLe}
+use Rattle.layout.specs.Layout.{siteSize, spanPlace, rowAt, headOf, view}
+use Rattle.layout.specs.Good.{Good, HoldsOver}
 use Rattle.entries.specs.declared.Entry.{Entry}
 use Rattle.entries.specs.Entries.{entrySize, entryOf, logTo, writeEntry, inRangeOf}
 use Rattle.sent.specs.Sent.{acksOf, checksOf, cellOf, acknowledgedIn, checkedIn, GoodSent}
@@ -41,6 +42,15 @@ pub record Buffers : Type 0 where
 -- The bytes of site i.
 unfoldable pub siteAt : List ℕ → ℕ → List ℕ
 siteAt sites i = take siteSize (drop (i * siteSize) sites)
+
+-- The bytes of a site after a step: what is past its rows is as it was, and it has no fewer rows.
+pub record PastKept (before after : List ℕ) : Type 0 where
+  pub rows : readLe 2 before spanPlace ≤ readLe 2 after spanPlace
+  pub past : drop (rowAt (readLe 2 after spanPlace)) after ≡ drop (rowAt (readLe 2 after spanPlace)) before
+
+-- The same of the first n sites.
+abbrev pub PastRows : ℕ → List ℕ → List ℕ → Type 0
+PastRows n before after = (i : ℕ) → i < n → PastKept (siteAt before i) (siteAt after i)
 
 -- The commands of a message are in a book of so many.
 abbrev pub knownTo : ℕ → Option theory.Set → Bool
@@ -78,7 +88,7 @@ module _ (t : SiteTable) (book : List Command) where
 
   -- The buffers hold a world: each site's bytes are that site's, they say the world, and they are good.
   pub record HoldsWorld (b : Buffers) (w : World (dash t book)) : Type 0 where
-    pub site : (i : ℕ) → i < t .sites → Holds t book (siteAt (b .sites) i) (w .site i)
+    pub site : (i : ℕ) → i < t .sites → HoldsOver t book (siteAt (b .sites) i) (siteAt (b .sites) i) (w .site i)
     pub says : worldOf b ≡ w
     pub good : GoodWorld t (length book) b
 
@@ -113,13 +123,14 @@ module _ (t : SiteTable) (book : List Command) where
   sentWritten w (logRead i) b = b .sent
   sentWritten w (roundEnd i) b = b .sent
 
-  -- A step on lent buffers: the answer is the protocol's verdict, the buffers hold the protocol's world, and the log and what was sent are told byte by byte.
+  -- A step on lent buffers: the answer is the protocol's verdict, the buffers hold the protocol's world, and the log, what was sent and what is past the rows of each site are told byte by byte.
   -- A step that is refused leaves both as they were.
   pub record Outcome (u : Step) (b : Buffers) (v : Verdict) (after : Buffers) : Type 0 where
     pub verdict : v ≡ judge (dash t book) (worldOf b) u
     pub holds : HoldsWorld after (step (dash t book) (worldOf b) u)
     pub log : after .log ≡ pick (isTaken (judge (dash t book) (worldOf b) u)) (logWritten (worldOf b) u b) (b .log)
     pub sent : after .sent ≡ pick (isTaken (judge (dash t book) (worldOf b) u)) (sentWritten (worldOf b) u b) (b .sent)
+    pub past : PastRows (t .sites) (b .sites) (after .sites)
 
   -- The same, where the answer is a number: 0, or that of the refusal.
   pub record Answered (u : Step) (b : Buffers) (code : ℕ) (after : Buffers) : Type 0 where

@@ -15,18 +15,17 @@ pub struct Stepped {
     pub entries: usize,
 }
 
-// Every site is fresh and nothing is sent. All sites are cleared at once.
+// Every site is fresh and nothing is sent.
 pub fn start(sites: &mut [u8], sent: &mut [u8], table: SiteTable)
     requires { ⌜ (length (now sites) ≡ table .sites * siteSize) × (length (now sent) ≡ sentSize) ⌝ }
-    ensures { λ _. ⌜ Started table (now (sites .exit)) (now (sent .exit)) (now (sent .entry)) ⌝ }
+    ensures { λ _. ⌜ Started table (now (sites .exit)) (now (sent .exit)) (now (sites .entry)) (now (sent .entry)) ⌝ }
 {
     let n = table.sites;
-    lent::clear(sites);
     let mut i: usize = 0;
     while i < n {
         let from = i * Site::SIZE;
         let to = from + Site::SIZE;
-        lent::begin(&mut sites[from..to]);
+        lent::fresh(&mut sites[from..to]);
         i += 1;
     }
     sent::clear(sent);

@@ -2,7 +2,7 @@
 //! (document 01, "What a site does" and "When a sheet or step is turned down").
 
 use crate::lent_calls::{Call, Lent};
-use crate::site_bytes::{decode, without_empty, SITE_BYTES};
+use crate::site_bytes::{decode, span, without_empty, SITE_BYTES};
 use reference::book::BIKES;
 use reference::log::{read_log, ENTRY_BYTES};
 use reference::{bytes_of_set, lent, refusal, set_of_bytes, Book, Phase, Rules, Sent, Set, Site, SiteTable};
@@ -22,8 +22,8 @@ const PLAIN: &str = "";
 pub struct Outcome {
     pub answer: u32,
     pub cause: &'static str,
-    /// The later site, where the call changes it.
-    pub site: Option<Site>,
+    /// The later site and its span, where the call changes it.
+    pub site: Option<(Site, usize)>,
     /// What is written at the front of the output.
     pub out: Vec<u8>,
 }
@@ -34,7 +34,7 @@ impl Outcome {
         Outcome { answer, cause, site: None, out: Vec::new() }
     }
 
-    fn taken(cause: &'static str, site: Option<Site>, out: Vec<u8>) -> Outcome {
+    fn taken(cause: &'static str, site: Option<(Site, usize)>, out: Vec<u8>) -> Outcome {
         Outcome { answer: 0, cause, site, out }
     }
 }
@@ -55,7 +55,7 @@ pub fn expected(call: &Call, lent: &Lent) -> Outcome {
         }
         Call::JudgeBook => Book::read(lent.book.lent()).err(),
         _ if is_short => return Outcome::alone(refusal::ROOM, SHORT),
-        Call::Fresh => return Outcome::taken(PLAIN, Some(Site::start()), Vec::new()),
+        Call::Fresh => return Outcome::taken(PLAIN, Some((Site::start(), 0)), Vec::new()),
         _ => return expected_on_site(call, lent),
     };
     Outcome::alone(verdict.unwrap_or(0), PLAIN)
@@ -77,9 +77,18 @@ fn expected_on_site(call: &Call, lent: &Lent) -> Outcome {
     match step(call, &mut site, &rules, lent.log.lent()) {
         Ok((cause, out)) => {
             let is_changed = !matches!(call, Call::Status | Call::Bike { .. } | Call::Delivery { .. });
-            Outcome::taken(cause, is_changed.then(|| without_empty(site)), out)
+            let later = is_changed.then(|| (without_empty(site), later_span(call, span(lent.site.lent()))));
+            Outcome::taken(cause, later, out)
         }
         Err(number) => Outcome::alone(number, cause_of(call, number, &before, &rules, lent.log.lent())),
+    }
+}
+
+/// The span after a call: only an acknowledgment changes it, where it does not reach the acknowledgment's round.
+fn later_span(call: &Call, span: usize) -> usize {
+    match call {
+        Call::ReceiveAcknowledgment { round, .. } => span.max(*round),
+        _ => span,
     }
 }
 

@@ -6,10 +6,10 @@ use crate::site_bytes::{decode, encode, REASONS};
 use std::collections::BTreeMap;
 use std::fmt;
 
-/// Writes the later site and the output into what is lent.
+/// Writes the later site, up to its last row, and the output into what is lent.
 pub fn write_outcome(lent: &mut Lent, outcome: &Outcome) {
-    if let Some(site) = &outcome.site {
-        lent.site.write(&encode(site).expect("a later site fits into its bytes"));
+    if let Some((site, span)) = &outcome.site {
+        lent.site.write(&encode(site, *span).expect("a later site fits into its bytes"));
     }
     lent.out.write(&outcome.out);
 }
@@ -31,7 +31,7 @@ pub fn check(engine: &mut dyn Engine, call: &Call, lent: &Lent) -> Result<Outcom
     if found != after && answer != 0 {
         return Err(report("was refused and changed what is lent"));
     }
-    if let (Some(site), Ok(rules)) = (&outcome.site, expected::rules(lent)) {
+    if let (Some((site, _)), Ok(rules)) = (&outcome.site, expected::rules(lent)) {
         if decode(found.site.lent(), &rules).as_ref() != Ok(site) {
             return Err(report("left another site"));
         }

@@ -2,7 +2,7 @@
 
 use crate::draw::Draw;
 use crate::lent_calls::{Buffer, Lent};
-use crate::site_bytes::SITE_BYTES;
+use crate::site_bytes::{rows_end, span, HEARD, SITE_BYTES};
 
 /// Changes a byte of what is lent at this place, by one bit, to a number at an edge, or to any.
 fn change(draw: &mut Draw, buffer: &mut Buffer, at: usize) {
@@ -15,12 +15,16 @@ fn change(draw: &mut Draw, buffer: &mut Buffer, at: usize) {
 
 /// A place in a site, each of its parts equally often.
 fn place(draw: &mut Draw, site: &Buffer) -> usize {
-    let recorded = site.lent().get(4).map_or(0, |recorded| usize::from(*recorded));
-    let parts = [(0, 1), (1, 2), (2, 4), (4, 8), (8, 40), (40, 56), (56, 2960), (2960, 3216), (3216, 3536)];
+    let site = site.lent();
+    let recorded = site.get(4).map_or(0, |recorded| usize::from(*recorded));
+    let end = if site.len() < SITE_BYTES { HEARD } else { rows_end(span(site)).min(SITE_BYTES) };
+    let numbers = [(0, 1), (1, 2), (2, 4), (4, 6), (6, 8)];
+    let tables = [(8, 40), (40, 56), (56, 312), (312, HEARD), (HEARD, end), (end, SITE_BYTES)];
+    let parts = [&numbers[..], &tables].concat();
     match draw.below(parts.len() + 1) {
         part if part < parts.len() => draw.within(parts[part].0, parts[part].1 - 1),
         // A command that was delivered.
-        _ => 3216 + 5 * draw.below(recorded.min(64)),
+        _ => 312 + 5 * draw.below(recorded.min(64)),
     }
 }
 
@@ -92,7 +96,7 @@ pub fn damage(draw: &mut Draw, lent: &mut Lent) {
             let at = draw.below(SITE_BYTES);
             change(draw, &mut lent.site, at);
         }
-        5 => lent.site.cut(draw.pick(&[SITE_BYTES - 1, SITE_BYTES - 1, 3216, 56, 1, 0])),
+        5 => lent.site.cut(draw.pick(&[SITE_BYTES - 1, SITE_BYTES - 1, HEARD, 56, 1, 0])),
         6 => lent.out.cut(draw.pick(&[26, 9, 8, 7, 5, 4, 0])),
         7 => damage_table(draw, lent),
         8 | 9 => damage_book(draw, lent),

@@ -4,8 +4,9 @@ use crate::books;
 use crate::draw::Draw;
 use crate::generator;
 use crate::lent_calls::{Buffer, Call, Lent};
-use crate::site_bytes::encode;
-use reference::{bytes_of_set, play_run, Delivery, Entry, Phase, Proposal, Rules, Set, Site};
+use crate::site_bytes::{encode, least_span, SPAN};
+use reference::site::MOST_ROUND;
+use reference::{bytes_of_set, play_run, Delivery, Entry, Phase, Proposal, Rules, Set, Site, SiteTable};
 
 /// A number from low to high, or now and then one that is out of range.
 pub fn around(draw: &mut Draw, low: usize, high: usize) -> usize {
@@ -87,7 +88,7 @@ pub struct Scene {
 /// The scene of a site that a run has led to, or of one with any fields.
 pub fn scene(draw: &mut Draw) -> Scene {
     let mut scene = if draw.percent(30) { scene_of_run(draw) } else { scene_of_any(draw) };
-    while encode(&scene.site).is_none() {
+    while encode(&scene.site, least_span(&scene.site)).is_none() {
         scene = scene_of_any(draw);
     }
     scene
@@ -113,6 +114,9 @@ fn scene_of_any(draw: &mut Draw) -> Scene {
         50..=74 => aim_at_third_entry(draw, &mut scene),
         75 => aim_at_long_log(draw, &mut scene),
         _ => {}
+    }
+    if draw.percent(20) {
+        forget_round(&mut scene.site);
     }
     if draw.percent(10) {
         let delivery = Delivery { command: draw.below(scene.rules.book.count()), answer: draw.bits() as i32 };
@@ -149,6 +153,12 @@ fn aim_at_fast_delivery(draw: &mut Draw, scene: &mut Scene) {
         let set = if draw.percent(90) { heard.clone() } else { set(draw, rules) };
         site.heard.insert((site.round.clamp(1, 33), sender), set);
     }
+}
+
+/// The site has heard nothing in its round yet, nor in later ones.
+fn forget_round(site: &mut Site) {
+    let own = site.round;
+    site.heard.retain(|(round, _), _| *round < own);
 }
 
 /// A log that ends in two or three entries of the site itself, whatever their sets; the last may be unread.
@@ -195,6 +205,33 @@ fn aim_at_long_log(draw: &mut Draw, scene: &mut Scene) {
     site.log_position = log.len() / 18 - draw.below(3);
 }
 
+/// So many rows past those of a site: the same byte all over, what another site heard, or anything.
+fn rest(draw: &mut Draw, rules: &Rules, rows: usize) -> Vec<u8> {
+    let sets = rows * SiteTable::MOST_SITES;
+    match draw.below(4) {
+        0 => vec![0; 8 * sets],
+        1 => vec![255; 8 * sets],
+        2 => {
+            let all = bytes_of_set(&(0..rules.book.count()).collect());
+            let mut row = all.repeat(rules.table.sites());
+            row.resize(8 * SiteTable::MOST_SITES, 0);
+            row.repeat(rows)
+        }
+        _ => (0..sets).flat_map(|_| draw.bits().to_le_bytes()).collect(),
+    }
+}
+
+/// The bytes lent for a site, whose numbers fit into bytes: its rows of sets heard reach as far as they must, or
+/// further, and past them is anything.
+pub fn bytes(draw: &mut Draw, site: &Site, rules: &Rules) -> Vec<u8> {
+    let least = least_span(site);
+    let further = draw.within(least, MOST_ROUND);
+    let span = draw.pick(&[least, least, further, MOST_ROUND]);
+    let mut bytes = encode(site, span).expect("a scene's site fits into its bytes");
+    bytes.extend(rest(draw, rules, MOST_ROUND - span));
+    bytes
+}
+
 /// A buffer at least as long as asked for, with bytes of any kind past its content.
 fn buffer(draw: &mut Draw, content: &[u8]) -> Buffer {
     let more = draw.pick(&[0, 0, 1, 7, 40]);
@@ -203,9 +240,13 @@ fn buffer(draw: &mut Draw, content: &[u8]) -> Buffer {
 }
 
 impl Scene {
-    /// What is lent for this scene, whose site's numbers fit into bytes.
+    /// What is lent for this scene, whose site's numbers fit into bytes; now and then its span is out of range.
     pub fn lent(&self, draw: &mut Draw) -> Lent {
-        let site = encode(&self.site).expect("a scene's site fits into its bytes");
+        let mut site = bytes(draw, &self.site, &self.rules);
+        if draw.percent(1) {
+            let span: u16 = draw.pick(&[34, 35, 255, 256, 256 + 33, u16::MAX]);
+            site[SPAN..SPAN + 2].copy_from_slice(&span.to_le_bytes());
+        }
         let out: Vec<u8> = (0..27).map(|_| draw.byte()).collect();
         Lent {
             sites: self.rules.table.sites(),

@@ -53,7 +53,7 @@ fn go_on(draw: &mut Draw, scene: &mut Scene, call: &Call, outcome: Outcome) {
     if *call == Call::Fresh && draw.percent(80) {
         return;
     }
-    if let Some(site) = outcome.site {
+    if let Some((site, _)) = outcome.site {
         scene.site = site;
     }
 }

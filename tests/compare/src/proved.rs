@@ -2,6 +2,8 @@
 
 use crate::draw::Draw;
 use crate::program::Program;
+use crate::site_bytes::{encode, SITE_BYTES};
+use reference::World;
 
 unsafe extern "C" {
     /// Plays `run` on `sites`, `log` and `sent` into `out`; gives the number of bytes written to `out`, 0 where a buffer is too short.
@@ -67,6 +69,16 @@ impl Proved {
             )
         };
         self.out.get(..written).expect("the print fits into its buffer")
+    }
+
+    /// The first site whose bytes are not those of this world, which the last run has led to, if there is one.
+    pub fn other_site(&self, world: &World) -> Option<usize> {
+        let lent = self.sites.chunks(SITE_BYTES).zip(&world.sites);
+        lent.enumerate().find_map(|(number, (bytes, site))| {
+            let span = site.heard.keys().map(|(round, _)| *round).max().unwrap_or(0);
+            let expected = encode(site, span).expect("a site of a run fits into its bytes");
+            (!bytes.starts_with(&expected)).then_some(number)
+        })
     }
 
     /// The bytes that a call is lent: to work on, and for the print.

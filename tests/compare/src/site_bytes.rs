@@ -1,4 +1,6 @@
-//! A site of the reference as the 3,536 bytes that a host lends, and back (docs/FORMAT.md, "Site").
+//! A site of the reference as the bytes of it that a host lends, and back (docs/FORMAT.md, "Site").
+//!
+//! A site has rows of sets heard up to its span. Of the 3,536 bytes lent, those past these rows are not part of it.
 
 use reference::book::{BIKES, MOST_COMMANDS, MOST_READING};
 use reference::site::{is_round, MOST_ROUND};
@@ -7,26 +9,28 @@ use std::collections::BTreeMap;
 
 pub const SITE_BYTES: usize = 3536;
 const SET: usize = 8;
-/// A sender's sets of all rounds, one after another.
-const SENDER: usize = SET * MOST_ROUND;
+/// What all senders acknowledged in a round, one after another.
+const ROW: usize = SET * SiteTable::MOST_SITES;
 const DELIVERY: usize = 5;
 
 /// Where each part of a site begins.
 const LOG_POSITION: usize = 2;
 const RECORDED_COUNT: usize = 4;
+pub const SPAN: usize = 6;
 const RECEIVED: usize = 8;
 const DELIVERED: usize = 16;
 const PENDING: usize = 24;
 const DELIVERED_FAST: usize = 32;
 const PROPOSED_NC: usize = 40;
 const PROPOSED_C: usize = 48;
-const HEARD: usize = 56;
-const REGISTER: usize = HEARD + SENDER * SiteTable::MOST_SITES;
+const REGISTER: usize = 56;
 const DELIVERIES: usize = REGISTER + 8 * BIKES;
+pub const HEARD: usize = DELIVERIES + DELIVERY * MOST_COMMANDS;
 
 /// Why bytes are not a site: each is refused as 4.
 pub const ROUND: &str = "a round out of range";
 pub const PHASE: &str = "a phase that is neither 0 nor 1";
+pub const SPAN_BEYOND: &str = "a span out of range";
 pub const SET_BEYOND: &str = "a set beyond the book";
 pub const PROPOSED: &str = "proposed sets while acknowledging";
 pub const SENDER_BEYOND: &str = "something heard of a sender beyond the table";
@@ -34,8 +38,8 @@ pub const READING: &str = "a reading out of range";
 pub const RECORDED: &str = "more deliveries than commands";
 pub const COMMAND_BEYOND: &str = "a delivered command beyond the book";
 pub const UNRECORDED: &str = "an unrecorded delivery that is not 0";
-pub const REASONS: [&str; 9] =
-    [ROUND, PHASE, SET_BEYOND, PROPOSED, SENDER_BEYOND, READING, RECORDED, COMMAND_BEYOND, UNRECORDED];
+pub const REASONS: [&str; 10] =
+    [ROUND, PHASE, SPAN_BEYOND, SET_BEYOND, PROPOSED, SENDER_BEYOND, READING, RECORDED, COMMAND_BEYOND, UNRECORDED];
 
 fn put(bytes: &mut [u8], at: usize, part: &[u8]) {
     bytes[at..at + part.len()].copy_from_slice(part);
@@ -46,12 +50,29 @@ fn set_bytes(set: &Set) -> Option<[u8; SET]> {
     set.iter().all(|command| *command < MOST_COMMANDS).then(|| bytes_of_set(set))
 }
 
-/// The bytes of a site, in range or not; none where a number is too great for its bytes.
-pub fn encode(site: &Site) -> Option<Vec<u8>> {
-    let mut bytes = vec![0; SITE_BYTES];
+/// Where the rows of so many rounds end.
+pub fn rows_end(span: usize) -> usize {
+    HEARD + ROW * span
+}
+
+fn heard_at(sender: usize, round: usize) -> usize {
+    rows_end(round - 1) + SET * sender
+}
+
+/// The last round in which the site heard something, 0 where it has not: its rows must reach so far.
+pub fn least_span(site: &Site) -> usize {
+    let heard = site.heard.iter().filter(|(_, set)| !set.is_empty());
+    heard.map(|((round, _), _)| *round).max().unwrap_or(0)
+}
+
+/// The bytes of a site, in range or not, with rows up to its span, at least the least one; none where a number is
+/// too great for its bytes.
+pub fn encode(site: &Site, span: usize) -> Option<Vec<u8>> {
+    let mut bytes = vec![0; rows_end(span)];
     bytes[0] = u8::try_from(site.round).ok()?;
     put(&mut bytes, LOG_POSITION, &u16::try_from(site.log_position).ok()?.to_le_bytes());
-    put(&mut bytes, RECORDED_COUNT, &u32::try_from(site.deliveries.len()).ok()?.to_le_bytes());
+    put(&mut bytes, RECORDED_COUNT, &u16::try_from(site.deliveries.len()).ok()?.to_le_bytes());
+    put(&mut bytes, SPAN, &u16::try_from(span).ok()?.to_le_bytes());
     put(&mut bytes, RECEIVED, &set_bytes(&site.received)?);
     put(&mut bytes, DELIVERED, &set_bytes(&site.g_del)?);
     put(&mut bytes, PENDING, &set_bytes(&site.pending)?);
@@ -75,7 +96,9 @@ fn encode_heard(heard: &BTreeMap<(usize, usize), Set>, bytes: &mut [u8]) -> Opti
         if !is_round(*round) || *sender >= SiteTable::MOST_SITES {
             return None;
         }
-        put(bytes, HEARD + SENDER * sender + SET * (round - 1), &set_bytes(set)?);
+        if !set.is_empty() {
+            put(bytes, heard_at(*sender, *round), &set_bytes(set)?);
+        }
     }
     Some(())
 }
@@ -111,6 +134,11 @@ fn read_set(bytes: &[u8], at: usize, rules: &Rules) -> Result<Set, &'static str>
     Ok(set)
 }
 
+/// For how many rounds there are rows of sets heard.
+pub fn span(bytes: &[u8]) -> usize {
+    usize::from(u16::from_le_bytes(part(bytes, SPAN)))
+}
+
 /// The site in the first 3,536 bytes; why there is none, where they are not a site for this table and book.
 /// The log position is read and not judged, since no log is at hand. What was heard keeps no empty sets.
 pub fn decode(bytes: &[u8], rules: &Rules) -> Result<Site, &'static str> {
@@ -133,7 +161,7 @@ pub fn decode(bytes: &[u8], rules: &Rules) -> Result<Site, &'static str> {
 fn decode_phase(bytes: &[u8], rules: &Rules) -> Result<Phase, &'static str> {
     match bytes[1] {
         0 => {
-            unless(bytes[PROPOSED_NC..HEARD].iter().all(|byte| *byte == 0), PROPOSED)?;
+            unless(bytes[PROPOSED_NC..REGISTER].iter().all(|byte| *byte == 0), PROPOSED)?;
             Ok(Phase::Acknowledging)
         }
         1 => {
@@ -145,10 +173,11 @@ fn decode_phase(bytes: &[u8], rules: &Rules) -> Result<Phase, &'static str> {
 }
 
 fn decode_heard(bytes: &[u8], rules: &Rules) -> Result<BTreeMap<(usize, usize), Set>, &'static str> {
+    unless(span(bytes) <= MOST_ROUND, SPAN_BEYOND)?;
     let mut heard = BTreeMap::new();
-    for sender in 0..SiteTable::MOST_SITES {
-        for round in 1..=MOST_ROUND {
-            let at = HEARD + SENDER * sender + SET * (round - 1);
+    for round in 1..=span(bytes) {
+        for sender in 0..SiteTable::MOST_SITES {
+            let at = heard_at(sender, round);
             if part(bytes, at) == [0; SET] {
                 continue;
             }
@@ -170,7 +199,7 @@ fn decode_register(bytes: &[u8]) -> Result<Register, &'static str> {
 }
 
 fn decode_deliveries(bytes: &[u8], rules: &Rules) -> Result<Vec<Delivery>, &'static str> {
-    let recorded = u32::from_le_bytes(part(bytes, RECORDED_COUNT)) as usize;
+    let recorded = usize::from(u16::from_le_bytes(part(bytes, RECORDED_COUNT)));
     unless(recorded <= rules.book.count(), RECORDED)?;
     let mut deliveries = Vec::new();
     for place in 0..recorded {
@@ -178,7 +207,7 @@ fn decode_deliveries(bytes: &[u8], rules: &Rules) -> Result<Vec<Delivery>, &'sta
         unless(usize::from(command) < rules.book.count(), COMMAND_BEYOND)?;
         deliveries.push(Delivery { command: usize::from(command), answer: i32::from_le_bytes(answer) });
     }
-    let unrecorded = &bytes[DELIVERIES + DELIVERY * recorded..SITE_BYTES];
+    let unrecorded = &bytes[DELIVERIES + DELIVERY * recorded..HEARD];
     unless(unrecorded.iter().all(|byte| *byte == 0), UNRECORDED)?;
     Ok(deliveries)
 }
@@ -206,9 +235,9 @@ mod tests {
     fn sites_read_back_as_written() {
         let mut read = 0;
         for place in 0..2_000 {
-            let (site, rules, _) = drawn(place);
+            let (site, rules, mut draw) = drawn(place);
             let fits = reference::lent::check_site(&site, &rules).is_ok();
-            let bytes = encode(&site).expect("a scene's site fits into its bytes");
+            let bytes = lent_draw::bytes(&mut draw, &site, &rules);
             assert_eq!(decode(&bytes, &rules).ok(), fits.then(|| without_empty(site)), "site {place}");
             read += usize::from(fits);
         }
@@ -220,13 +249,14 @@ mod tests {
         let mut reasons = std::collections::BTreeSet::new();
         for place in 0..4_000 {
             let (site, rules, mut draw) = drawn(place);
-            let mut bytes = encode(&site).expect("a scene's site fits into its bytes");
-            let at = if draw.percent(50) { draw.below(SITE_BYTES) } else { draw.below(HEARD) };
+            let mut bytes = lent_draw::bytes(&mut draw, &site, &rules);
+            let at = if draw.percent(50) { draw.below(SITE_BYTES) } else { draw.below(REGISTER) };
             bytes[at] ^= 1 << draw.below(8);
             match decode(&bytes, &rules) {
                 Ok(site) => {
                     assert_eq!(reference::lent::check_site(&site, &rules), Ok(()), "byte {at} of site {place}");
-                    assert_eq!(encode(&site), Some(bytes), "byte {at} of site {place}");
+                    bytes.truncate(rows_end(span(&bytes)));
+                    assert_eq!(encode(&site, span(&bytes)), Some(bytes), "byte {at} of site {place}");
                 }
                 Err(reason) => _ = reasons.insert(reason),
             }
@@ -236,19 +266,29 @@ mod tests {
 
     #[test]
     fn the_parts_are_where_the_format_says() {
-        assert_eq!((HEARD, REGISTER, DELIVERIES), (56, 2960, 3216));
-        assert_eq!(DELIVERIES + DELIVERY * MOST_COMMANDS, SITE_BYTES);
+        assert_eq!((REGISTER, DELIVERIES, HEARD), (56, 312, 632));
+        assert_eq!(rows_end(MOST_ROUND), SITE_BYTES);
         let mut site = Site::start();
         site.heard.insert((33, 10), Set::from([0, 63]));
         site.heard.insert((2, 1), Set::from([8]));
         site.register.readings[31] = 0x0F_0102;
         site.deliveries.push(Delivery { command: 9, answer: -2 });
         site.log_position = 0x0203;
-        let bytes = encode(&site).expect("the site fits into its bytes");
-        assert_eq!(bytes[..8], [1, 0, 3, 2, 1, 0, 0, 0]);
-        assert_eq!(bytes[2952..2960], [1, 0, 0, 0, 0, 0, 0, 0x80]);
-        assert_eq!(bytes[56 + 33 * 8 + 8..][..2], [0, 1]);
-        assert_eq!(bytes[3208..3212], [2, 1, 15, 0]);
-        assert_eq!(bytes[3216..3221], [9, 254, 255, 255, 255]);
+        let bytes = encode(&site, least_span(&site)).expect("the site fits into its bytes");
+        assert_eq!(bytes[..8], [1, 0, 3, 2, 1, 0, 33, 0]);
+        assert_eq!(bytes[304..308], [2, 1, 15, 0]);
+        assert_eq!(bytes[312..317], [9, 254, 255, 255, 255]);
+        assert_eq!(bytes[632 + 88 + 8..][..2], [0, 1]);
+        assert_eq!(bytes[3528..], [1, 0, 0, 0, 0, 0, 0, 0x80]);
+    }
+
+    #[test]
+    fn a_site_ends_after_the_rows_of_its_span() {
+        let mut site = Site::start();
+        assert_eq!(encode(&site, least_span(&site)).map(|bytes| bytes.len()), Some(632));
+        site.heard.insert((4, 0), Set::new());
+        site.heard.insert((3, 0), Set::from([1]));
+        assert_eq!(encode(&site, least_span(&site)).map(|bytes| bytes.len()), Some(632 + 3 * 88));
+        assert_eq!(encode(&site, 5).map(|bytes| (span(&bytes), bytes.len())), Some((5, 632 + 5 * 88)));
     }
 }

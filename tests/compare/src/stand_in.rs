@@ -8,15 +8,16 @@ use reference::{Book, Register};
 const SITE: usize = 3536;
 const POSITION: usize = 2;
 const COUNT: usize = 4;
+const SPAN: usize = 6;
 const RECEIVED: usize = 8;
 const DELIVERED: usize = 16;
 const PENDING: usize = 24;
 const FAST: usize = 32;
 const NC: usize = 40;
 const C: usize = 48;
-const HEARD: usize = 56;
-const BIKES: usize = 2960;
-const DELIVERIES: usize = 3216;
+const BIKES: usize = 56;
+const DELIVERIES: usize = 312;
+const HEARD: usize = 632;
 
 pub struct StandIn;
 
@@ -41,17 +42,30 @@ fn number(bytes: &[u8], at: usize) -> u32 {
     u32::from_le_bytes([bytes[at], bytes[at + 1], bytes[at + 2], bytes[at + 3]])
 }
 
+fn short(bytes: &[u8], at: usize) -> usize {
+    usize::from(bytes[at]) + 256 * usize::from(bytes[at + 1])
+}
+
+fn put_short(bytes: &mut [u8], at: usize, short: usize) {
+    bytes[at..at + 2].copy_from_slice(&(short as u16).to_le_bytes());
+}
+
 fn log_position(site: &[u8]) -> usize {
-    usize::from(site[POSITION]) + 256 * usize::from(site[POSITION + 1])
+    short(site, POSITION)
 }
 
 /// How many deliveries are recorded.
 fn recorded(site: &[u8]) -> usize {
-    number(site, COUNT) as usize
+    short(site, COUNT)
+}
+
+/// For how many rounds there are sets heard.
+fn span(site: &[u8]) -> usize {
+    short(site, SPAN)
 }
 
 fn heard_at(sender: usize, round: usize) -> usize {
-    HEARD + (sender * 33 + round - 1) * 8
+    HEARD + ((round - 1) * 11 + sender) * 8
 }
 
 /// The commands of a set in rising order.
@@ -83,12 +97,19 @@ impl Frame {
         (1..=33).contains(&site[0])
             && site[1] <= 1
             && recorded <= self.count()
+            && span(site) <= 33
             && (RECEIVED..BIKES).step_by(8).all(|at| self.holds(word(site, at)))
-            && (site[1] == 1 || is_zero(&site[NC..HEARD]))
-            && is_zero(&site[heard_at(self.sites, 1)..BIKES])
+            && (site[1] == 1 || is_zero(&site[NC..BIKES]))
+            && (1..=span(site)).all(|round| self.is_row(&site[heard_at(0, round)..heard_at(0, round + 1)]))
             && (BIKES..DELIVERIES).step_by(8).all(|at| number(site, at) <= 999_999)
             && (0..recorded).all(|k| usize::from(site[DELIVERIES + 5 * k]) < self.count())
-            && is_zero(&site[DELIVERIES + 5 * recorded..])
+            && is_zero(&site[DELIVERIES + 5 * recorded..HEARD])
+    }
+
+    /// Whether these are the sets heard in one round.
+    fn is_row(&self, row: &[u8]) -> bool {
+        let (heard, silent) = row.split_at(8 * self.sites);
+        heard.chunks(8).all(|set| self.holds(word(set, 0))) && silent.iter().all(|byte| *byte == 0)
     }
 
     /// What a log read answers for the entry at this place.
@@ -144,7 +165,7 @@ impl Frame {
             let at = DELIVERIES + 5 * k;
             site[at] = *m as u8;
             site[at + 1..at + 5].copy_from_slice(&answer.to_le_bytes());
-            site[COUNT..COUNT + 4].copy_from_slice(&(k as u32 + 1).to_le_bytes());
+            put_short(site, COUNT, k + 1);
         }
         0
     }
@@ -159,6 +180,18 @@ fn receive(site: &mut [u8], set: u64) -> u32 {
     let received = word(site, RECEIVED);
     put_word(site, RECEIVED, received | set);
     0
+}
+
+/// Rounds up to this one get their place where they have none: nothing was heard there.
+fn hear(site: &mut [u8], sender: usize, round: usize, set: u64) {
+    let earlier = span(site);
+    if earlier < round {
+        site[heard_at(0, earlier + 1)..heard_at(0, round + 1)].fill(0);
+        put_short(site, SPAN, round);
+    }
+    let at = heard_at(sender, round);
+    let heard = word(site, at);
+    put_word(site, at, heard | set);
 }
 
 fn turn(frame: &Frame, site: &mut [u8], log: &[u8], own: usize, out: &mut [u8]) -> u32 {
@@ -197,7 +230,8 @@ fn fast_delivery(frame: &Frame, site: &mut [u8], command: usize) -> u32 {
         return 4;
     }
     let (bit, round) = (1 << command, usize::from(site[0]));
-    let senders = (0..frame.sites).filter(|sender| word(site, heard_at(*sender, round)) & bit != 0).count();
+    let has_heard = |sender: &usize| round <= span(site) && word(site, heard_at(*sender, round)) & bit != 0;
+    let senders = (0..frame.sites).filter(has_heard).count();
     if word(site, PENDING) & !word(site, FAST) & bit == 0 || senders < frame.enough() {
         return 6;
     }
@@ -216,7 +250,7 @@ fn log_read(frame: &Frame, site: &mut [u8], log: &[u8]) -> u32 {
     }
     let answer = frame.judge_entry(log, position);
     if answer == 0 {
-        site[POSITION..POSITION + 2].copy_from_slice(&(position as u16 + 1).to_le_bytes());
+        put_short(site, POSITION, position + 1);
     }
     answer
 }
@@ -233,7 +267,7 @@ fn round_end(frame: &Frame, site: &mut [u8], log: &[u8]) -> u32 {
     if answer == 0 {
         put_word(site, DELIVERED, delivered | nc | c);
         (site[0], site[1]) = (site[0] + 1, 0);
-        site[PENDING..HEARD].fill(0);
+        site[PENDING..BIKES].fill(0);
     }
     answer
 }
@@ -252,9 +286,7 @@ fn step(call: &Call, frame: &Frame, site: &mut [u8], log: &[u8], out: &mut [u8])
         Call::ReceiveAcknowledgment { sender, round, set }
             if sender < frame.sites && (1..=33).contains(&round) && frame.holds(set) =>
         {
-            let at = heard_at(sender, round);
-            let heard = word(site, at);
-            put_word(site, at, heard | set);
+            hear(site, sender, round, set);
             receive(site, set)
         }
         Call::Turn { own } => turn(frame, site, log, own, out),
@@ -290,7 +322,7 @@ impl Engine for StandIn {
         }
         let site = &mut lent.site.lent_mut()[..SITE];
         if *call == Call::Fresh {
-            site.fill(0);
+            site[..HEARD].fill(0);
             site[0] = 1;
             return 0;
         }

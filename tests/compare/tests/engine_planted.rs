@@ -40,7 +40,7 @@ fn refused_call_writes_the_output(call: &Call, lent: &mut Lent) -> u32 {
 fn refused_round_end_delivers_in_part(call: &Call, lent: &mut Lent) -> u32 {
     let answer = right(call, lent);
     if *call == Call::RoundEnd && answer == 9 && lent.site.length() >= 3536 {
-        lent.site.lent_mut()[2960] ^= 1;
+        lent.site.lent_mut()[56] ^= 1;
     }
     answer
 }
@@ -119,9 +119,17 @@ fn commands(lent: &Lent) -> usize {
     Book::read(lent.book.lent()).map_or(0, |book| book.count())
 }
 
-/// The log position in the lent bytes; 0 where they are too short.
+/// The number in two of the lent bytes; 0 where they are too short.
+fn number(lent: &Lent, at: usize) -> usize {
+    lent.site.lent().get(at..at + 2).map_or(0, |bytes| usize::from(bytes[0]) + 256 * usize::from(bytes[1]))
+}
+
 fn position(lent: &Lent) -> usize {
-    lent.site.lent().get(2..4).map_or(0, |bytes| usize::from(bytes[0]) + 256 * usize::from(bytes[1]))
+    number(lent, 2)
+}
+
+fn span(lent: &Lent) -> usize {
+    number(lent, 6)
 }
 
 fn full_record_before_not_enabled(call: &Call, lent: &mut Lent) -> u32 {
@@ -166,46 +174,78 @@ fn narrow_table(call: &Call, lent: &mut Lent) -> u32 {
     answer
 }
 
-/// The call on a site with a part of it cleared, put back afterwards.
-fn blind_to(part: std::ops::Range<usize>, call: &Call, lent: &mut Lent) -> u32 {
-    let Some(kept) = lent.site.lent().get(part.clone()).map(<[u8]>::to_vec) else {
+/// The call on a site with other bytes in a part of it, which is put back afterwards.
+fn with_part(at: usize, part: &[u8], call: &Call, lent: &mut Lent) -> u32 {
+    let Some(kept) = lent.site.lent().get(at..at + part.len()).map(<[u8]>::to_vec) else {
         return right(call, lent);
     };
     let before = lent.site.clone();
-    lent.site.lent_mut()[part.clone()].fill(0);
+    lent.site.lent_mut()[at..at + part.len()].copy_from_slice(part);
     let answer = right(call, lent);
     if answer != 0 {
         lent.site = before;
     } else {
-        lent.site.lent_mut()[part].copy_from_slice(&kept);
+        lent.site.lent_mut()[at..at + part.len()].copy_from_slice(&kept);
     }
     answer
 }
 
 fn last_sender_not_judged(call: &Call, lent: &mut Lent) -> u32 {
-    if lent.sites < 11 && *call == Call::LogRead {
-        return blind_to(56 + 10 * 264..2960, call, lent);
+    let span = span(lent);
+    if lent.sites < 11 && *call == Call::LogRead && (1..=33).contains(&span) && lent.site.length() >= 3536 {
+        let mut rows = lent.site.lent()[632..632 + 88 * span].to_vec();
+        rows.chunks_mut(88).for_each(|row| row[80..].fill(0));
+        return with_part(632, &rows, call, lent);
     }
     right(call, lent)
 }
 
 fn last_delivery_not_judged(call: &Call, lent: &mut Lent) -> u32 {
     if *call == Call::RoundEnd && lent.site.lent().get(4).is_some_and(|recorded| *recorded < 60) {
-        return blind_to(3536 - 5..3536, call, lent);
+        return with_part(627, &[0; 5], call, lent);
     }
     right(call, lent)
 }
 
-fn high_bytes_of_the_count_not_judged(call: &Call, lent: &mut Lent) -> u32 {
+fn high_byte_of_the_count_not_judged(call: &Call, lent: &mut Lent) -> u32 {
     if *call == Call::Status {
-        return blind_to(5..8, call, lent);
+        return with_part(5, &[0], call, lent);
+    }
+    right(call, lent)
+}
+
+fn high_byte_of_the_span_not_judged(call: &Call, lent: &mut Lent) -> u32 {
+    if *call == Call::Status {
+        return with_part(7, &[0], call, lent);
+    }
+    right(call, lent)
+}
+
+fn span_34_taken(call: &Call, lent: &mut Lent) -> u32 {
+    if *call == Call::Status && span(lent) == 34 {
+        return with_part(6, &[33, 0], call, lent);
+    }
+    right(call, lent)
+}
+
+fn bytes_past_the_span_judged(call: &Call, lent: &mut Lent) -> u32 {
+    if *call == Call::Status && tried(call, lent) == 0 {
+        return with_part(6, &[33, 0], call, lent);
+    }
+    right(call, lent)
+}
+
+fn sets_past_the_span_heard(call: &Call, lent: &mut Lent) -> u32 {
+    let is_refused = matches!(call, Call::FastDelivery { .. }) && tried(call, lent) == 6;
+    if is_refused && with_part(6, &[33, 0], call, lent) == 0 {
+        return 0;
     }
     right(call, lent)
 }
 
 fn proposed_sets_not_judged(call: &Call, lent: &mut Lent) -> u32 {
     if *call == Call::Status && lent.site.lent().get(1) == Some(&0) {
-        return blind_to(40..56, call, lent);
+        return with_part(40, &[0; 16], call, lent);
     }
     right(call, lent)
 }
@@ -223,8 +263,61 @@ fn heard_under_the_round_of_the_site(call: &Call, lent: &mut Lent) -> u32 {
 fn heard_replaced(call: &Call, lent: &mut Lent) -> u32 {
     let answer = right(call, lent);
     if let (Call::ReceiveAcknowledgment { sender, round, set }, 0) = (call, answer) {
-        let at = 56 + (sender * 33 + round - 1) * 8;
+        let at = row(*round).start + 8 * sender;
         lent.site.lent_mut()[at..at + 8].copy_from_slice(&set.to_le_bytes());
+    }
+    answer
+}
+
+/// The bytes of a round's sets heard.
+fn row(round: usize) -> std::ops::Range<usize> {
+    632 + 88 * (round - 1)..632 + 88 * round
+}
+
+fn span_not_raised(call: &Call, lent: &mut Lent) -> u32 {
+    let earlier = span(lent) as u16;
+    let answer = right(call, lent);
+    if matches!(call, Call::ReceiveAcknowledgment { .. }) && answer == 0 {
+        lent.site.lent_mut()[6..8].copy_from_slice(&earlier.to_le_bytes());
+    }
+    answer
+}
+
+fn only_the_row_of_the_round_cleared(call: &Call, lent: &mut Lent) -> u32 {
+    let before = lent.clone();
+    let answer = right(call, lent);
+    if let (Call::ReceiveAcknowledgment { round, .. }, 0) = (call, answer) {
+        for between in (span(&before) + 1..*round).map(row) {
+            lent.site.lent_mut()[between.clone()].copy_from_slice(&before.site.lent()[between]);
+        }
+    }
+    answer
+}
+
+fn only_the_set_of_the_sender_cleared(call: &Call, lent: &mut Lent) -> u32 {
+    let before = lent.clone();
+    let answer = right(call, lent);
+    if let (Call::ReceiveAcknowledgment { sender, round, .. }, 0) = (call, answer) {
+        let own = row(*round).start + 8 * sender;
+        let others = row(*round).filter(|at| *round > span(&before) && !(own..own + 8).contains(at));
+        others.for_each(|at| lent.site.lent_mut()[at] = before.site.lent()[at]);
+    }
+    answer
+}
+
+fn row_cleared_within_the_span(call: &Call, lent: &mut Lent) -> u32 {
+    if let (Call::ReceiveAcknowledgment { round, .. }, 0) = (call, tried(call, lent)) {
+        if *round <= span(lent) {
+            lent.site.lent_mut()[row(*round)].fill(0);
+        }
+    }
+    right(call, lent)
+}
+
+fn fresh_site_clears_a_row(call: &Call, lent: &mut Lent) -> u32 {
+    let answer = right(call, lent);
+    if *call == Call::Fresh && answer == 0 {
+        lent.site.lent_mut()[632..640].fill(0);
     }
     answer
 }
@@ -295,12 +388,13 @@ fn log_position_runs_ahead(call: &Call, lent: &mut Lent) -> u32 {
     answer
 }
 
-const FAULTS: [(&str, Fault); 27] = [
+const FAULTS: [(&str, Fault); 36] = [
     ("a refused call writes the output", refused_call_writes_the_output),
     ("a refused round end delivers in part", refused_round_end_delivers_in_part),
     ("an acknowledgment clears the rest of the turn", acknowledgment_clears_the_rest_of_the_turn),
     ("an acknowledgment asks for nine bytes", acknowledgment_asks_for_nine_bytes),
     ("a fresh site is written past its size", writes_past_the_site),
+    ("a fresh site clears the first sets of a row", fresh_site_clears_a_row),
     ("a guard byte is written", writes_a_guard),
     ("the status writes the site", status_writes_the_site),
     ("the book is judged before the table", book_before_table),
@@ -313,10 +407,18 @@ const FAULTS: [(&str, Fault); 27] = [
     ("the table loses its high bytes", narrow_table),
     ("the last sender is not judged", last_sender_not_judged),
     ("the last delivery is not judged", last_delivery_not_judged),
-    ("the number of deliveries loses its high bytes", high_bytes_of_the_count_not_judged),
+    ("the number of deliveries loses its high byte", high_byte_of_the_count_not_judged),
+    ("the span loses its high byte", high_byte_of_the_span_not_judged),
+    ("a span of 34 is taken", span_34_taken),
+    ("bytes past the span are judged", bytes_past_the_span_judged),
+    ("sets past the span are heard", sets_past_the_span_heard),
     ("proposed sets while acknowledging are not judged", proposed_sets_not_judged),
     ("an earlier acknowledgment counts in the site's round", heard_under_the_round_of_the_site),
     ("an acknowledgment replaces an earlier one", heard_replaced),
+    ("the span is not raised", span_not_raised),
+    ("of the new rows only that of the round is cleared", only_the_row_of_the_round_cleared),
+    ("of the new rows only the sender's set is cleared", only_the_set_of_the_sender_cleared),
+    ("a row within the span is cleared", row_cleared_within_the_span),
     ("a proposal has NC and C swapped", proposal_swapped),
     ("a third entry is judged by the entries read", third_entry_of_the_entries_read),
     ("a third entry counts only entries in range", third_entry_only_in_range),

@@ -1,4 +1,5 @@
-//! Many random runs: demand 3 on every play of the reference, and the same print in the proved program.
+//! Many random runs: demand 3 on every play of the reference, and the same print and the same sites in the proved
+//! program.
 
 use compare::generator;
 #[cfg(feature = "archive")]
@@ -38,6 +39,10 @@ fn random_runs() {
         #[cfg(feature = "archive")]
         if let Some(difference) = compare(&run, &mut Reference, &mut proved) {
             panic!("run {place} of seed {seed}: {difference}");
+        }
+        #[cfg(feature = "archive")]
+        if let Some(site) = played.as_ref().ok().and_then(|played| proved.other_site(&played.world)) {
+            panic!("run {place} of seed {seed} leaves other bytes of site {site}");
         }
     }
     say(&format!("{statistics}\n{:.1} seconds", start.elapsed().as_secs_f64()));

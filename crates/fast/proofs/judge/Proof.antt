@@ -49,8 +49,7 @@ returns-2 c =
     let a = s .args in
     let g = s .pre .0 in
     let l = good-limits (a .table) (s .pre .1) in
-    let e = c .before .before .before .round .ensures in
-    let silent = silent-senders (now (a .site)) (c .before .before .before .round .result) (a .m) g (l .sites) (omega (arith, g .head .first)) (omega (arith, g .head .last)) in
+    let silent = silent-senders (now (a .site)) (c .before .before .before .round .result) (a .m) g (l .sites) in
     λ book el.
     too-few (a .table) book (now (a .site)) (a .m) (c .before .before .before .before .before .before .before .before .pending .ensures) (c .before .before .before .before .before .before .before .fast .ensures) (c .before .before .before .before .before .before .without .ensures) (c .before .before .before .before .before .holds .ensures) (not-false _ (c .before .before .before .before .if1 .left))
     (c .before .before .before .round .ensures) (c .before .before .senders .ensures ∙ silent) (c .before .n-ack .ensures) (c .if2 .taken)
@@ -67,8 +66,7 @@ returns-3 c =
     let a = s .args in
     let g = s .pre .0 in
     let l = good-limits (a .table) (s .pre .1) in
-    let e = c .before .before .before .before .before .round .ensures in
-    let silent = silent-senders (now (a .site)) (c .before .before .before .before .before .round .result) (a .m) g (l .sites) (omega (arith, g .head .first)) (omega (arith, g .head .last)) in
+    let silent = silent-senders (now (a .site)) (c .before .before .before .before .before .round .result) (a .m) g (l .sites) in
     λ book el.
     no-room (a .table) book (now (a .site)) (a .m) (c .before .before .before .before .before .before .before .before .before .before .pending .ensures) (c .before .before .before .before .before .before .before .before .before .fast .ensures) (c .before .before .before .before .before .before .before .before .without .ensures) (c .before .before .before .before .before .before .before .holds .ensures) (not-false _ (c .before .before .before .before .before .before .if1 .left))
     (c .before .before .before .before .before .round .ensures) (c .before .before .before .before .senders .ensures ∙ silent) (c .before .before .before .n-ack .ensures) (c .before .before .if2 .left) (c .before .count .ensures) (let h = c .if3 .taken in omega arith)
@@ -79,8 +77,7 @@ returns-4 c =
     let a = s .args in
     let g = s .pre .0 in
     let l = good-limits (a .table) (s .pre .1) in
-    let e = c .before .before .before .before .before .round .ensures in
-    let silent = silent-senders (now (a .site)) (c .before .before .before .before .before .round .result) (a .m) g (l .sites) (omega (arith, g .head .first)) (omega (arith, g .head .last)) in
+    let silent = silent-senders (now (a .site)) (c .before .before .before .before .before .round .result) (a .m) g (l .sites) in
     λ book el.
     all-met (a .table) book (now (a .site)) (a .m) (c .before .before .before .before .before .before .before .before .before .before .pending .ensures) (c .before .before .before .before .before .before .before .before .before .fast .ensures) (c .before .before .before .before .before .before .before .before .without .ensures) (c .before .before .before .before .before .before .before .holds .ensures) (not-false _ (c .before .before .before .before .before .before .if1 .left))
     (c .before .before .before .before .before .round .ensures) (c .before .before .before .before .senders .ensures ∙ silent) (c .before .before .before .n-ack .ensures) (c .before .before .if2 .left) (c .before .count .ensures) (let h = c .if3 .left in omega arith)

@@ -9,7 +9,8 @@ use Rattle.theory.specs.Sets.{count}
 use Rattle.theory.specs.Counting.{count-none}
 use Rattle.table.specs.Table.{maxSites}
 use Rattle.layout.specs.Layout.{heardOf}
-use Rattle.fast.proofs.Judging.{sender-more, sender-few}
+use Rattle.layout.proofs.Encode.{spanned}
+use Rattle.fast.proofs.Judging.{past-rows, sender-more, sender-few}
 use Rattle.fast.proofs.senders.Statement.{statement}
 use Rattle.fast.proofs.senders.Tie as tie
 
@@ -18,6 +19,15 @@ Inv-loop site round m n₀ sender₀ n sender = (sender ≤ maxSites) × (n ≡ 
 
 abbrev μ-loop : tie.MeasureT-loop
 μ-loop site round m n₀ sender₀ n sender = maxSites - sender
+
+span-requires : tie.Need-span-requires Inv-loop μ-loop
+span-requires c κs = search needs
+
+cast-if1 : tie.Need-cast-if1 Inv-loop μ-loop
+cast-if1 c = search needs
+
+returns : tie.Need-returns Inv-loop μ-loop
+returns c = let a = c .before .before .before .args in past-rows (now (a .site)) (a .round) (a .m) (c .before .span .ensures) (c .if1 .taken)
 
 loop-holds : tie.Need-loop-holds Inv-loop μ-loop
 loop-holds c = (search needs, sym (count-none _))
@@ -43,15 +53,17 @@ loop-less c = omega arith
 loop-again : tie.Need-loop-again Inv-loop μ-loop
 loop-again c =
     let l = c .before .before .before .before .loop in
-    let a = c .before .before .before .before .before .before .args in (
+    let a = c .before .before .before .before .before .before .before .before .args in
+    let e = c .before .before .before .before .before .before .span .ensures in
+    let k = spanned (now (a .site)) in (
       omega arith,
       sender-more (now (a .site)) (a .round) (a .m) (l .sender) (omega arith) (omega arith) (omega arith) (l .inv .1) (c .before .before .heard .ensures) (c .before .holds .ensures) (c .one .ensures .0),
     )
 
-returns : tie.Need-returns Inv-loop μ-loop
-returns c =
+returns-2 : tie.Need-returns-2 Inv-loop μ-loop
+returns-2 c =
     let l = c .before .loop in
-    let a = c .before .before .before .args in
+    let a = c .before .before .before .before .before .args in
     let e : l .sender ≡ maxSites = omega arith in
     l .inv .1 ∙ ap (λ (n : ℕ). count n (λ j. heardOf (now (a .site)) j (a .round) (a .m))) e
 
@@ -61,6 +73,9 @@ senders-spec =
     (tie.spec
     Inv-loop
     μ-loop
+    span-requires
+    cast-if1
+    returns
     loop-holds
     heard-requires
     holds-requires
@@ -69,4 +84,4 @@ senders-spec =
     add-sender
     loop-less
     loop-again
-    returns)
+    returns-2)

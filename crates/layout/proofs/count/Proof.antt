@@ -5,12 +5,12 @@ use Rattle.layout.specs.Layout.{headOf}
 use Rattle.layout.proofs.count.Statement.{statement}
 use Rattle.layout.proofs.count.Tie as tie
 
-get4-requires : tie.Need-get4-requires
-get4-requires c κs = search needs
+get2-requires : tie.Need-get2-requires
+get2-requires c κs = search needs
 
 returns : tie.Need-returns
 unfolding headOf
-returns c = c .get4 .ensures
+returns c = c .get2 .ensures
 
 pub count-spec : {M : Type 1} → statement M
-count-spec = tie.close (tie.spec get4-requires returns)
+count-spec = tie.close (tie.spec get2-requires returns)

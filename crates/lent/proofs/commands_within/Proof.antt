@@ -5,17 +5,17 @@ use denote.Ref.{now}
 use Prim.Native.Nat.{ℕ, _-_, _^_, _≤_, _<_}
 use mathlib.Core.Path.{_≡_}
 use native.Mathlib.Omega.{arith}
-use Rattle.layout.specs.Layout.{siteSize, deliveriesPlace}
+use Rattle.layout.specs.Layout.{heardPlace, deliveriesPlace}
 use Rattle.lent.proofs.Tables.{counted, greatest-more, greatest-told}
 use Rattle.lent.proofs.commands_within.Statement.{statement}
 use Rattle.lent.proofs.commands_within.Tie as tie
 
 abbrev Inv-loop : tie.InvT-loop
 Inv-loop site commands greatest₀ k₀ greatest k =
-    (k ≤ siteSize - deliveriesPlace) × (greatest < 2 ^ 8) × ((m : ℕ) → m < k → counted site m ≤ greatest) × ((c : ℕ) → 0 < c → ((m : ℕ) → m < k → counted site m < c) → greatest < c)
+    (k ≤ heardPlace - deliveriesPlace) × (greatest < 2 ^ 8) × ((m : ℕ) → m < k → counted site m ≤ greatest) × ((c : ℕ) → 0 < c → ((m : ℕ) → m < k → counted site m < c) → greatest < c)
 
 abbrev μ-loop : tie.MeasureT-loop
-μ-loop site commands greatest₀ k₀ greatest k = siteSize - deliveriesPlace - k
+μ-loop site commands greatest₀ k₀ greatest k = heardPlace - deliveriesPlace - k
 
 loop-holds : tie.Need-loop-holds Inv-loop μ-loop
 loop-holds c = (omega arith, omega arith, λ m l. absurd (omega arith), λ n h _. h)
@@ -55,7 +55,7 @@ returns : tie.Need-returns Inv-loop μ-loop
 returns c =
     let a = c .before .before .before .args in
     let l = c .before .loop in
-    let q : l .k ≡ siteSize - deliveriesPlace = omega arith in
+    let q : l .k ≡ heardPlace - deliveriesPlace = omega arith in
     greatest-told (now (a .site)) (a .commands) (c .before .before .before .pre) (λ m h. l .inv .2 m (omega arith)) (λ n z h. l .inv .3 n z (λ m g. h m (omega arith)))
 
 pub commands-within-spec : {M : Type 1} → statement M

@@ -1,6 +1,5 @@
 -- `lent::is_clear`: the invariant is that the union of the bytes so far is 0 where they are.
 -- Rests on Tables.
-use borrow.Author.Needs.{needs}
 use denote.Ref.{now}
 use Prim.Native.Nat.{_-_, _≤_, _<_, _^_}
 use mathlib.Core.Path.{_≡_, _∙_, ap}

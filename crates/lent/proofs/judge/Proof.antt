@@ -5,7 +5,7 @@ use borrow.Author.Tests.{ne-eqb}
 use denote.Ref.{now}
 use native.Mathlib.Omega.{arith}
 use Rattle.theory.specs.Counting.{not-true, not-false}
-use Rattle.lent.proofs.Judged.{not-sized, not-within-log, not-header, not-heard, not-register, judged, few}
+use Rattle.lent.proofs.Judged.{not-sized, not-within-log, not-header, not-heard, not-register, judged, few, short}
 use Rattle.lent.proofs.judge.Statement.{statement}
 use Rattle.lent.proofs.judge.Tie as tie
 
@@ -28,7 +28,10 @@ returns-3 : tie.Need-returns-3
 returns-3 c = let a = c .before .before .before .before .before .before .args in not-header (now (a .site)) (a .sites) (a .commands) (a .entries) (c .before .judge-header .ensures) (not-true _ (c .if3 .taken))
 
 judge-heard-requires : tie.Need-judge-heard-requires
-judge-heard-requires c κs = search needs
+judge-heard-requires c κs =
+    let a = c .before .before .before .before .before .before .args in
+    let n = short (now (a .site)) (a .sites) (a .commands) (a .entries) (c .before .judge-header .ensures) (not-false _ (c .if3 .left)) in
+    (c .before .before .before .before .if1 .left, omega arith, n)
 
 returns-4 : tie.Need-returns-4
 returns-4 c = let a = c .before .before .before .before .before .before .before .before .args in not-heard (now (a .site)) (a .sites) (a .commands) (a .entries) (c .before .judge-heard .ensures) (not-true _ (c .if4 .taken))
@@ -39,8 +42,8 @@ judge-requires c κs = search needs
 returns-5 : tie.Need-returns-5
 returns-5 c = let a = c .before .before .before .before .before .before .before .before .before .before .args in not-register (now (a .site)) (a .sites) (a .commands) (a .entries) (c .before .judge .ensures) (not-true _ (c .if5 .taken))
 
-get4-requires : tie.Need-get4-requires
-get4-requires c κs = search needs
+get2-requires-2 : tie.Need-get2-requires-2
+get2-requires-2 c κs = search needs
 
 cast-recorded : tie.Need-cast-recorded
 cast-recorded c = search needs
@@ -49,7 +52,7 @@ judge-deliveries-requires : tie.Need-judge-deliveries-requires
 judge-deliveries-requires c κs =
     let a = c .before .before .before .before .before .before .before .before .before .before .before .args in
     let n = few (now (a .site)) (a .sites) (a .commands) (a .entries) (c .before .before .before .before .before .before .judge-header .ensures) (not-false _ (c .before .before .before .before .before .if3 .left)) in
-    let e = c .get4 .ensures in
+    let e = c .get22 .ensures in
     (c .before .before .before .before .before .before .before .before .before .if1 .left, omega arith)
 
 returns-6 : tie.Need-returns-6
@@ -57,7 +60,7 @@ returns-6 c =
     let a = c .before .before .before .before .before .before .before .before .before .before .before .before .args in
     judged (now (a .site)) (a .sites) (a .commands) (a .entries) (c .before .before .before .before .before .before .before .before .before .before .if1 .left) (c .before .before .before .before .before .before .before .before .before .get2 .ensures) (c .before .before .before .before .before .before .before .before .if2 .left)
     (c .before .before .before .before .before .before .before .judge-header .ensures) (not-false _ (c .before .before .before .before .before .before .if3 .left)) (c .before .before .before .before .before .judge-heard .ensures) (not-false _ (c .before .before .before .before .if4 .left))
-    (c .before .before .before .judge .ensures) (not-false _ (c .before .before .if5 .left)) (c .before .get4 .ensures) (c .judge-deliveries .ensures)
+    (c .before .before .before .judge .ensures) (not-false _ (c .before .before .if5 .left)) (c .before .get22 .ensures) (c .judge-deliveries .ensures)
 
 pub judge-spec : {M : Type 1} → statement M
 judge-spec =
@@ -73,7 +76,7 @@ judge-spec =
     returns-4
     judge-requires
     returns-5
-    get4-requires
+    get2-requires-2
     cast-recorded
     judge-deliveries-requires
     returns-6)

@@ -13,6 +13,17 @@ use Rattle.lent.proofs.judge_deliveries.Tie as tie
 positive : (n : ℕ) → (n ≡ 0 → ⊥) → 0 < n
 positive n h = omega arith
 
+sub-are-words-clear : tie.Need-sub-are-words-clear
+sub-are-words-clear c = search needs
+
+are-words-clear-requires : tie.Need-are-words-clear-requires
+are-words-clear-requires c κs = search needs
+
+returns : tie.Need-returns
+returns c =
+    let o = c .before .before .before in
+    slots-none (now (o .args .site)) (o .args .commands) (o .args .recorded) (o .pre .0) (c .before .if1 .taken) (c .are-words-clear .ensures)
+
 mul-rest : tie.Need-mul-rest
 mul-rest c = search needs
 
@@ -22,34 +33,30 @@ add-rest c = search needs
 is-rest-clear-requires : tie.Need-is-rest-clear-requires
 is-rest-clear-requires c κs = search needs
 
-returns : tie.Need-returns
-returns c =
-    let a = c .before .before .before .args in
-    slots-not (now (a .site)) (a .commands) (a .recorded) (c .before .before .before .pre .0) (c .before .before .before .pre .1) (c .before .is-rest-clear .ensures) (not-true _ (c .if1 .taken))
-
 returns-2 : tie.Need-returns-2
 returns-2 c =
-    let a = c .before .before .before .before .args in
-    slots-none (now (a .site)) (a .commands) (a .recorded) (c .before .before .before .before .pre .0) (c .before .before .before .before .pre .1) (c .before .before .is-rest-clear .ensures) (c .if2 .taken) (not-false _ (c .before .if1 .left))
+    let o = c .before .before .before .before in
+    slots-not (now (o .args .site)) (o .args .commands) (o .args .recorded) (o .pre .0) (o .pre .1) (c .before .is-rest-clear .ensures) (not-true _ (c .if2 .taken))
 
 commands-within-requires : tie.Need-commands-within-requires
 commands-within-requires c κs = search needs
 
 returns-3 : tie.Need-returns-3
 returns-3 c =
-    let a = c .before .before .before .before .before .args in
-    let n = c .before .if2 .left in
-    slots-some (now (a .site)) (a .commands) (a .recorded) (c .before .before .before .before .before .pre .0) (c .before .before .before .before .before .pre .1) (c .before .before .before .is-rest-clear .ensures) (positive (a .recorded) n) (not-false _ (c .before .before .if1 .left))
+    let o = c .before .before .before .before .before in
+    slots-some (now (o .args .site)) (o .args .commands) (o .args .recorded) (o .pre .0) (o .pre .1) (c .before .before .is-rest-clear .ensures) (positive (o .args .recorded) (c .before .before .before .if1 .left)) (not-false _ (c .before .if2 .left))
     (c .commands-within .ensures)
 
 pub judge-deliveries-spec : {M : Type 1} → statement M
 judge-deliveries-spec =
     tie.close
     (tie.spec
+    sub-are-words-clear
+    are-words-clear-requires
+    returns
     mul-rest
     add-rest
     is-rest-clear-requires
-    returns
     returns-2
     commands-within-requires
     returns-3)

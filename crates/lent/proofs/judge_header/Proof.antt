@@ -17,11 +17,17 @@ get1-requires-2 c κs = search needs
 cast-round : tie.Need-cast-round
 cast-round c = search needs
 
-get4-requires : tie.Need-get4-requires
-get4-requires c κs = search needs
+get2-requires : tie.Need-get2-requires
+get2-requires c κs = search needs
 
 cast-deliveries : tie.Need-cast-deliveries
 cast-deliveries c = search needs
+
+get2-requires-2 : tie.Need-get2-requires-2
+get2-requires-2 c κs = search needs
+
+cast-span : tie.Need-cast-span
+cast-span c = search needs
 
 read-requires : tie.Need-read-requires
 read-requires c κs = search needs
@@ -64,14 +70,14 @@ within-requires c κs = search needs
 
 returns : tie.Need-returns
 returns c =
-    let a = c .before .before .before .before .before .before .before .before .before .before .before .before .before .before .before .before .before .args in
+    let a = c .before .before .before .before .before .before .before .before .before .before .before .before .before .before .before .before .before .before .args in
     let u = c .before .before .before .before .before .before .before .before .before .before .union .ensures ∙ (λ i. unionOf (c .before .before .before .before .before .before .before .before .before .before .before .before .read .ensures i) (c .before .before .before .before .before .before .before .before .before .before .before .read2 .ensures i)) in
     let u₂ = c .before .before .before .before .before .before .before .union2 .ensures ∙ (λ i. unionOf (c .before .before .before .before .before .before .before .before .before .read3 .ensures i) (c .before .before .before .before .before .before .before .before .read4 .ensures i)) in
     let u₃ = c .before .before .before .before .before .union3 .ensures ∙ (λ i. unionOf (u₂ i) (c .before .before .before .before .before .before .read5 .ensures i)) in
     let u₄ = c .before .before .before .union4 .ensures ∙ (λ i. unionOf (u₃ i) (c .before .before .before .before .read6 .ensures i)) in
     let u₅ = c .before .before .union5 .ensures ∙ (λ i. unionOf (u₄ i) (c .before .before .before .before .before .before .before .before .before .before .union .result)) in
-    head-judged (now (a .site)) (a .commands) (c .before .before .before .before .before .before .before .before .before .before .before .before .before .before .before .before .before .pre) (λ i. c .before .before .before .before .before .before .before .before .before .before .before .before .before .before .before .before .shared-slice-known .given i .fits) (c .before .before .before .before .before .before .before .before .before .before .before .before .before .before .before .get1 .ensures) (c .before .before .before .before .before .before .before .before .before .before .before .before .before .before .get12 .ensures)
-    (c .before .before .before .before .before .before .before .before .before .before .before .before .before .get4 .ensures) u u₅ (c .before .is-empty .ensures) (c .within .ensures)
+    head-judged (now (a .site)) (a .commands) (c .before .before .before .before .before .before .before .before .before .before .before .before .before .before .before .before .before .before .pre) (λ i. c .before .before .before .before .before .before .before .before .before .before .before .before .before .before .before .before .before .shared-slice-known .given i .fits) (c .before .before .before .before .before .before .before .before .before .before .before .before .before .before .before .before .get1 .ensures) (c .before .before .before .before .before .before .before .before .before .before .before .before .before .before .before .get12 .ensures)
+    (c .before .before .before .before .before .before .before .before .before .before .before .before .before .before .get2 .ensures) (c .before .before .before .before .before .before .before .before .before .before .before .before .before .get22 .ensures) u u₅ (c .before .is-empty .ensures) (c .within .ensures)
 
 pub judge-header-spec : {M : Type 1} → statement M
 judge-header-spec =
@@ -80,8 +86,10 @@ judge-header-spec =
     get1-requires
     get1-requires-2
     cast-round
-    get4-requires
+    get2-requires
     cast-deliveries
+    get2-requires-2
+    cast-span
     read-requires
     read-requires-2
     union-requires

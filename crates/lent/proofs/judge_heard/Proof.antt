@@ -1,92 +1,51 @@
--- `lent::judge_heard`: the invariant is that the sets of all senders so far are good.
--- Rests on Tables.
+-- `lent::judge_heard`: the senders before the first looked at are good, and the others are judged.
+-- Rests on Heard.
 use borrow.Author.Needs.{needs}
 use denote.Ref.{now}
-use Prim.Native.Nat.{ℕ, _-_, _*_, _≤_}
-use mathlib.Core.Bool.{true}
-use mathlib.Core.Path.{_≡_, sym, ap, _∙_}
 use native.Mathlib.Omega.{arith}
-use Rattle.theory.specs.Counting.{not-true, not-false}
-use lib.Dec.{leb}
-use Rattle.sets.specs.Sets.{capacity}
-use Rattle.theory.specs.Sets.{all}
-use Rattle.table.specs.Table.{maxSites}
-use Rattle.layout.specs.Layout.{siteRounds, heardSets}
-use Rattle.layout.specs.Good.{goodHeard}
-use Rattle.lent.proofs.Tables.{first-few, senders-first, senders-more, senders-not}
+use Rattle.lent.proofs.Heard.{first-few, heard-none, heard-judged}
 use Rattle.lent.proofs.judge_heard.Statement.{statement}
 use Rattle.lent.proofs.judge_heard.Tie as tie
 
-abbrev Inv-loop : tie.InvT-loop
-Inv-loop site sites commands sender₀ sender = (sender ≤ maxSites) × (all (siteRounds * sender) (goodHeard sites commands site) ≡ true)
+get2-requires : tie.Need-get2-requires
+get2-requires c κs = search needs
 
-abbrev μ-loop : tie.MeasureT-loop
-μ-loop site sites commands sender₀ sender = maxSites - sender
+cast-rounds : tie.Need-cast-rounds
+cast-rounds c = search needs
 
-first-looked-at-requires : tie.Need-first-looked-at-requires Inv-loop μ-loop
+first-looked-at-requires : tie.Need-first-looked-at-requires
 first-looked-at-requires c κs = search needs
 
-loop-holds : tie.Need-loop-holds Inv-loop μ-loop
-loop-holds c =
-    let a = c .before .before .args in
-    let e = c .first-looked-at .ensures in
-    let h = first-few (leb capacity (a .commands)) (a .sites) (c .before .before .pre .1) in (
-      omega arith,
-      ap (λ (n : ℕ). all (siteRounds * n) (goodHeard (a .sites) (a .commands) (now (a .site)))) e
-          ∙ senders-first (now (a .site)) (a .sites) (a .commands) (c .before .before .pre .0) (λ i. c .before .shared-slice-known .given i .fits),
-    )
-
-sender-union-requires : tie.Need-sender-union-requires Inv-loop μ-loop
-sender-union-requires c κs = search needs
-
-allowed-requires : tie.Need-allowed-requires Inv-loop μ-loop
-allowed-requires c κs = search needs
-
-within-requires : tie.Need-within-requires Inv-loop μ-loop
-within-requires c κs = search needs
-
-returns : tie.Need-returns Inv-loop μ-loop
+returns : tie.Need-returns
 returns c =
-    let a = c .before .before .before .before .before .before .before .before .args in
-    let l = c .before .before .before .before .before .loop in
-    senders-not (now (a .site)) (a .sites) (a .commands) (c .before .before .before .before .before .before .before .before .pre .0) (λ i. c .before .before .before .before .before .before .before .shared-slice-known .given i .fits) (l .sender) (omega arith)
-    (c .before .before .before .sender-union .ensures) (c .before .before .allowed .ensures) (c .before .within .ensures) (not-true _ (c .if1 .taken))
-
-add-sender : tie.Need-add-sender Inv-loop μ-loop
-add-sender c = omega arith
-
-loop-less : tie.Need-loop-less Inv-loop μ-loop
-loop-less c = omega arith
-
-loop-again : tie.Need-loop-again Inv-loop μ-loop
-loop-again c =
-    let a = c .before .before .before .before .before .before .before .before .args in
-    let l = c .before .before .before .before .before .loop in (
-      omega arith,
-      senders-more (now (a .site)) (a .sites) (a .commands) (c .before .before .before .before .before .before .before .before .pre .0) (λ i. c .before .before .before .before .before .before .before .shared-slice-known .given i .fits) (l .sender) (omega arith)
-          (c .before .before .before .sender-union .ensures) (c .before .before .allowed .ensures) (c .before .within .ensures) (l .inv .1) (not-false _ (c .if1 .left)),
-    )
-
-returns-2 : tie.Need-returns-2 Inv-loop μ-loop
-returns-2 c =
     let a = c .before .before .before .before .args in
-    let l = c .before .loop in
-    let q : siteRounds * l .sender ≡ heardSets = omega arith in
-    sym (l .inv .1) ∙ ap (λ (n : ℕ). all n (goodHeard (a .sites) (a .commands) (now (a .site)))) q
+    heard-none (now (a .site)) (a .sites) (a .commands) (c .before .before .get2 .ensures) (c .before .first-looked-at .ensures) (c .if1 .taken)
+
+judge-from-requires : tie.Need-judge-from-requires
+judge-from-requires c κs =
+    let o = c .before .before .before .before .before in
+    let l = first-few (o .args .commands) (o .args .sites) (c .before .before .first-looked-at .ensures) in
+    (o .pre .0, o .pre .1, omega arith, l, omega arith)
+
+returns-2 : tie.Need-returns-2
+returns-2 c =
+    let a = c .before .before .before .before .before .before .args in
+    let e = c .before .before .before .first-looked-at .ensures in
+    let l = first-few (a .commands) (a .sites) e in
+    heard-judged (now (a .site)) (a .sites) (a .commands) (c .before .before .before .before .get2 .ensures) e (omega arith) (c .judge-from .ensures)
+
+judge-from-requires-2 : tie.Need-judge-from-requires-2
+judge-from-requires-2 c κs =
+    let o = c .before .before .before .before .before in
+    let l = first-few (o .args .commands) (o .args .sites) (c .before .before .first-looked-at .ensures) in
+    (o .pre .0, o .pre .1, omega arith, l, omega arith)
+
+returns-3 : tie.Need-returns-3
+returns-3 c =
+    let a = c .before .before .before .before .before .before .args in
+    let e = c .before .before .before .first-looked-at .ensures in
+    let l = first-few (a .commands) (a .sites) e in
+    heard-judged (now (a .site)) (a .sites) (a .commands) (c .before .before .before .before .get2 .ensures) e (omega arith) (c .judge-from2 .ensures)
 
 pub judge-heard-spec : {M : Type 1} → statement M
-judge-heard-spec =
-    tie.close
-    (tie.spec
-    Inv-loop
-    μ-loop
-    first-looked-at-requires
-    loop-holds
-    sender-union-requires
-    allowed-requires
-    within-requires
-    returns
-    add-sender
-    loop-less
-    loop-again
-    returns-2)
+judge-heard-spec = tie.close (tie.spec get2-requires cast-rounds first-looked-at-requires returns judge-from-requires returns-2 judge-from-requires-2 returns-3)

@@ -63,7 +63,7 @@ returns c =
     let a = c .before .before .before .before .before .before .before .before .before .before .before .before .before .before .before .before .before .before .before .before .before .before in
     let p = c .before .before .before .before .before .before .before .before .print-on in (
       p .ensures .0,
-      worked (a .args .table) (a .pre .0 .good) (a .pre .1) (commandsOf (now (a .args .book))) (stepsOf (now (a .args .steps))) (p .kept .0) (p .kept .1 .0) (p .kept .1 .1 .0) (p .ensures .1),
+      worked (a .args .table) (a .pre .0 .good) (a .pre .1) (commandsOf (now (a .args .book))) (stepsOf (now (a .args .steps))) (p .kept .0) (p .kept .1 .0) (p .kept .1 .1 .0) (p .ensures .1) (p .ensures .2),
     )
 
 pub print-in-spec : {M : Type 1} → statement M

@@ -7,7 +7,7 @@ use denote.Ref.{now}
 use lib.ListN.{length}
 use Rattle.table.proofs.Laws.{good-limits}
 use Rattle.commands.specs.Book.{commandsOf}
-use Rattle.run.proofs.Laws.{first-short, held-printable, all-parts, last-held}
+use Rattle.run.proofs.Laws.{first-short, held-printable, all-parts, last-held, past-left}
 use Rattle.run.proofs.print_on.Statement.{statement}
 use Rattle.run.proofs.print_on.Tie as tie
 
@@ -65,6 +65,7 @@ returns c =
       all-parts (a .args .table) (commandsOf (now (a .args .book))) (now (a .args .steps)) (c .before .before .before .before .before .before .before .before .before .before .before .before .before .before .before .before .before .before .before .before .before .before .faulty-count .ensures) (a .pre .2 .count)
           (c .before .before .before .before .before .before .before .before .before .before .before .before .before .before .before .before .before .before .before .before .put-run-line .ensures) (c .before .before .before .before .before .before .before .before .before .before .before .before .before .play-steps .ensures) (c .before .before .put-site-lines .ensures .0),
       last-held (a .args .table) (commandsOf (now (a .args .book))) (now (a .args .steps)) (c .before .before .before .before .before .before .before .before .before .before .before .before .before .play-steps .ensures),
+      past-left (a .args .table) (commandsOf (now (a .args .book))) (c .before .before .before .before .before .before .before .before .before .before .before .before .before .before .before .before .before .before .before .before .before .before .before .before .before .before .before .start .ensures) (c .before .before .before .before .before .before .before .before .before .before .before .before .before .play-steps .ensures),
     )
 
 pub print-on-spec : {M : Type 1} → statement M

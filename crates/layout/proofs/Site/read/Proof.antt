@@ -23,8 +23,11 @@ get1-requires-2 c κs = search needs
 get2-requires : tie.Need-get2-requires
 get2-requires c κs = search needs
 
-get4-requires : tie.Need-get4-requires
-get4-requires c κs = search needs
+get2-requires-2 : tie.Need-get2-requires-2
+get2-requires-2 c κs = search needs
+
+get2-requires-3 : tie.Need-get2-requires-3
+get2-requires-3 c κs = search needs
 
 read-requires-3 : tie.Need-read-requires-3
 read-requires-3 c κs = search needs
@@ -52,7 +55,8 @@ read-spec =
     phase-of-requires
     get1-requires-2
     get2-requires
-    get4-requires
+    get2-requires-2
+    get2-requires-3
     read-requires-3
     read-requires-4
     read-requires-5

@@ -1,0 +1,138 @@
+-- Laws of a batch of steps: what was taken so far, and what a run has played once the batch ends.
+-- Assumes nothing.
+use mathlib.Core.Path.{_≡_, refl, sym, ap, subst, _∙_}
+use mathlib.Core.List.{List, _++_}
+use Prim.Native.Nat.{ℕ, zero, suc, _+_, _≤_, _<_}
+use native.Mathlib.Numerals.{add-one}
+use native.Mathlib.Omega.{arith}
+use lib.ListN.{length, drop}
+use Rattle.refusals.specs.Refusals.{codeOf}
+use Rattle.refusals.specs.declared.Verdict.{Verdict}
+use Rattle.table.specs.declared.SiteTable.{SiteTable}
+use Rattle.register.specs.declared.Command.{Command}
+use Rattle.protocol.specs.Recovery as recovery
+use Rattle.protocol.specs.World as protocol
+use Rattle.steps.specs.declared.Step.{Step}
+use Rattle.steps.specs.declared.Step.the-variants.{Acknowledgment, Check, LogRead}
+use Rattle.steps.specs.declared.Reading.the-variants.{Whole}
+use Rattle.steps.specs.Steps.{sizeOf, byte, readAs, readStep, encodeStep}
+use Rattle.steps.specs.Meaning.{meaning}
+use Rattle.steps.proofs.Front.{front}
+use Rattle.steps.proofs.Laws.{byte-at, whole-at, of-code}
+use Rattle.steps.proofs.Walk.{inside}
+use Rattle.entries.specs.Entries.{logTo}
+use Rattle.world.specs.World.{Buffers, GoodWorld, Outcome}
+use Rattle.world.specs.Parts.{lent}
+use Rattle.play.specs.declared.Batch.{Batch}
+use Rattle.play.specs.declared.Told.{Told}
+use Rattle.play.specs.declared.Start.{Start}
+use Rattle.play.specs.declared.Start.the-variants.{Many, One}
+use Rattle.play.specs.Batches.{StepAt, Taken, InBatch, BatchOf, ToldOf, PlayedBatch, startOf}
+use Rattle.play.proofs.Laws.{silent, Playing, playing-more}
+
+-- ---- the step that stands at a position, by its code
+
+module _ (s : List ℕ) (at : ℕ) where
+  pub reads-acknowledgment : byte s at ≡ 2 → at + 5 ≤ length s
+      → readStep (drop at s) ≡ Whole (Acknowledgment (byte s (at + 1)) (byte s (at + 2)) (byte s (at + 3)) (byte s (at + 4)))
+  unfolding readAs
+  reads-acknowledgment e h = let b = byte-at s at in sym (of-code s at 2 e (whole-at s at (λ i. Acknowledgment (b 1 i) (b 2 i) (b 3 i) (b 4 i)) h))
+
+  pub reads-check : byte s at ≡ 3 → at + 4 ≤ length s → readStep (drop at s) ≡ Whole (Check (byte s (at + 1)) (byte s (at + 2)) (byte s (at + 3)))
+  unfolding readAs
+  reads-check e h = let b = byte-at s at in sym (of-code s at 3 e (whole-at s at (λ i. Check (b 1 i) (b 2 i) (b 3 i)) h))
+
+  pub reads-log-read : byte s at ≡ 9 → at + 2 ≤ length s → readStep (drop at s) ≡ Whole (LogRead (byte s (at + 1)))
+  unfolding readAs
+  reads-log-read e h = let b = byte-at s at in sym (of-code s at 9 e (whole-at s at (λ i. LogRead (b 1 i)) h))
+
+  -- A step that was read has its code and all its bytes.
+  pub starts : ((k : ℕ) → byte s k < 256) → at ≤ length s → {u : Step} → readStep (drop at s) ≡ Whole u
+      → (byte s at ≡ byte (encodeStep u ++ drop (sizeOf u) (drop at s)) 0) × (at + sizeOf u ≤ length s)
+  starts small g {u} e =
+      let same : sizeOf u ≡ sizeOf u = refl in
+      let z : at ≡ at + 0 = omega arith in
+      let low : (k : ℕ) → byte (drop at s) k < 256 = λ k. subst (λ (x : ℕ). x < 256) (byte-at s at k) (small (at + k)) in
+      (ap (byte s) z ∙ byte-at s at 0 ∙ ap (λ (l : List ℕ). byte l 0) (sym (front (drop at s) e .back low)), inside s at g e same .1)
+
+-- ---- a batch in the making
+
+module _ (t : SiteTable) (entries : ℕ) (sent : List ℕ) where
+  -- A step that changes sites only.
+  abbrev pub Does : protocol.Step → List ℕ → Verdict → List ℕ → Type 0
+  Does u sites v after =
+      (book : List Command) (log : List ℕ) → GoodWorld t (length book) (lent sites log entries sent)
+      → ((j r : ℕ) → recovery.entries j r (logTo log entries) ≤ 2)
+      → Outcome t book u (lent sites log entries sent) v (lent after log entries sent)
+
+  module _ (steps : List ℕ) (from : ℕ) (sites₀ : List ℕ) where
+    -- So many steps were taken, and left good buffers.
+    abbrev pub TakenTo : ℕ → List ℕ → ℕ → Type 0
+    TakenTo k sites at =
+        (book : List Command) (log : List ℕ) → GoodWorld t (length book) (lent sites₀ log entries sent)
+        → ((j r : ℕ) → recovery.entries j r (logTo log entries) ≤ 2)
+        → GoodWorld t (length book) (lent sites log entries sent) × Taken t book steps (lent sites₀ log entries sent) from k (lent sites log entries sent) at
+
+    pub taken-none : (k : ℕ) → k ≡ 0 → TakenTo k sites₀ from
+    taken-none k e = subst (λ (n : ℕ). TakenTo n sites₀ from) (sym e) (λ book log g w. (g, (refl, refl)))
+
+    -- One step more.
+    module _ (k at : ℕ) (sites : List ℕ) (h : TakenTo k sites at) {u : Step} (e : readStep (drop at steps) ≡ Whole u) (v : Verdict) (after : List ℕ) (d : Does (meaning u) sites v after) where
+      step-at : (book : List Command) (log : List ℕ) {code next : ℕ} → code ≡ codeOf v → next ≡ at + sizeOf u
+          → Outcome t book (meaning u) (lent sites log entries sent) v (lent after log entries sent)
+          → StepAt t book steps (lent sites log entries sent) at code (lent after log entries sent) next
+      step-at book log c q o = record { step = u; read = e; past = q; did = record { verdict = v; number = c; outcome = o } }
+
+      pub taken-more : (m : ℕ) {code next : ℕ} → m ≡ k + 1 → code ≡ codeOf v → code ≡ 0 → next ≡ at + sizeOf u → TakenTo m after next
+      taken-more m {next = next} i c z q =
+          subst (λ (n : ℕ). TakenTo n after next) (sym (i ∙ add-one k))
+          (λ book log g w.
+          let x = h book log g w in
+          let o = d book log (x .0) w in
+          (o .holds .good, (lent sites log entries sent, (at, (x .1, step-at book log (sym z ∙ c) q o)))))
+
+      pub batch-ends : {code next : ℕ} → code ≡ codeOf v → next ≡ at + sizeOf u → BatchOf t steps from entries sent sites₀ (record { past = k; next = next; code = code }) after
+      batch-ends c q book log g w =
+          let x = h book log g w in
+          record { before = lent sites log entries sent; last = at; taken = x .1; ends = step-at book log c q (d book log (x .0) w) }
+
+-- ---- a batch in a run
+
+module _ (t : SiteTable) (book : List Command) (steps : List ℕ) (b : Buffers) (at : ℕ) (before : List ℕ) (from : ℕ) {earlier : List ℕ} {out : List ℕ} {end number : ℕ}
+    (p : Playing t book steps before from earlier b out end at number) (l : end ≤ length out) where
+  -- Steps that are taken write no line.
+  playing-taken : (k : ℕ) (m : Buffers) (q : ℕ) → Taken t book steps b at k m q → Playing t book steps before from earlier m out end q (number + k)
+  playing-taken zero m q h =
+      let e : number ≡ number + 0 = omega arith in
+      subst (λ (n : ℕ). Playing t book steps before from earlier m out end q n) e
+      (subst (λ (x : Buffers). Playing t book steps before from earlier x out end q number) (sym (h .0))
+      (subst (λ (x : ℕ). Playing t book steps before from earlier b out end x number) (sym (h .1)) p))
+  playing-taken (suc k) m q (m′, (q′, (h, s))) =
+      let e : number + k + 1 ≡ number + suc k = omega arith in
+      subst (λ (n : ℕ). Playing t book steps before from earlier m out end q n) e
+      (playing-more t book steps before from (playing-taken k m′ q′ h) l (s .read) (s .past) (s .did .outcome)
+      (silent out end (number + k) refl (s .did .verdict) (s .did .number)))
+
+  -- The last step of a batch gets its line.
+  pub playing-batch : {x : Batch} {r : Told} {after : Buffers} {out′ : List ℕ} → InBatch t book steps b at x after → ToldOf x number end out r out′
+      → Playing t book steps before from earlier after out′ (r .end) (r .next) (r .number)
+  playing-batch {x} {r} {after} {out′} h w =
+      let s = h .ends in
+      subst (λ (n : ℕ). Playing t book steps before from earlier after out′ (r .end) (r .next) n) (sym (w .counted))
+      (playing-more t book steps before from (playing-taken (x .past) (h .before) (h .last) (h .taken)) l (s .read) (w .onward ∙ s .past) (s .did .outcome)
+      (w .line (s .did .verdict) (s .did .number)))
+
+-- ---- what a step starts
+
+module _ (t : SiteTable) (steps : List ℕ) (at entries : ℕ) (sent : List ℕ) (number end : ℕ) (sites out : List ℕ) {x : Start} (after lines : List ℕ)
+    (h : startOf t steps at entries sent number end sites out x after lines) where
+  pub many : {r : Told} → x ≡ Many r → PlayedBatch t steps at entries sent number end sites out r after lines
+  many e = subst (λ (y : Start). startOf t steps at entries sent number end sites out y after lines) e h
+
+  -- Where nothing was done yet, the run stands where it stood.
+  pub playing-one : (book : List Command) (before : List ℕ) (from : ℕ) {earlier : List ℕ} (log : List ℕ) → x ≡ One → Playing t book steps before from earlier (lent sites log entries sent) out end at number
+      → Playing t book steps before from earlier (lent after log entries sent) lines end at number
+  playing-one book before from {earlier} log e p =
+      let o : (after ≡ sites) × (lines ≡ out) = subst (λ (y : Start). startOf t steps at entries sent number end sites out y after lines) e h in
+      subst (λ (y : List ℕ). Playing t book steps before from earlier (lent y log entries sent) lines end at number) (sym (o .0))
+      (subst (λ (y : List ℕ). Playing t book steps before from earlier (lent sites log entries sent) y end at number) (sym (o .1)) p)
