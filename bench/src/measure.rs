@@ -38,6 +38,20 @@ struct Turn {
     before: f64,
 }
 
+/// A turn is timed in so many parts, each with the runs that lead up to the steps, so that a machine that slows down
+/// for a while slows both.
+const PARTS: usize = 8;
+
+fn turn_of(program: &mut dyn Measured, workload: &Workload, times: usize) -> Turn {
+    let (parts, times) = if times < PARTS { (1, times) } else { (PARTS, times / PARTS) };
+    let mut turn = Turn { whole: 0.0, before: 0.0 };
+    for _ in 0..parts {
+        turn.whole += time(program, &workload.runs, times) / parts as f64;
+        turn.before += time(program, &workload.before, times) / parts as f64;
+    }
+    turn
+}
+
 /// The best time counts. Where something is taken off, the middle one of the turns' differences counts: a difference
 /// of two best times, of different turns, can come out as nearly nothing.
 fn seconds(turns: &[Turn], has_before: bool) -> f64 {
@@ -58,9 +72,7 @@ pub fn nanoseconds(programs: &mut [Box<dyn Measured>], workload: &Workload, effo
             // Each turn starts with another program.
             let which = (place + turn) % programs.len();
             let (program, times) = (programs[which].as_mut(), times[which]);
-            let whole = time(program, &workload.runs, times);
-            let before = time(program, &workload.before, times);
-            turns[which].push(Turn { whole, before });
+            turns[which].push(turn_of(program, workload, times));
         }
     }
     let steps = workload.steps.max(1) as f64;
