@@ -8,13 +8,12 @@ use native.Mathlib.Omega.{arith}
 use lib.Dec.{leb, ltb}
 use lib.ListN.{length, take, drop, getD}
 use borrow.Author.Tests.{lt-ltb, le-ltb}
-use Rattle.theory.specs.Counting.{left, right, never, not-true, all-at}
+use Rattle.theory.specs.Counting.{left, right, not-true, all-at}
 use Rattle.refusals.specs.declared.Refusal.the-variants.{Range, Disabled, Size}
 use Rattle.refusals.specs.declared.Verdict.{Verdict}
 use Rattle.refusals.specs.Refusals.{codeOf}
 use Rattle.sets.specs.declared.Set.{Set}
-use Rattle.sets.specs.Sets.{inSet, withinOf, emptyOf}
-use Rattle.sets.proofs.Laws.{in-empty, within-of}
+use Rattle.sets.specs.Sets.{withinOf}
 use Rattle.table.specs.declared.SiteTable.{SiteTable}
 use Rattle.table.specs.Table.{isGood}
 use Rattle.commands.specs.Book.{maxCommands, commandsOf}
@@ -89,10 +88,6 @@ module _ (n f : ℕ) (book site : List ℕ) (m : ℕ) {k : ℕ} (q : k ≡ codeO
           (withSite n f book (spanIn site) site (protocol.deliverFast (systemOf n f book) m (siteIn n f book site))) site)
 
 -- ---- a round that ends
-
--- The empty set is within every book.
-pub empty-within : (n : ℕ) → withinOf emptyOf n ≡ true
-empty-within n = within-of emptyOf n (λ m l h. absurd (never (inSet emptyOf m) h (in-empty m)))
 
 -- The decision of the site's round at the site's position.
 pub decided-by : (t : SiteTable) (rows log : List ℕ) {p r : ℕ} (b : List ℕ) {d : Decision} → p ≡ headOf b .position → r ≡ headOf b .round

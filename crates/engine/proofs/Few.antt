@@ -1,10 +1,10 @@
 -- A log whose entries a log read would take has at most 704: two of each of 11 sites in each of 32 rounds.
 -- Assumes nothing.
 use mathlib.Core.Path.{_≡_, refl, sym, ap, _∙_}
-use mathlib.Core.Bool.{Bool, true, _&&_}
+use mathlib.Core.Bool.{true}
 use mathlib.Core.List.{List}
 use mathlib.Core.Logic.{_⊎_, inl, inr}
-use Prim.Native.Nat.{ℕ, zero, suc, _+_, _-_, _*_, _≤_, _<_}
+use Prim.Native.Nat.{ℕ, zero, suc, _+_, _-_, _≤_, _<_}
 use native.Mathlib.Decide.{ℕ-discrete}
 use native.Mathlib.Numerals.{add-one}
 use native.Mathlib.Omega.{arith}
@@ -15,8 +15,7 @@ use Rattle.theory.specs.Counting.{left, right, last-or-below}
 use Rattle.table.specs.Table.{maxSites}
 use Rattle.protocol.specs.Recovery.{entries}
 use Rattle.system.specs.Dash.{lastRound}
-use Rattle.entries.specs.Entries.{entryOf, logTo, oneOf, inRangeOf, goodAt, goodTo}
-use Rattle.entries.proofs.Logs.{log-none}
+use Rattle.entries.specs.Entries.{entryOf, logTo, inRangeOf, goodAt, goodTo}
 use Rattle.entries.proofs.Judging.{entries-none, entries-next, one-yes, one-no-site, one-no-round, in-range-told}
 
 -- ---- sums

@@ -12,7 +12,6 @@ use Rattle.theory.specs.Counting.{left, right, not-true, not-false}
 use Rattle.refusals.specs.declared.Refusal.{Refusal}
 use Rattle.refusals.specs.declared.Refusal.the-variants.{Range, Size}
 use Rattle.refusals.specs.Refusals.{codeOf}
-use Rattle.sets.specs.declared.Set.{Set}
 use Rattle.sets.specs.Sets.{capacity, has, withinOf}
 use Rattle.table.specs.declared.SiteTable.{SiteTable}
 use Rattle.table.specs.Table.{maxSites}

@@ -7,7 +7,8 @@ use denote.Ref.{now}
 use Rattle.theory.specs.Counting.{never}
 use Rattle.sets.specs.declared.Set.{Set}
 use Rattle.sets.specs.Sets.{withinOf}
-use Rattle.delivering.proofs.Laws.{good-nc, empty-within, within-sets, ended-undecided, ended-decided}
+use Rattle.layout.proofs.Tables.{within-empty}
+use Rattle.delivering.proofs.Laws.{good-nc, within-sets, ended-undecided, ended-decided}
 use borrow.Author.Needs.{needs}
 use Rattle.delivering.proofs.end_round.Statement.{statement}
 use Rattle.delivering.proofs.end_round.Tie as tie
@@ -26,7 +27,7 @@ empty-requires c κs = search needs
 round-end-requires : tie.Need-round-end-requires
 round-end-requires c κs =
     let s = c .before .before .before .before .before .before .before .before .before .before in
-    let w = subst (λ (x : Set). withinOf x (s .args .commands) ≡ true) (sym (c .before .empty .ensures)) (empty-within (s .args .commands)) in
+    let w = subst (λ (x : Set). withinOf x (s .args .commands) ≡ true) (sym (c .before .empty .ensures)) (within-empty (s .args .commands)) in
     ((s .args .table .sites, s .pre .0), s .pre .2, s .pre .3, w, w, λ r. absurd (never false r refl))
 
 enum-known-decision : tie.Need-enum-known-decision
