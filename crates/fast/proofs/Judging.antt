@@ -49,6 +49,26 @@ count-beyond n (suc k) p h =
     let e : n + suc k ≡ n + k + 1 = omega arith in
     ap (λ (j : ℕ). count j p) e ∙ count-no (n + k) p (h (n + k) (omega arith) (omega arith)) ∙ count-beyond n k p (λ j l g. h j l (omega arith))
 
+-- Fewer senders count no more.
+count-upto : (n k : ℕ) (p : ℕ → Bool) → count n p ≤ count (n + k) p
+count-upto n zero p = let e : n + 0 ≡ n = omega arith in omega (arith, ap (λ (j : ℕ). count j p) e)
+count-upto n (suc k) p =
+    let e : n + suc k ≡ n + k + 1 = omega arith in
+    omega (arith, count-upto n k p, ap (λ (j : ℕ). count j p) e ∙ count-more (n + k) p)
+
+-- Enough senders among the first are enough among all.
+pub enough-senders : (b : List ℕ) (r m j needed : ℕ) {n : ℕ} → j < maxSites → n ≡ count (j + 1) (λ k. heardOf b k r m) → needed ≤ n
+    → true ≡ leb needed (count maxSites (λ k. heardOf b k r m))
+enough-senders b r m j needed h e l =
+    let q : j + 1 + (maxSites - (j + 1)) ≡ maxSites = omega arith in
+    let up = count-upto (j + 1) (maxSites - (j + 1)) (λ k. heardOf b k r m) in
+    sym (le-leb needed _ (omega (arith, up, e, ap (λ (k : ℕ). count k (λ i. heardOf b i r m)) q)))
+
+-- Fewer than needed among all are too few.
+pub few-senders : (b : List ℕ) (r m needed : ℕ) {n : ℕ} → n ≡ count maxSites (λ k. heardOf b k r m) → n < needed
+    → false ≡ leb needed (count maxSites (λ k. heardOf b k r m))
+few-senders b r m needed e l = sym (lt-leb needed _ (omega (arith, e)))
+
 -- Nothing was heard in a round past the rows.
 pub past-rows : (b : List ℕ) (r m : ℕ) {n : ℕ} → n ≡ headOf b .span → n < r → 0 ≡ count maxSites (λ j. heardOf b j r m)
 unfolding headOf heardIn
@@ -139,29 +159,29 @@ module _ (t : SiteTable) (book : List Command) (b : List ℕ) (m : ℕ) where
     pub not-open : x ≡ false → Refused Disabled ≡ verdict (protocol.forFastDelivery (dash t book) m (view t book b))
     not-open hx = closed pending fast enough room (is-open hx) ∙ same-verdict
 
-    module _ (hx : x ≡ true) {r n k : ℕ} (er : r ≡ headOf b .round) (en : n ≡ count (t .sites) (λ j. heardOf b j r m)) (ek : k ≡ nAckOf t) where
+    module _ (hx : x ≡ true) {r k : ℕ} {q : Bool} (er : r ≡ headOf b .round) (ek : k ≡ nAckOf t) (eq : q ≡ leb k (count (t .sites) (λ j. heardOf b j r m))) where
       is-pending : true ≡ pending
       is-pending = sym (left pending (not fast) (is-open hx))
 
       is-fast : false ≡ fast
       is-fast = sym (not-true fast (right pending (not fast) (is-open hx)))
 
-      is-enough : {v : Bool} → leb k n ≡ v → v ≡ enough
+      is-enough : {v : Bool} → q ≡ v → v ≡ enough
       unfolding enough
-      is-enough e = sym e ∙ (λ i. leb (ek i) ((en ∙ ap (λ (q : ℕ). count (t .sites) (λ j. heardOf b j q m)) er) i))
+      is-enough e = sym e ∙ eq ∙ (λ i. leb (ek i) (count (t .sites) (λ j. heardOf b j (er i) m)))
 
-      pub too-few : n < k → Refused Disabled ≡ verdict (protocol.forFastDelivery (dash t book) m (view t book b))
-      too-few l = (λ i. fastVerdict (is-pending i) (is-fast i) (is-enough (lt-leb k n l) i) room) ∙ same-verdict
+      pub too-few : q ≡ false → Refused Disabled ≡ verdict (protocol.forFastDelivery (dash t book) m (view t book b))
+      too-few e = (λ i. fastVerdict (is-pending i) (is-fast i) (is-enough e i) room) ∙ same-verdict
 
-      module _ (l : k ≤ n) {c : ℕ} (ec : c ≡ headOf b .deliveries) where
+      module _ (l : q ≡ true) {c : ℕ} (ec : c ≡ headOf b .deliveries) where
         is-room : {v : Bool} → leb (c + 1) (length book) ≡ v → v ≡ room
         unfolding room
         is-room e = sym e ∙ (λ i. leb ((ec ∙ sym recorded) i + 1) (length book))
 
         pub no-room : length book ≤ c → Refused Size ≡ verdict (protocol.forFastDelivery (dash t book) m (view t book b))
         no-room o =
-            (λ i. fastVerdict (is-pending i) (is-fast i) (is-enough (le-leb k n l) i) (is-room (lt-leb (c + 1) (length book) (omega arith)) i)) ∙ same-verdict
+            (λ i. fastVerdict (is-pending i) (is-fast i) (is-enough l i) (is-room (lt-leb (c + 1) (length book) (omega arith)) i)) ∙ same-verdict
 
         pub all-met : c < length book → Taken ≡ verdict (protocol.forFastDelivery (dash t book) m (view t book b))
         all-met o =
-            (λ i. fastVerdict (is-pending i) (is-fast i) (is-enough (le-leb k n l) i) (is-room (le-leb (c + 1) (length book) (omega arith)) i)) ∙ same-verdict
+            (λ i. fastVerdict (is-pending i) (is-fast i) (is-enough l i) (is-room (le-leb (c + 1) (length book) (omega arith)) i)) ∙ same-verdict

@@ -3,6 +3,7 @@ ghost use mathlib.Core.Bool.{true};
 ghost use mathlib.Core.List.{List};
 ghost use mathlib.Core.Path.{_≡_};
 ghost use Prim.Native.Nat.{_≤_, _<_};
+ghost use lib.Dec.{leb};
 ghost use lib.ListN.{length};
 ghost use Rattle.theory.specs.Sets.{one, count};
 ghost use Rattle.sets.specs.Sets.{capacity};
@@ -26,22 +27,26 @@ fn one(test: bool) -> usize
     if test { 1 } else { 0 }
 }
 
-// How many senders have acknowledged a command in a round. Of those that there are not nothing was heard.
-fn senders(site: &[u8], round: usize, m: usize) -> usize
-    requires { ⌜ (length (now site) ≡ siteSize) × (1 ≤ round) × (round ≤ siteRounds) × (m < capacity) ⌝ }
-    ensures { λ r. ⌜ r ≡ count maxSites (λ j. heardOf (now (site .entry)) j round m) ⌝ }
+// Whether so many senders have acknowledged a command in a round. Of those that there are not nothing was heard.
+// They are looked at one by one, and no more than are needed: the last set heard was often written just before.
+fn has_senders(site: &[u8], round: usize, m: usize, needed: usize) -> bool
+    requires { ⌜ (length (now site) ≡ siteSize) × (1 ≤ round) × (round ≤ siteRounds) × (m < capacity) × (1 ≤ needed) ⌝ }
+    ensures { λ r. ⌜ r ≡ leb needed (count maxSites (λ j. heardOf (now (site .entry)) j round m)) ⌝ }
 {
     if round > layout::span(site) as usize {
-        return 0;
+        return false;
     }
     let mut n = 0;
     let mut sender = 0;
     while sender < SiteTable::MAX_SITES {
         let set = layout::heard(site, sender, round);
         n += one(set.holds(m));
+        if n >= needed {
+            return true;
+        }
         sender += 1;
     }
-    n
+    false
 }
 
 // Whether a command may be delivered fast, and else the refusal.
@@ -54,8 +59,8 @@ fn judge(site: &[u8], table: SiteTable, commands: usize, m: usize) -> Verdict
         return Verdict::Refused(Refusal::Disabled);
     }
     let round = layout::round(site) as usize;
-    let n = senders(site, round, m);
-    if n < table.n_ack() {
+    let needed = table.n_ack();
+    if !has_senders(site, round, m, needed) {
         return Verdict::Refused(Refusal::Disabled);
     }
     let recorded = layout::count(site) as usize;

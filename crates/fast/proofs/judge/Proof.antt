@@ -1,7 +1,8 @@
 -- `fast::judge`: each test of the code is one of the protocol's demands, in their order.
 -- Rests on Judging.
-use mathlib.Core.Path.{_∙_}
+use mathlib.Core.Path.{ap, _∙_}
 use native.Mathlib.Omega.{arith}
+use lib.Dec.{leb}
 use borrow.Author.Tests.{not-true, not-false}
 use borrow.Author.Needs.{needs}
 use denote.Ref.{now}
@@ -33,15 +34,16 @@ round-requires c κs = search needs
 cast-round : tie.Need-cast-round
 cast-round c = search needs
 
-senders-requires : tie.Need-senders-requires
-senders-requires c κs =
-    let s = c .before .before .before .before .before .before .before in
-    let g = s .pre .0 in
-    let e = c .round .ensures in
-    (g .size, omega (arith, g .head .first), omega (arith, g .head .last), s .pre .2)
-
 n-ack-requires : tie.Need-n-ack-requires
 n-ack-requires c κs = search needs
+
+has-senders-requires : tie.Need-has-senders-requires
+has-senders-requires c κs =
+    let s = c .before .before .before .before .before .before .before .before in
+    let g = s .pre .0 in
+    let e = c .before .round .ensures in
+    let l = good-limits (s .args .table) (s .pre .1) in
+    (g .size, omega (arith, g .head .first), omega (arith, g .head .last), s .pre .2, omega (arith, c .n-ack .ensures, l .enough))
 
 returns-2 : tie.Need-returns-2
 returns-2 c =
@@ -52,7 +54,7 @@ returns-2 c =
     let silent = silent-senders (now (a .site)) (c .before .before .before .round .result) (a .m) g (l .sites) in
     λ book el.
     too-few (a .table) book (now (a .site)) (a .m) (c .before .before .before .before .before .before .before .before .pending .ensures) (c .before .before .before .before .before .before .before .fast .ensures) (c .before .before .before .before .before .before .without .ensures) (c .before .before .before .before .before .holds .ensures) (not-false _ (c .before .before .before .before .if1 .left))
-    (c .before .before .before .round .ensures) (c .before .before .senders .ensures ∙ silent) (c .before .n-ack .ensures) (c .if2 .taken)
+    (c .before .before .before .round .ensures) (c .before .before .n-ack .ensures) (c .before .has-senders .ensures ∙ ap (leb (c .before .before .n-ack .result)) silent) (not-true _ (c .if2 .taken))
 
 count-requires : tie.Need-count-requires
 count-requires c κs = search needs
@@ -69,7 +71,7 @@ returns-3 c =
     let silent = silent-senders (now (a .site)) (c .before .before .before .before .before .round .result) (a .m) g (l .sites) in
     λ book el.
     no-room (a .table) book (now (a .site)) (a .m) (c .before .before .before .before .before .before .before .before .before .before .pending .ensures) (c .before .before .before .before .before .before .before .before .before .fast .ensures) (c .before .before .before .before .before .before .before .before .without .ensures) (c .before .before .before .before .before .before .before .holds .ensures) (not-false _ (c .before .before .before .before .before .before .if1 .left))
-    (c .before .before .before .before .before .round .ensures) (c .before .before .before .before .senders .ensures ∙ silent) (c .before .before .before .n-ack .ensures) (c .before .before .if2 .left) (c .before .count .ensures) (let h = c .if3 .taken in omega arith)
+    (c .before .before .before .before .before .round .ensures) (c .before .before .before .before .n-ack .ensures) (c .before .before .before .has-senders .ensures ∙ ap (leb (c .before .before .before .before .n-ack .result)) silent) (not-false _ (c .before .before .if2 .left)) (c .before .count .ensures) (let h = c .if3 .taken in omega arith)
 
 returns-4 : tie.Need-returns-4
 returns-4 c =
@@ -80,7 +82,7 @@ returns-4 c =
     let silent = silent-senders (now (a .site)) (c .before .before .before .before .before .round .result) (a .m) g (l .sites) in
     λ book el.
     all-met (a .table) book (now (a .site)) (a .m) (c .before .before .before .before .before .before .before .before .before .before .pending .ensures) (c .before .before .before .before .before .before .before .before .before .fast .ensures) (c .before .before .before .before .before .before .before .before .without .ensures) (c .before .before .before .before .before .before .before .holds .ensures) (not-false _ (c .before .before .before .before .before .before .if1 .left))
-    (c .before .before .before .before .before .round .ensures) (c .before .before .before .before .senders .ensures ∙ silent) (c .before .before .before .n-ack .ensures) (c .before .before .if2 .left) (c .before .count .ensures) (let h = c .if3 .left in omega arith)
+    (c .before .before .before .before .before .round .ensures) (c .before .before .before .before .n-ack .ensures) (c .before .before .before .has-senders .ensures ∙ ap (leb (c .before .before .before .before .n-ack .result)) silent) (not-false _ (c .before .before .if2 .left)) (c .before .count .ensures) (let h = c .if3 .left in omega arith)
 
 pub judge-spec : {M : Type 1} → statement M
 judge-spec =
@@ -93,8 +95,8 @@ judge-spec =
     returns
     round-requires
     cast-round
-    senders-requires
     n-ack-requires
+    has-senders-requires
     returns-2
     count-requires
     cast-recorded
