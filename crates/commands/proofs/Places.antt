@@ -11,7 +11,7 @@ use Rattle.register.specs.Register.{Valid}
 use Rattle.register.specs.declared.Command.{Command}
 use Rattle.register.specs.declared.Command.the-variants.{Read}
 use Rattle.commands.specs.declared.Reading.the-variants.{Whole}
-use Rattle.commands.specs.Book.{sizeOf, readCommand, commandsOf, commandOf, placesFrom, placesOf, headOf}
+use Rattle.commands.specs.Book.{sizeOf, readCommand, commandsOf, commandOf, placesFrom, placesOf, kindOf, headOf}
 use Rattle.commands.proofs.Laws.{Front, front}
 use Rattle.commands.proofs.Walk.{rest, rest-all, next, Took}
 
@@ -92,8 +92,11 @@ module _ (s p : List ℕ) (k : ℕ) (h : k < length (commandsOf s)) (e : take (l
   pub head-inside : at + 2 ≤ length s
   head-inside = let l = here .two in omega (arith, length-drop at s)
 
+  first : getD s at 0 ≡ getD (drop at s) 0 0
+  first = let z : at + 0 ≡ at = omega arith in sym (getD-drop at s 0 0 ∙ ap (λ (n : ℕ). getD s n 0) z)
+
+  pub kind-noted : getD s at 0 ≡ kindOf (commandOf s k)
+  kind-noted = first ∙ here .kind
+
   pub head-noted : record { bike = getD s (at + 1) 0; add = eqb (getD s at 0) 1; read = eqb (getD s at 0) 3 } ≡ headOf (commandOf s k)
-  head-noted =
-      let z : at + 0 ≡ at = omega arith in
-      let first = sym (getD-drop at s 0 0 ∙ ap (λ (n : ℕ). getD s n 0) z) in
-      (λ i. record { bike = sym (getD-drop at s 1 0) i; add = eqb (first i) 1; read = eqb (first i) 3 }) ∙ here .head
+  head-noted = (λ i. record { bike = sym (getD-drop at s 1 0) i; add = eqb (first i) 1; read = eqb (first i) 3 }) ∙ here .head

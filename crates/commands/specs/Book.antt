@@ -149,6 +149,13 @@ walkedFrom (suc n) at s = unlessOver s (at ∷ onward (walkSize s) (λ z. walked
 unfoldable pub walkedPlaces : List ℕ → List ℕ
 walkedPlaces s = walkedFrom maxCommands 0 s
 
+-- The number of a command's kind, its first byte.
+abbrev pub kindOf : Command → ℕ
+kindOf (Add bike km) = 1
+kindOf (Fit bike dash start) = 2
+kindOf (Read bike) = 3
+kindOf (Trim bike km) = 4
+
 -- The kind and the bike of a command.
 abbrev pub headOf : Command → Head
 headOf c = record { bike = bikeOf c; add = isAdd c; read = isRead c }

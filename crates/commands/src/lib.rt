@@ -5,7 +5,7 @@ ghost use mathlib.Core.List.{_∷_, []};
 ghost use lib.ListN.{length, take};
 ghost use lib.Seq.{sets};
 ghost use Rattle.wire.specs.Wire.{splice};
-ghost use Rattle.commands.specs.Book.{sizeOf, readCommand, shortSize, walkSize, measureBook, commandsOf, commandOf, placesOf, walkedPlaces, headOf, encodeCommand, encodeBook};
+ghost use Rattle.commands.specs.Book.{sizeOf, readCommand, shortSize, walkSize, measureBook, commandsOf, commandOf, placesOf, walkedPlaces, kindOf, headOf, encodeCommand, encodeBook};
 use register::Bike;
 use register::Command;
 
@@ -250,6 +250,15 @@ pub fn head_at(book: &[u8], places: &[u16], k: usize) -> Head
         add: kind == 1,
         read: kind == 3,
     }
+}
+
+// The kind of the k-th command, from the noted places: 1 ADD, 2 FIT, 3 READ, 4 TRIM.
+pub fn kind_at(book: &[u8], places: &[u16], k: usize) -> u8
+    requires { ⌜ (k < length (commandsOf (now book))) × (take (length (commandsOf (now book))) (now places) ≡ placesOf (now book)) ⌝ }
+    ensures { λ r. ⌜ r ≡ kindOf (commandOf (now (book .entry)) k) ⌝ }
+{
+    let at = wide(places[k]);
+    book[at]
 }
 
 // The k-th command, by a walk from the front.

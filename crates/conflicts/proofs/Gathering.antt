@@ -1,26 +1,25 @@
--- Laws of the commands gathered by bike: how the sets grow, and that a row is read off them.
+-- Laws of the commands gathered by bike and kind: how the sets grow, and that a row is read off them.
 -- Rests on Laws.
 use mathlib.Core.Bool.{Bool, true, false, not, _&&_, _||_}
 use mathlib.Core.Path.{_≡_, refl, sym, ap, subst, _∙_}
 use mathlib.Core.List.{List}
-use Prim.Native.Nat.{ℕ, zero, suc, _+_, _-_, _*_, _≤_, _<_, _^_}
+use Prim.Native.Nat.{ℕ, _+_, _-_, _*_, _%_, _≤_, _<_, _^_}
 use native.Mathlib.Omega.{arith}
 use borrow.Author.Tests.{lt-ltb, le-ltb, eqb-true, eqb-false, eq-eqb, ne-eqb}
 use lib.Dec.{eqb, ltb}
-use lib.Pow.{pow-mono}
-use lib.ListN.{length, getD, replicate, length-set, length-replicate, getD-replicate}
+use lib.ListN.{length, replicate, length-set, length-replicate, getD-replicate}
 use Rattle.theory.specs.Sets.{pick}
 use Rattle.theory.specs.Counting.{never}
 use Rattle.sets.specs.declared.Set.{Set}
-use Rattle.sets.specs.Sets.{capacity, inSet, setOf, withOf, withoutOf, loadSet, storeSet, word}
-use Rattle.sets.proofs.Laws.{in-with, in-without, in-setOf, build-none, build-yes, build-no, load-stored, load-other, word-ext, word-lt, set-ext, with-fits, without-fits}
+use Rattle.sets.specs.Sets.{capacity, inSet, emptyOf, setOf, withOf, unionOf, withoutOf, loadSet, storeSet}
+use Rattle.sets.proofs.Laws.{in-with, in-union, in-without, in-setOf, build-none, build-yes, build-no, load-stored, load-other, word-ext, word-lt, set-ext, with-fits, union-fits, without-fits}
 use Rattle.register.specs.declared.Command.{Command}
 use Rattle.register.specs.declared.Command.the-variants.{Add, Fit, Read, Trim}
 use Rattle.register.specs.Register.{bikes, bikeOf, alike}
 use Rattle.commands.specs.declared.Head.{Head}
-use Rattle.commands.specs.Book.{commandsOf, commandOf, headOf}
+use Rattle.commands.specs.Book.{commandsOf, commandOf, kindOf, headOf}
 use Rattle.commands.proofs.Places.{commands-valid}
-use Rattle.conflicts.specs.Conflicts.{conflictIn, conflictRow, isOn, anyKind, slots, slotKind, kindSlot, unopposedSlot, withNoted, Gathered}
+use Rattle.conflicts.specs.Conflicts.{conflictIn, conflictRow, isOn, anyKind, slots, slotKind, nonePlace, allFrom, unopposedPlace, withNoted, Gathered}
 use Rattle.conflicts.proofs.Laws.{no-more, and-false, conflict-in-sym, in-row}
 
 -- ---- places
@@ -34,43 +33,8 @@ place-same a b u v lu lv = go (eqb a b) (eqb u v) refl refl
     go true false e f = let n = eqb-false u v f in let p = eqb-true a b e in ne-eqb (slots * a + u) (slots * b + v) (λ h. n (omega arith))
     go false t e f = let n = eqb-false a b e in ne-eqb (slots * a + u) (slots * b + v) (λ h. n (omega arith))
 
--- The first place of a bike.
-bike-same : (a b v : ℕ) → v < slots → eqb (slots * a) (slots * b + v) ≡ (eqb a b && eqb 0 v)
-bike-same a b v lv =
-    let e : slots * a ≡ slots * a + 0 = omega arith in
-    ap (λ (p : ℕ). eqb p (slots * b + v)) e ∙ place-same a b 0 v (omega arith) lv
-
-kind-below : (c : Command) → kindSlot (headOf c) < slots
-kind-below (Add b km) = omega arith
-kind-below (Fit b dash start) = omega arith
-kind-below (Read b) = omega arith
-kind-below (Trim b km) = omega arith
-
-unopposed-below : (c : Command) → unopposedSlot (headOf c) < slots
-unopposed-below (Add b km) = omega arith
-unopposed-below (Fit b dash start) = omega arith
-unopposed-below (Read b) = omega arith
-unopposed-below (Trim b km) = omega arith
-
--- A command is of the kinds of the slots where it is noted, and of no other.
-noted-kind : (c : Command) (v : ℕ) → v < slots → (eqb 0 v || eqb (kindSlot (headOf c)) v) ≡ slotKind v c
-noted-kind c zero h = refl
-noted-kind (Add b km) (suc zero) h = refl
-noted-kind (Fit b dash start) (suc zero) h = refl
-noted-kind (Read b) (suc zero) h = refl
-noted-kind (Trim b km) (suc zero) h = refl
-noted-kind (Add b km) (suc (suc zero)) h = refl
-noted-kind (Fit b dash start) (suc (suc zero)) h = refl
-noted-kind (Read b) (suc (suc zero)) h = refl
-noted-kind (Trim b km) (suc (suc zero)) h = refl
-noted-kind (Add b km) (suc (suc (suc zero))) h = refl
-noted-kind (Fit b dash start) (suc (suc (suc zero))) h = refl
-noted-kind (Read b) (suc (suc (suc zero))) h = refl
-noted-kind (Trim b km) (suc (suc (suc zero))) h = refl
-noted-kind c (suc (suc (suc (suc v)))) h = absurd (omega arith)
-
--- Those that a command does not conflict with are of its own kind.
-unopposed-kind : (c d : Command) → slotKind (unopposedSlot (headOf c)) d ≡ alike d c
+-- What a command does not conflict with: where its kind is odd the commands of its slot, else none.
+unopposed-kind : (c d : Command) → pick (eqb (kindOf c % 2) 1) (slotKind (kindOf c) d) false ≡ alike d c
 unopposed-kind (Add b km) (Add b′ km′) = refl
 unopposed-kind (Add b km) (Fit b′ dash′ start′) = refl
 unopposed-kind (Add b km) (Read b′) = refl
@@ -88,15 +52,26 @@ unopposed-kind (Trim b km) (Fit b′ dash′ start′) = refl
 unopposed-kind (Trim b km) (Read b′) = refl
 unopposed-kind (Trim b km) (Trim b′ km′) = refl
 
+-- The place of those that a command does not conflict with is one of the places.
+unopposed-below : (c : Command) (b : ℕ) → b < bikes → unopposedPlace (slots * b) (kindOf c) < nonePlace + 1
+unopposed-below (Add b′ km) b h = omega arith
+unopposed-below (Fit b′ dash start) b h = omega arith
+unopposed-below (Read b′) b h = omega arith
+unopposed-below (Trim b′ km) b h = omega arith
+
 -- ---- how the sets grow
 
 -- Nothing is gathered yet.
-pub gathered-none : (s : List ℕ) → Gathered s 0 (replicate 128 0)
+pub gathered-none : (s : List ℕ) → Gathered s 0 (replicate 129 0)
 gathered-none s =
     record {
-      size = length-replicate {0} {A = ℕ} 128 0;
-      at = λ b v lb lv. (λ i. record { bits = getD-replicate {0} {A = ℕ} 128 (slots * b + v) 0 0 (omega arith) i }) ∙ build-none (isOn (slotKind v) s b);
+      size = length-replicate {0} {A = ℕ} 129 0;
+      at = λ b v lb lv. empty (slots * b + v) (omega arith) ∙ build-none (isOn (slotKind v) s b);
+      none = empty nonePlace (omega arith);
     }
+  where
+    empty : (p : ℕ) → p < 129 → loadSet (replicate 129 0) p ≡ emptyOf
+    empty p h = λ i. record { bits = getD-replicate {0} {A = ℕ} 129 p 0 0 h i }
 
 -- A command joins the set at its place, and no other.
 noted : (ws : List ℕ) (q k p : ℕ) {x : Set} → q < length ws → loadSet ws p ≡ x → loadSet (withNoted ws q k) p ≡ pick (eqb q p) (withOf x k) x
@@ -111,74 +86,52 @@ noted ws q k p {x} h e = go (eqb q p) refl
         ∙ ap (λ (y : Set). withOf y k) e
     go false t = load-other ws q (withOf (loadSet ws q) k) p (λ z. never (eqb q p) (eq-eqb q p (sym z)) t) ∙ e
 
-or-again : (x y : Bool) → ((x || y) || y) ≡ (x || y)
-or-again true y = refl
-or-again false true = refl
-or-again false false = refl
+-- The set of the numbers up to k is that of those below it, which k joins where it is one.
+joined : (t : Bool) (k : ℕ) (f : ℕ → Bool) → f k ≡ t → pick t (withOf (setOf k f) k) (setOf k f) ≡ setOf (k + 1) f
+joined true k f e = build-yes k f e
+joined false k f e = build-no k f e
 
-with-again : (x : Set) (k : ℕ) → x .bits < 2 ^ 64 → k < 64 → withOf (withOf x k) k ≡ withOf x k
-with-again x k h l =
-    set-ext _ _ (with-fits (withOf x k) k (with-fits x k h l) l) (with-fits x k h l)
-    (λ j g. in-with (withOf x k) k j ∙ ap (λ (t : Bool). t || eqb j k) (in-with x k j) ∙ or-again (inSet x j) (eqb j k) ∙ sym (in-with x k j))
-
--- To join once or twice is the same.
-joined : (a b : Bool) (k : ℕ) (f : ℕ → Bool) → k < 64 → f k ≡ (a || b)
-    → pick b (withOf (pick a (withOf (setOf k f) k) (setOf k f)) k) (pick a (withOf (setOf k f) k) (setOf k f)) ≡ setOf (k + 1) f
-joined true true k f l e = with-again (setOf k f) k (below k f l) l ∙ build-yes k f e
-  where
-    below : (k : ℕ) (f : ℕ → Bool) → k < 64 → word k f < 2 ^ 64
-    below k f l = let w = word-lt k f in let m = pow-mono {i = k} {j = 64} (omega arith) in omega arith
-joined true false k f l e = build-yes k f e
-joined false true k f l e = build-yes k f e
-joined false false k f l e = build-no k f e
-
-and-or : (x y z : Bool) → (x && y || x && z) ≡ x && (y || z)
-and-or true y z = refl
-and-or false y z = refl
+pub bike-below : (s : List ℕ) (k : ℕ) {c : Head} → k < length (commandsOf s) → c ≡ headOf (commandOf s k) → c .bike < bikes
+bike-below s k inside ec = subst (λ (x : Head). x .bike < bikes) (sym ec) (commands-valid s k inside .bike)
 
 module _ (s : List ℕ) (k : ℕ) {c : Head} (inside : k < length (commandsOf s)) (ec : c ≡ headOf (commandOf s k)) where
-  pub bike-below : c .bike < bikes
-  bike-below = subst (λ (x : Head). x .bike < bikes) (sym ec) (commands-valid s k inside .bike)
-
-  slot-below : kindSlot c < slots
-  slot-below = subst (λ (x : Head). kindSlot x < slots) (sym ec) (kind-below (commandOf s k))
-
-  slot-unopposed : unopposedSlot c < slots
-  slot-unopposed = subst (λ (x : Head). unopposedSlot x < slots) (sym ec) (unopposed-below (commandOf s k))
-
   -- The places of a command in the sets.
-  pub bike-place : {n : ℕ} → n ≡ slots * bikes → slots * c .bike < n
-  bike-place e = let b = bike-below in omega arith
+  pub bike-place : slots * c .bike + 3 < nonePlace
+  bike-place = let b = bike-below s k inside ec in omega arith
 
-  pub kind-place : {n r : ℕ} → n ≡ slots * bikes → r ≡ kindSlot c → slots * c .bike + r < n
-  kind-place e h = let b = bike-below in let l = slot-below in omega arith
+  pub unopposed-place : {kind r n : ℕ} → kind ≡ kindOf (commandOf s k) → r ≡ unopposedPlace (slots * c .bike) kind → n ≡ nonePlace + 1 → r < n
+  unopposed-place {kind} {r} ek er en =
+      let l = unopposed-below (commandOf s k) (c .bike) (bike-below s k inside ec) in
+      let e : r ≡ unopposedPlace (slots * c .bike) (kindOf (commandOf s k)) = er ∙ ap (unopposedPlace (slots * c .bike)) ek in
+      omega arith
 
-  pub unopposed-place : {n r : ℕ} → n ≡ slots * bikes → r ≡ unopposedSlot c → slots * c .bike + r < n
-  unopposed-place e h = let b = bike-below in let l = slot-unopposed in omega arith
+  module _ {kind : ℕ} (ek : kind ≡ kindOf (commandOf s k)) where
+    -- The place where it is noted.
+    abbrev place : ℕ
+    place = slots * c .bike + kind % slots
 
-  -- One command more is gathered.
-  pub gathered-more : (ws : List ℕ) {ws₁ ws₂ : List ℕ} {r : ℕ} → k < capacity → r ≡ kindSlot c
-      → ws₁ ≡ withNoted ws (slots * c .bike) k → ws₂ ≡ withNoted ws₁ (slots * c .bike + r) k → Gathered s k ws → Gathered s (k + 1) ws₂
-  gathered-more ws {ws₁} {ws₂} {r} l er e₁ e₂ g =
-      record {
-        size = ap length e₂ ∙ length-set ws₁ _ _ ∙ size₁;
-        at = λ b v lb lv.
-            ap (λ (x : List ℕ). loadSet x (slots * b + v)) e₂
-            ∙ noted ws₁ (slots * c .bike + r) k (slots * b + v) (kind-place size₁ er)
-            (ap (λ (x : List ℕ). loadSet x (slots * b + v)) e₁ ∙ noted ws (slots * c .bike) k (slots * b + v) (bike-place (g .size)) (g .at b v lb lv))
-            ∙ joined (eqb (slots * c .bike) (slots * b + v)) (eqb (slots * c .bike + r) (slots * b + v)) k (isOn (slotKind v) s b) l (sym (told b v lv));
-      }
-    where
-      size₁ : length ws₁ ≡ slots * bikes
-      size₁ = ap length e₁ ∙ length-set ws _ _ ∙ g .size
+    pub kind-place : place < nonePlace
+    kind-place = let b = bike-below s k inside ec in omega arith
 
-      told : (b v : ℕ) → v < slots → (eqb (slots * c .bike) (slots * b + v) || eqb (slots * c .bike + r) (slots * b + v)) ≡ isOn (slotKind v) s b k
-      told b v lv =
-          (λ i. bike-same (c .bike) b v lv i || place-same (c .bike) b r v (subst (λ (x : ℕ). x < slots) (sym er) slot-below) lv i)
-          ∙ and-or (eqb (c .bike) b) (eqb 0 v) (eqb r v)
-          ∙ (λ i. eqb (ec i .bike) b && (eqb 0 v || eqb (er i) v))
-          ∙ (λ i. eqb (bikeOf (commandOf s k)) b && (eqb 0 v || eqb (kindSlot (ec i)) v))
-          ∙ ap (λ (t : Bool). eqb (bikeOf (commandOf s k)) b && t) (noted-kind (commandOf s k) v lv)
+    place-told : (b v : ℕ) → v < slots → eqb place (slots * b + v) ≡ isOn (slotKind v) s b k
+    place-told b v lv =
+        place-same (c .bike) b (kind % slots) v (omega arith) lv ∙ (λ i. eqb (ec i .bike) b && eqb (ek i % slots) v)
+
+    -- One command more is gathered.
+    pub gathered-more : (ws : List ℕ) {ws₁ : List ℕ} → ws₁ ≡ withNoted ws place k → Gathered s k ws → Gathered s (k + 1) ws₁
+    gathered-more ws e g =
+        let below = kind-place in
+        record {
+          size = ap length e ∙ length-set ws _ _ ∙ g .size;
+          at = λ b v lb lv.
+              ap (λ (x : List ℕ). loadSet x (slots * b + v)) e
+              ∙ noted ws place k (slots * b + v) (omega (arith, below, g .size)) (g .at b v lb lv)
+              ∙ joined (eqb place (slots * b + v)) k (isOn (slotKind v) s b) (sym (place-told b v lv));
+          none =
+              ap (λ (x : List ℕ). loadSet x nonePlace) e
+              ∙ load-other ws place (withOf (loadSet ws place) k) nonePlace (λ z. omega (arith, below, z))
+              ∙ g .none;
+        }
 
 -- All commands are gathered, as the code counts them.
 pub gathered-all : (s ws : List ℕ) {n : ℕ} → n ≡ length (commandsOf s) → Gathered s n ws → Gathered s (length (commandsOf s)) ws
@@ -209,6 +162,24 @@ row-table true true true true = refl
 row-table true true true false = refl
 row-table true true false true = refl
 row-table true true false false = refl
+
+-- Every command is of one of the four kinds.
+kinds-table : (below bike : Bool) (c : Command)
+    → (((below && (bike && slotKind 0 c)) || (below && (bike && slotKind 1 c))) || ((below && (bike && slotKind 2 c)) || (below && (bike && slotKind 3 c)))) ≡ (below && (bike && true))
+kinds-table false bike c = refl
+kinds-table true false c = refl
+kinds-table true true (Add b km) = refl
+kinds-table true true (Fit b dash start) = refl
+kinds-table true true (Read b) = refl
+kinds-table true true (Trim b km) = refl
+
+-- The set of no kind is empty.
+nobody : (s : List ℕ) (n b : ℕ) → emptyOf ≡ setOf n (isOn (λ d. false) s b)
+nobody s n b =
+    let q : 0 + n ≡ n = omega arith in
+    build-none (isOn (λ d. false) s b)
+    ∙ no-more 0 n (isOn (λ d. false) s b) (λ k _. and-false (eqb (bikeOf (commandOf s k)) b))
+    ∙ ap (λ (k : ℕ). setOf k (isOn (λ d. false) s b)) q
 
 module _ (s : List ℕ) (m : ℕ) (few : length (commandsOf s) ≤ capacity) (inside : m < length (commandsOf s)) where
   abbrev n : ℕ
@@ -249,20 +220,51 @@ module _ (s : List ℕ) (m : ℕ) (few : length (commandsOf s) ≤ capacity) (in
   told : (kind : Command → Bool) {b : ℕ} {x : Set} → b ≡ bikeOf (commandOf s m) → x ≡ setOf n (isOn kind s b) → x ≡ gathered kind
   told kind bike e = e ∙ ap (λ (b : ℕ). setOf n (isOn kind s b)) bike ∙ up-to n (isOn kind s (bikeOf (commandOf s m))) few
 
+  -- The sets of the four kinds, two and two.
+  abbrev low : Set
+  low = unionOf (gathered (slotKind 0)) (gathered (slotKind 1))
+
+  abbrev high : Set
+  high = unionOf (gathered (slotKind 2)) (gathered (slotKind 3))
+
+  -- Together they have all commands.
+  all-same : unionOf low high ≡ gathered anyKind
+  all-same =
+      set-ext _ (gathered anyKind) (union-fits low high (union-fits _ _ (fits _) (fits _)) (union-fits _ _ (fits _) (fits _))) (fits _) same
+    where
+      same : (k : ℕ) → k < 64 → inSet (unionOf low high) k ≡ inSet (gathered anyKind) k
+      same k l =
+          in-union low high k
+          ∙ (λ i. in-union (gathered (slotKind 0)) (gathered (slotKind 1)) k i || in-union (gathered (slotKind 2)) (gathered (slotKind 3)) k i)
+          ∙ (λ i. (gathered-in (slotKind 0) k l i || gathered-in (slotKind 1) k l i) || (gathered-in (slotKind 2) k l i || gathered-in (slotKind 3) k l i))
+          ∙ kinds-table (ltb k n) (on k) (commandOf s k)
+          ∙ sym (gathered-in anyKind k l)
+
+  -- Those that a command does not conflict with stand at their place.
+  free-at : {ws : List ℕ} → Gathered s n ws → (c : Command) (b : ℕ) → b < bikes
+      → loadSet ws (unopposedPlace (slots * b) (kindOf c)) ≡ setOf n (isOn (λ d. pick (eqb (kindOf c % 2) 1) (slotKind (kindOf c) d) false) s b)
+  free-at g (Add b′ km) b l = g .at b 1 l (omega arith)
+  free-at g (Fit b′ dash start) b l = g .none ∙ nobody s n b
+  free-at g (Read b′) b l = g .at b 3 l (omega arith)
+  free-at g (Trim b′ km) b l = g .none ∙ nobody s n b
+
   -- The row of a command, from the sets of its bike, as the code tells it.
-  pub row-told : {c : Head} {ws : List ℕ} {r : ℕ} {all free with row : Set} → c ≡ headOf (commandOf s m) → r ≡ unopposedSlot c → Gathered s n ws
-      → all ≡ loadSet ws (slots * c .bike) → free ≡ loadSet ws (slots * c .bike + r) → with ≡ withOf free m → row ≡ withoutOf all with → row ≡ conflictRow s m
-  row-told {c} {ws} {r} {all} {free} ec er g ea ef ew ex =
+  pub row-told : {c : Head} {ws : List ℕ} {kind r : ℕ} {all free with row : Set} → c ≡ headOf (commandOf s m) → kind ≡ kindOf (commandOf s m) → Gathered s n ws
+      → all ≡ allFrom ws (slots * c .bike) → r ≡ unopposedPlace (slots * c .bike) kind → free ≡ loadSet ws r → with ≡ withOf free m → row ≡ withoutOf all with
+      → row ≡ conflictRow s m
+  row-told {c} {ws} {all = all} {free} ec ek g ea er ef ew ex =
       let bike : c .bike ≡ bikeOf (commandOf s m) = λ i. ec i .bike in
       let below = bike-below s m inside ec in
+      let slot : (v : ℕ) → v < slots → loadSet ws (slots * c .bike + v) ≡ gathered (slotKind v) = λ v l. told (slotKind v) bike (g .at (c .bike) v below l) in
       let first : slots * c .bike ≡ slots * c .bike + 0 = omega arith in
-      let a : all ≡ gathered anyKind = told anyKind bike (ea ∙ ap (loadSet ws) first ∙ g .at (c .bike) 0 below (omega arith)) in
-      let f : free ≡ gathered (slotKind (unopposedSlot (headOf (commandOf s m)))) =
-      told (slotKind (unopposedSlot (headOf (commandOf s m)))) bike
+      let a : all ≡ gathered anyKind =
+      ea
+      ∙ (λ i. unionOf (unionOf ((ap (loadSet ws) first ∙ slot 0 (omega arith)) i) (slot 1 (omega arith) i)) (unionOf (slot 2 (omega arith) i) (slot 3 (omega arith) i)))
+      ∙ all-same in
+      let f : free ≡ peaceful =
+      told (λ d. alike d (commandOf s m)) bike
       (ef
-      ∙ (λ i. loadSet ws (slots * c .bike + (er ∙ ap unopposedSlot ec) i))
-      ∙ g .at (c .bike) (unopposedSlot (headOf (commandOf s m))) below (unopposed-below (commandOf s m))) in
-      ex
-      ∙ ap (withoutOf all) (ew ∙ ap (λ (x : Set). withOf x m) (f ∙ (λ i. gathered (λ d. unopposed-kind (commandOf s m) d i))))
-      ∙ ap (λ (x : Set). withoutOf x (withOf peaceful m)) a
-      ∙ row-same
+      ∙ ap (loadSet ws) (er ∙ ap (unopposedPlace (slots * c .bike)) ek)
+      ∙ free-at g (commandOf s m) (c .bike) below
+      ∙ (λ i. setOf n (isOn (λ d. unopposed-kind (commandOf s m) d i) s (c .bike)))) in
+      ex ∙ ap (withoutOf all) (ew ∙ ap (λ (x : Set). withOf x m) f) ∙ ap (λ (x : Set). withoutOf x (withOf peaceful m)) a ∙ row-same

@@ -2,7 +2,7 @@
 -- Assumes nothing.
 use mathlib.Core.Bool.{Bool, true, false, not, _&&_}
 use mathlib.Core.Path.{_≡_, refl, ap, _∙_}
-use Prim.Native.Nat.{ℕ, _-_, _*_, _%_, _^_, _≤_, _<_}
+use Prim.Native.Nat.{ℕ, _-_, _*_, _%_, _^_, _<_}
 use native.Mathlib.Nat.{mod-eq-of-lt}
 use native.Mathlib.Omega.{arith}
 use lib.Bits.{bitAnd, bitOr, and-mask, and-zero-r, or-zero-r}
@@ -12,10 +12,6 @@ use Rattle.sets.specs.Sets.{capacity, emptyOf, withOf, unionOf}
 use Rattle.sets.proofs.Laws.{shl-one}
 use Rattle.commands.specs.declared.Head.{Head}
 use Rattle.conflicts.specs.Conflicts.{unopposed}
-
-pub one-small : (test : Bool) → one test ≤ 1
-one-small true = omega arith
-one-small false = omega arith
 
 with-bit : (row : Set) (k : ℕ) (test : Bool) → k < capacity → record { bits = bitOr (row .bits) ((one test * 2 ^ k) % 2 ^ 64) } ≡ pick test (withOf row k) row
 unfolding withOf

@@ -1,18 +1,18 @@
 -- Which commands of a book conflict (document 01: clash), as one set a command.
 -- Assumes nothing.
 use mathlib.Core.Path.{_≡_}
-use mathlib.Core.Bool.{Bool, true, false, _&&_}
+use mathlib.Core.Bool.{Bool, true, _&&_}
 use mathlib.Core.List.{List, [], _∷_}
-use Prim.Native.Nat.{ℕ, zero, suc, _+_, _-_, _*_, _<_}
+use Prim.Native.Nat.{ℕ, zero, suc, _+_, _*_, _%_, _<_}
 use lib.Dec.{eqb, ltb}
 use lib.ListN.{length}
-use Rattle.theory.specs.Sets.{pick, one}
+use Rattle.theory.specs.Sets.{pick}
 use Rattle.sets.specs.declared.Set.{Set}
-use Rattle.sets.specs.Sets.{capacity, setOf, emptyOf, withOf, loadSet, storeSet}
+use Rattle.sets.specs.Sets.{capacity, setOf, emptyOf, withOf, unionOf, loadSet, storeSet}
 use Rattle.register.specs.declared.Command.{Command}
-use Rattle.register.specs.Register.{bikes, bikeOf, isAdd, isRead, conflictAt}
+use Rattle.register.specs.Register.{bikes, bikeOf, conflictAt}
 use Rattle.commands.specs.declared.Head.{Head}
-use Rattle.commands.specs.Book.{maxCommands, commandsOf, commandOf}
+use Rattle.commands.specs.Book.{maxCommands, commandsOf, commandOf, kindOf}
 
 -- The commands at two places conflict: both are in the book, the places differ, and the commands conflict.
 unfoldable pub conflictIn : List ℕ → ℕ → ℕ → Bool
@@ -31,7 +31,7 @@ rowsFrom s (suc n) m = conflictRow s m .bits ∷ rowsFrom s n (suc m)
 unfoldable pub conflictRows : List ℕ → List ℕ
 conflictRows s = rowsFrom s maxCommands 0
 
--- ---- how they are found: commands gathered by bike
+-- ---- how they are found: commands gathered by bike and kind
 
 -- The sets with command k more in the one at a place.
 abbrev pub withNoted : List ℕ → ℕ → ℕ → List ℕ
@@ -48,25 +48,28 @@ anyKind c = true
 abbrev pub slots : ℕ
 slots = 4
 
--- The kind of a slot: all commands, ADD, none, READ.
+-- The commands of a slot: the number of their kind modulo 4 is the slot's.
 abbrev pub slotKind : ℕ → Command → Bool
-slotKind zero = anyKind
-slotKind (suc zero) = isAdd
-slotKind (suc (suc zero)) = λ c. false
-slotKind (suc (suc (suc v))) = isRead
+slotKind v c = eqb (kindOf c % slots) v
 
--- The slot of a command's own kind, that of all where the kind has none.
-abbrev pub kindSlot : Head → ℕ
-kindSlot c = one (c .add) + 3 * one (c .read)
+-- The place of the empty set, after the sets of all bikes.
+abbrev pub nonePlace : ℕ
+nonePlace = slots * bikes
 
--- The slot of those on its bike that a command does not conflict with: its own kind's, or that of none.
-abbrev pub unopposedSlot : Head → ℕ
-unopposedSlot c = 2 + one (c .read) - one (c .add)
-
--- Four sets a bike: those of the first n commands that are on it and of the slot's kind.
+-- Four sets a bike, those of the first n commands that are on it and of the slot, and an empty set after all.
 pub record Gathered (s : List ℕ) (n : ℕ) (sets : List ℕ) : Type 0 where
-  pub size : length sets ≡ slots * bikes
+  pub size : length sets ≡ nonePlace + 1
   pub at : (b v : ℕ) → b < bikes → v < slots → loadSet sets (slots * b + v) ≡ setOf n (isOn (slotKind v) s b)
+  pub none : loadSet sets nonePlace ≡ emptyOf
+
+-- All commands of a bike: the union of its sets, the first of them at a place.
+abbrev pub allFrom : List ℕ → ℕ → Set
+allFrom sets at =
+    unionOf (unionOf (loadSet sets at) (loadSet sets (at + 1))) (unionOf (loadSet sets (at + 2)) (loadSet sets (at + 3)))
+
+-- The place of those on its bike that a command does not conflict with: that of its own kind where the kind is odd, else that of the empty set.
+abbrev pub unopposedPlace : ℕ → ℕ → ℕ
+unopposedPlace bike kind = pick (eqb (kind % 2) 1) (bike + kind) nonePlace
 
 -- Of a bike's ADDs and READs those that a command of the bike does not conflict with.
 abbrev pub unopposed : Head → Set → Set → Set

@@ -1,20 +1,13 @@
 // Which commands of a book conflict: for each command the set of those that conflict with it.
 ghost use mathlib.Core.Path.{_≡_};
-ghost use Prim.Native.Nat.{_-_, _^_, _<_};
+ghost use Prim.Native.Nat.{_+_, _-_, _^_, _<_};
 ghost use lib.ListN.{length, take};
 ghost use Rattle.theory.specs.Sets.{pick, one};
 ghost use Rattle.sets.specs.Sets.{emptyOf, withOf, capacity};
 ghost use Rattle.commands.specs.Book.{maxCommands, commandsOf, placesOf};
-ghost use Rattle.conflicts.specs.Conflicts.{conflictRow, conflictRows, withNoted, kindSlot, unopposedSlot, Gathered, unopposed};
+ghost use Rattle.conflicts.specs.Conflicts.{conflictRow, conflictRows, withNoted, nonePlace, allFrom, unopposedPlace, Gathered, unopposed};
 use commands::Head;
 use sets::Set;
-
-// 1 where a test holds, else 0.
-fn one(test: bool) -> u64
-    ensures { λ r. ⌜ r ≡ one test ⌝ }
-{
-    if test { 1 } else { 0 }
-}
 
 // Command k joins the set at a place.
 fn note(sets: &mut [u64], at: usize, k: usize)
@@ -25,25 +18,13 @@ fn note(sets: &mut [u64], at: usize, k: usize)
     before.with(k).store(sets, at);
 }
 
-// The sets of a bike: of all its commands, of its ADDs, an empty one, and of its READs.
+// The sets of a bike: those of its TRIMs, ADDs, FITs and READs, so that a kind's number modulo 4 is the place of its set.
 const SLOTS: usize = 4;
 
-// The slot of a command's kind: 1 for ADD, 3 for READ, and for FIT and TRIM 0, that of all commands.
-fn kind_slot(head: Head) -> usize
-    ensures { λ r. ⌜ r ≡ kindSlot head ⌝ }
-{
-    (one(head.add) + 3 * one(head.read)) as usize
-}
+// The place of an empty set, after the sets of all bikes.
+const NONE: usize = 128;
 
-// The slot of those on its bike that a command does not conflict with: for FIT and TRIM the empty one.
-fn unopposed_slot(head: Head) -> usize
-    ensures { λ r. ⌜ r ≡ unopposedSlot head ⌝ }
-{
-    (2 + one(head.read) - one(head.add)) as usize
-}
-
-// All n commands are gathered, four sets a bike. Each is noted twice, as one of all and as one of its kind, so that no branch
-// is taken on the kind: FIT and TRIM are noted as one of all again.
+// All n commands are gathered, each in the set of its bike and kind. No branch is taken on the kind.
 fn gather(book: &[u8], places: &[u16], n: usize, sets: &mut [u64])
     requires { ⌜ (n ≡ length (commandsOf (now book))) × (take (length (commandsOf (now book))) (now places) ≡ placesOf (now book))
         × Gathered (now book) 0 (now sets) ⌝ }
@@ -52,11 +33,35 @@ fn gather(book: &[u8], places: &[u16], n: usize, sets: &mut [u64])
     let mut k: usize = 0;
     while k < n {
         let head = commands::head_at(book, places, k);
-        let bike = SLOTS * (head.bike as usize);
-        let kind = bike + kind_slot(head);
-        note(sets, bike, k);
-        note(sets, kind, k);
+        let kind = commands::kind_at(book, places, k);
+        let place = SLOTS * (head.bike as usize) + (kind as usize) % SLOTS;
+        note(sets, place, k);
         k += 1;
+    }
+}
+
+// All commands of a bike: the union of its four sets, the first of them at the bike's place.
+fn all_of(sets: &[u64], bike: usize) -> Set
+    requires { ⌜ bike + 3 < length (now sets) ⌝ }
+    ensures { λ r. ⌜ r ≡ allFrom (now (sets .entry)) bike ⌝ }
+{
+    let trims = Set::load(sets, bike);
+    let adds = Set::load(sets, bike + 1);
+    let fits = Set::load(sets, bike + 2);
+    let reads = Set::load(sets, bike + 3);
+    trims.union(adds).union(fits.union(reads))
+}
+
+// The place of those on its bike that a command does not conflict with: of its own kind for ADD and READ, the odd kinds,
+// an empty set for FIT and TRIM.
+fn unopposed_place(bike: usize, kind: u8) -> usize
+    requires { ⌜ bike < nonePlace ⌝ }
+    ensures { λ r. ⌜ r ≡ unopposedPlace bike kind ⌝ }
+{
+    if kind % 2 == 1 {
+        bike + kind as usize
+    } else {
+        NONE
     }
 }
 
@@ -67,10 +72,11 @@ fn row(book: &[u8], places: &[u16], m: usize, sets: &[u64]) -> Set
     ensures { λ r. ⌜ r ≡ conflictRow (now (book .entry)) m ⌝ }
 {
     let head = commands::head_at(book, places, m);
+    let kind = commands::kind_at(book, places, m);
     let bike = SLOTS * (head.bike as usize);
-    let kind = bike + unopposed_slot(head);
-    let all = Set::load(sets, bike);
-    let peaceful = Set::load(sets, kind);
+    let all = all_of(sets, bike);
+    let place = unopposed_place(bike, kind);
+    let peaceful = Set::load(sets, place);
     all.without(peaceful.with(m))
 }
 
@@ -97,9 +103,16 @@ pub fn conflict_rows(book: &[u8], places: &[u16], n: usize, rows: &mut [u64])
     requires { ⌜ (length (now rows) ≡ maxCommands) × (n ≡ length (commandsOf (now book))) × (take (length (commandsOf (now book))) (now places) ≡ placesOf (now book)) ⌝ }
     ensures { λ _. ⌜ now (rows .exit) ≡ conflictRows (now (book .entry)) ⌝ }
 {
-    let mut sets = [0u64; 128];
+    let mut sets = [0u64; 129];
     gather(book, places, n, &mut sets);
     fill_rows(book, places, n, &sets, rows);
+}
+
+// 1 where a test holds, else 0.
+fn one(test: bool) -> u64
+    ensures { λ r. ⌜ r ≡ one test ⌝ }
+{
+    if test { 1 } else { 0 }
 }
 
 // The set with one command more, where a test holds. Kinds come in no order, so the test is no branch.

@@ -1,13 +1,13 @@
 use borrow.Author.Needs.{needs}
 use denote.Ref.{now}
 use Prim.Native.Nat.{ℕ, _-_, _≤_, _<_}
-use mathlib.Core.Path.{_≡_, refl, _∙_, sym, subst}
+use mathlib.Core.Path.{_≡_, _∙_, sym, subst}
 use native.Mathlib.Omega.{arith}
 use lib.ListN.{length}
 use Rattle.commands.specs.Book.{commandsOf}
 use Rattle.commands.proofs.Walk.{few-commands}
 use Rattle.conflicts.specs.Conflicts.{Gathered}
-use Rattle.conflicts.proofs.Gathering.{bike-place, kind-place, gathered-more}
+use Rattle.conflicts.proofs.Gathering.{kind-place, gathered-more}
 use Rattle.conflicts.proofs.gather.Statement.{statement}
 use Rattle.conflicts.proofs.gather.Tie as tie
 
@@ -23,35 +23,28 @@ loop-holds c = (omega arith, c .before .before .before .pre .2)
 head-at-requires : tie.Need-head-at-requires Inv-loop μ-loop
 head-at-requires c κs = (omega arith, c .before .before .before .before .before .pre .1)
 
-cast-bike : tie.Need-cast-bike Inv-loop μ-loop
-cast-bike c = search needs
+kind-at-requires : tie.Need-kind-at-requires Inv-loop μ-loop
+kind-at-requires c κs = (omega arith, c .before .before .before .before .before .before .pre .1)
 
-mul-bike : tie.Need-mul-bike Inv-loop μ-loop
-mul-bike c = search needs
+cast-place : tie.Need-cast-place Inv-loop μ-loop
+cast-place c = search needs
 
-kind-slot-requires : tie.Need-kind-slot-requires Inv-loop μ-loop
-kind-slot-requires c κs = search needs
+mul-place : tie.Need-mul-place Inv-loop μ-loop
+mul-place c = search needs
 
-add-kind : tie.Need-add-kind Inv-loop μ-loop
-add-kind c =
-    let o = c .before .before .before .before .before .before .before .before in
-    let l = c .before .before .before .before .loop in
-    let s = now (o .args .book) in
-    omega (arith, kind-place s (l .k) (omega arith) (c .before .before .head-at .ensures) refl (c .kind-slot .ensures))
+cast-place-2 : tie.Need-cast-place-2 Inv-loop μ-loop
+cast-place-2 c = search needs
+
+add-place : tie.Need-add-place Inv-loop μ-loop
+add-place c = search needs
 
 note-requires : tie.Need-note-requires Inv-loop μ-loop
 note-requires c κs =
     let o = c .before .before .before .before .before .before .before .before .before in
     let l = c .before .before .before .before .before .loop in
     let s = now (o .args .book) in
-    (bike-place s (l .k) (omega arith) (c .before .before .before .head-at .ensures) (l .inv .1 .size), omega (arith, few-commands s))
-
-note-requires-2 : tie.Need-note-requires-2 Inv-loop μ-loop
-note-requires-2 c κs =
-    let o = c .before .before .before .before .before .before .before .before .before .before .before .before .before in
-    let l = c .before .before .before .before .before .before .before .before .before .loop in
-    let s = now (o .args .book) in
-    (kind-place s (l .k) (omega arith) (c .before .before .before .before .before .before .before .head-at .ensures) (c .before .before .before .note .kept .0 ∙ l .inv .1 .size) (c .before .before .before .before .before .kind-slot .ensures), omega (arith, few-commands s))
+    let place = kind-place s (l .k) (omega arith) (c .before .before .before .head-at .ensures) (c .before .before .kind-at .ensures) in
+    (omega (arith, place, l .inv .1 .size), omega (arith, few-commands s))
 
 add-k : tie.Need-add-k Inv-loop μ-loop
 add-k c = omega arith
@@ -61,12 +54,11 @@ loop-less c = omega arith
 
 loop-again : tie.Need-loop-again Inv-loop μ-loop
 loop-again c =
-    let o = c .before .before .before .before .before .before .before .before .before .before .before .before .before .before .before .before in
-    let l = c .before .before .before .before .before .before .before .before .before .before .before .before .loop in
+    let o = c .before .before .before .before .before .before .before .before .before .before .before .before in
+    let l = c .before .before .before .before .before .before .before .before .loop in
     let s = now (o .args .book) in
     let inside : l .k < length (commandsOf s) = omega arith in
-    let more = gathered-more s (l .k) inside (c .before .before .before .before .before .before .before .before .before .before .head-at .ensures) (l .sets) (omega (arith, few-commands s)) (c .before .before .before .before .before .before .before .before .kind-slot .ensures) (c .before .before .before .before .before .before .note .ensures) (c .before .before .note2 .ensures) (l .inv .1) in
-    (omega arith, more)
+    (omega arith, gathered-more s (l .k) inside (c .before .before .before .before .before .before .head-at .ensures) (c .before .before .before .before .before .kind-at .ensures) (l .sets) (c .before .before .note .ensures) (l .inv .1))
 
 same-length : tie.Need-same-length Inv-loop μ-loop
 same-length c = c .before .loop .inv .1 .size ∙ sym (c .before .before .before .before .before .pre .2 .size)
@@ -85,12 +77,12 @@ gather-spec =
     μ-loop
     loop-holds
     head-at-requires
-    cast-bike
-    mul-bike
-    kind-slot-requires
-    add-kind
+    kind-at-requires
+    cast-place
+    mul-place
+    cast-place-2
+    add-place
     note-requires
-    note-requires-2
     add-k
     loop-less
     loop-again
