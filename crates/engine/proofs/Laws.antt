@@ -11,7 +11,7 @@ use borrow.Author.Tests.{lt-ltb, le-ltb, ltb-true, le-leb, lt-leb, leb-true}
 use Rattle.theory.specs.Counting.{left, right, not-true, not-false}
 use Rattle.refusals.specs.declared.Refusal.{Refusal}
 use Rattle.refusals.specs.declared.Refusal.the-variants.{Range, Size}
-use Rattle.refusals.specs.Refusals.{codeOf}
+use Rattle.refusals.specs.Refusals.{numberOf, codeOf}
 use Rattle.sets.specs.Sets.{capacity, has, withinOf}
 use Rattle.table.specs.declared.SiteTable.{SiteTable}
 use Rattle.table.specs.Table.{maxSites}
@@ -22,11 +22,11 @@ use Rattle.protocol.specs.System.{Demands, granted, _else_⨾_, verdict, known}
 use Rattle.protocol.specs.Site as protocol
 use Rattle.system.specs.Dash.{dash}
 use Rattle.layout.specs.Layout.{siteSize, siteRounds}
-use Rattle.layout.specs.Good.{Holds}
+use Rattle.layout.specs.Good.{goodSite, Holds}
 use Rattle.site.specs.Steps.{Received, Commanded, Heard}
 use Rattle.judging.specs.Outcomes.{outcome, _then_}
-use Rattle.judging.specs.Judging.{tableOf, systemOf, forSite}
-use Rattle.judging.proofs.Demands.{then-taken, then-refused, answered-taken, answered-refused, last-refused, last-taken}
+use Rattle.judging.specs.Judging.{tableOf, systemOf, anyPosition, forRules, forSite}
+use Rattle.judging.proofs.Demands.{then-taken, then-refused, answered-taken, answered-refused, last-refused, last-taken, refused-whichever}
 use Rattle.judging.proofs.Laws.{Judged, site-judged}
 use Rattle.judging.proofs.Steps.{written}
 use Rattle.engine.specs.Calls.{freshCall, receiveCommandCall, receiveAcknowledgmentCall, receiveCheckCall}
@@ -51,6 +51,21 @@ four r true false c d = refl
 four r true true false d = refl
 four r true true true false = refl
 four r true true true true = refl
+
+-- A demand that does not hold refuses, whether the one before it with the same refusal holds or not.
+either : (r : Refusal) (a b : Bool) → b ≡ false → numberOf r ≡ codeOf (verdict (a else r ⨾ b else r ⨾ granted))
+either r true b h = λ i. codeOf (verdict (sym h i else r ⨾ granted))
+either r false b h = refl
+
+-- A command number that no book has.
+pub command-beyond : (n f : ℕ) (book site : List ℕ) (m : ℕ) {k : ℕ} → k ≡ codeOf (verdict (forRules n f book (leb siteSize (length site)) then false else Range ⨾ granted))
+    → capacity ≤ m → outcome k site ≡ receiveCommandCall n f book site m
+unfolding receiveCommandCall
+command-beyond n f book site m q h =
+    let l = few-commands book in
+    refused-whichever (forRules n f book (leb siteSize (length site)))
+    (goodSite n (length (commandsOf book)) anyPosition (take siteSize site) else Range ⨾ ltb m (length (commandsOf book)) else Range ⨾ granted)
+    Range _ site q (either Range (goodSite n (length (commandsOf book)) anyPosition (take siteSize site)) _ (le-ltb m (length (commandsOf book)) (omega arith)))
 
 module _ (n f : ℕ) (book site : List ℕ) {k : ℕ} (q : k ≡ codeOf (verdict (forSite n f book true site))) where
   judged : k ≡ 0 → Judged n f book site

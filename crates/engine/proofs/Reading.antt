@@ -5,32 +5,33 @@ use mathlib.Core.Bool.{Bool, true, false, not}
 use mathlib.Core.List.{List, _++_}
 use mathlib.Core.Logic.{_⊎_, inl, inr}
 use mathlib.Core.Option.{none, some}
-use Prim.Native.Nat.{ℕ, _+_, _/_, _≤_, _<_}
+use Prim.Native.Nat.{ℕ, _+_, _/_, _%_, _≤_, _<_}
 use native.Mathlib.Omega.{arith}
 use lib.Dec.{leb, ltb}
 use lib.ListN.{length, take, drop, getD}
-use borrow.Author.Tests.{lt-ltb, le-ltb, lt-leb, le-leb}
+use borrow.Author.Tests.{lt-ltb, le-ltb, lt-leb, le-leb, ne-eqb}
 use Rattle.theory.specs.Sets.{pick}
 use Rattle.theory.specs.Lists.{nth}
 use Rattle.theory.specs.Counting.{not-true, not-false, lt-or-le}
-use Rattle.refusals.specs.declared.Refusal.the-variants.{Range}
+use Rattle.refusals.specs.declared.Refusal.the-variants.{Form, Range}
 use Rattle.refusals.specs.declared.Verdict.{Verdict}
 use Rattle.refusals.specs.Refusals.{codeOf}
 use Rattle.table.specs.Table.{maxSites}
 use Rattle.commands.specs.Book.{commandsOf}
-use Rattle.protocol.specs.System.{_else_⨾_, verdict}
+use Rattle.protocol.specs.System.{Demands, granted, _else_⨾_, verdict}
 use Rattle.protocol.specs.Recovery.{entries}
 use Rattle.protocol.specs.Site as protocol
 use Rattle.system.specs.Dash.{lastRound}
 use Rattle.entries.specs.declared.Entry.{Entry}
-use Rattle.entries.specs.Entries.{entrySize, entryOf, viewEntry, logTo, logOf, inRangeOf, Counting}
+use Rattle.entries.specs.Entries.{entrySize, entryOf, viewEntry, logTo, logOf, inRangeOf, goodTo, Counting}
 use Rattle.entries.proofs.Judging.{in-range-told}
 use Rattle.entries.proofs.Logs.{log-nth, log-end, log-of-take}
 use Rattle.layout.specs.Layout.{siteSize, headOf}
+use Rattle.layout.specs.Good.{goodSite}
 use Rattle.site.specs.Steps.{ReadEntry}
 use Rattle.judging.specs.Outcomes.{outcome, answered, _then_}
-use Rattle.judging.specs.Judging.{tableOf, systemOf, spanIn, siteIn, withSite, entriesIn, forSiteAndLog}
-use Rattle.judging.proofs.Demands.{then-taken, then-refused, answered-refused}
+use Rattle.judging.specs.Judging.{tableOf, systemOf, spanIn, siteIn, withSite, entriesIn, isWhole, forRules, forSiteAndLog}
+use Rattle.judging.proofs.Demands.{then-taken, then-refused, answered-refused, refused-whichever}
 use Rattle.judging.proofs.Laws.{Judged, JudgedLog, log-judged}
 use Rattle.judging.proofs.Steps.{carried}
 use Rattle.engine.specs.Next.{nextInRangeOf, thirdOf}
@@ -125,6 +126,22 @@ module _ (n f : ℕ) (book log : List ℕ) (p : ℕ) where
           ∙ ap (protocol.noThird (systemOf n f book) (take p (logOf log))) (sym (past log p h))
 
 -- ---- the call
+
+-- What a log read asks for after the log's form.
+abbrev afterForm : ℕ → ℕ → List ℕ → List ℕ → List ℕ → Demands
+afterForm n f book site log =
+    goodSite n (length (commandsOf book)) (entriesIn log) (take siteSize site) else Range
+    ⨾ goodTo log n (length (commandsOf book)) (siteIn n f book site .position) else Range
+    ⨾ protocol.nextInRange (systemOf n f book) (protocol.next (systemOf n f book) (siteIn n f book site) (logOf log)) else Range
+    ⨾ protocol.forLogRead (systemOf n f book) (siteIn n f book site) (logOf log)
+
+-- A log that ends in a cut entry.
+pub read-cut : (n f : ℕ) (book site log : List ℕ) {k : ℕ} → k ≡ codeOf (verdict (forRules n f book (leb siteSize (length site)) then false else Form ⨾ granted))
+    → (length log % entrySize ≡ 0 → ⊥) → outcome k site ≡ logReadCall n f book site log
+unfolding logReadCall
+read-cut n f book site log q h =
+    refused-whichever (forRules n f book (leb siteSize (length site))) (isWhole log else Form ⨾ afterForm n f book site log) Form _ site q
+    (λ i. codeOf (verdict (sym (ne-eqb (length log % entrySize) 0 h) i else Form ⨾ afterForm n f book site log)))
 
 module _ (n f : ℕ) (book site log : List ℕ) {k : ℕ} (q : k ≡ codeOf (verdict (forSiteAndLog n f book true site log))) where
   pub read-refused : (k ≡ 0 → ⊥) → outcome k site ≡ logReadCall n f book site log

@@ -15,6 +15,7 @@ use entries::Entry;
 use judging::REFUSED_RANGE;
 use judging::REFUSED_SIZE;
 use layout::Site;
+use refusals::Refusal;
 use sets::Set;
 
 // A fresh site is written: 0 or 9.
@@ -28,7 +29,7 @@ pub fn fresh(site: &mut [u8]) -> u32
     0
 }
 
-// A command reached the site.
+// A command reached the site. A number that no book has is refused without a look at the site.
 pub fn receive_command(
     sites: usize,
     faults: usize,
@@ -38,6 +39,9 @@ pub fn receive_command(
 ) -> u32
     ensures { λ r. ⌜ outcome r (now (site .exit)) ≡ receiveCommandCall sites faults (now (book .entry)) (now (site .entry)) command ⌝ }
 {
+    if command >= Set::CAPACITY {
+        return judging::refuse(true, sites, faults, book, &site[..], Refusal::Range);
+    }
     let judged = judging::judge_site(true, sites, faults, book, &site[..]);
     if judged.code != 0 {
         return judged.code;
@@ -116,10 +120,13 @@ fn next_is_third(log: &[u8], position: usize, counts: &[u8]) -> bool
     entries::counted(counts, site, round) >= 2
 }
 
-// The next log entry is read.
+// The next log entry is read. A log that ends in a cut entry is refused without a look at the site.
 pub fn log_read(sites: usize, faults: usize, book: &[u8], site: &mut [u8], log: &[u8]) -> u32
     ensures { λ r. ⌜ outcome r (now (site .exit)) ≡ logReadCall sites faults (now (book .entry)) (now (site .entry)) (now (log .entry)) ⌝ }
 {
+    if log.len() % Entry::BYTES != 0 {
+        return judging::refuse(true, sites, faults, book, &site[..], Refusal::Form);
+    }
     let mut counts = [0u8; entries::CELLS];
     let judged = judging::judge_and_count(true, sites, faults, book, &site[..], log, &mut counts);
     if judged.code != 0 {

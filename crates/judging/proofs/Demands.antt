@@ -88,3 +88,13 @@ module _ (d : Demands) (t : Bool) (r : Refusal) {A : Type 0} (later before : A) 
 
   pub last-taken : t ≡ true → outcome 0 later ≡ answered (verdict (d then t else r ⨾ granted)) later before
   last-taken e = answered-taken later before (then-taken d (t else r ⨾ granted) q z ∙ (λ i. verdict (e i else r ⨾ granted)))
+
+-- A call that has a refusal after its first demands, whichever demand gives it: the first refusal of the demands before is the answer, and else this one.
+pub refused-whichever : (d e : Demands) (r : Refusal) {A : Type 0} (later before : A) {code : ℕ} → code ≡ codeOf (verdict (d then false else r ⨾ granted))
+    → numberOf r ≡ codeOf (verdict e) → outcome code before ≡ answered (verdict (d then e)) later before
+refused-whichever d e r {A} later before q p = go d q
+  where
+    go : (d : Demands) {code : ℕ} → code ≡ codeOf (verdict (d then false else r ⨾ granted)) → outcome code before ≡ answered (verdict (d then e)) later before
+    go granted q = code-refused (verdict e) later before (q ∙ p) (λ z. number-nonzero r (sym q ∙ z))
+    go (true else x ⨾ d) q = go d q
+    go (false else x ⨾ d) q = λ i. outcome (q i) before

@@ -33,7 +33,7 @@ use Rattle.layout.specs.Good.{goodSite}
 use Rattle.lent.proofs.Judged.{site-good}
 use Rattle.judging.specs.Outcomes.{isTaken, _then_}
 use Rattle.judging.specs.declared.Judgement.{Judgement}
-use Rattle.judging.specs.Judging.{anyPosition, entriesIn, isWhole, forTable, forBook, forFirst, forLent, forSite, forSiteAndLog, placesAfter, Judges}
+use Rattle.judging.specs.Judging.{anyPosition, entriesIn, isWhole, forTable, forBook, forFirst, forRules, forLent, forSite, forSiteAndLog, placesAfter, Judges}
 use Rattle.judging.proofs.Demands.{met, taken-zero, then-taken, then-code}
 
 -- The first bytes of a buffer that is long enough.
@@ -84,6 +84,19 @@ demand-met t r d h = λ i. verdict (not-false t h i else r ⨾ d)
 -- After demands that are met, others answer.
 pub then-answer : (d e : Demands) {k l : ℕ} → k ≡ codeOf (verdict d) → k ≡ 0 → l ≡ codeOf (verdict e) → l ≡ codeOf (verdict (d then e))
 then-answer d e q z p = p ∙ ap codeOf (sym (then-taken d e q z))
+
+-- ---- a refusal whatever the site is
+
+module _ (n f : ℕ) (book : List ℕ) (sized : Bool) (r : Refusal) {k : ℕ} (q : k ≡ codeOf (verdict (forFirst n f sized))) where
+  pub refuse-first : (k ≡ 0 → ⊥) → k ≡ codeOf (verdict (forRules n f book sized then false else r ⨾ granted))
+  refuse-first z = then-code (forFirst n f sized) (isTaken (judgeBook book) else Book ⨾ false else r ⨾ granted) q z
+
+  module _ (z : k ≡ 0) {l : ℕ} (p : l ≡ codeOf (verdict (forBook book))) where
+    pub refuse-book : (l ≡ 0 → ⊥) → l ≡ codeOf (verdict (forRules n f book sized then false else r ⨾ granted))
+    refuse-book y = then-answer (forFirst n f sized) (forBook book then false else r ⨾ granted) q z (then-code (forBook book) (false else r ⨾ granted) p y)
+
+    pub refuse-last : {m : ℕ} → m ≡ numberOf r → l ≡ 0 → m ≡ codeOf (verdict (forRules n f book sized then false else r ⨾ granted))
+    refuse-last e y = then-answer (forFirst n f sized) (forBook book then false else r ⨾ granted) q z (then-answer (forBook book) (false else r ⨾ granted) p y e)
 
 -- ---- the book, the log's form and the site
 

@@ -57,6 +57,10 @@ forBook book = isTaken (judgeBook book) else Book ⨾ granted
 abbrev pub forFirst : ℕ → ℕ → Bool → Demands
 forFirst sites faults sized = sized else Size ⨾ goodTable sites faults 0 else Table ⨾ granted
 
+-- Sizes, the site table and the book, which every call that is lent a site judges before the log and the site.
+abbrev pub forRules : ℕ → ℕ → List ℕ → Bool → Demands
+forRules sites faults book sized = sized else Size ⨾ goodTable sites faults 0 else Table ⨾ isTaken (judgeBook book) else Book ⨾ granted
+
 -- After them: the book, the log's form, and the site, for so many log entries.
 abbrev pub forLent : ℕ → List ℕ → Bool → ℕ → List ℕ → Demands
 forLent sites book whole entries site =

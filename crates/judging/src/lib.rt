@@ -1,6 +1,6 @@
 // What every call judges of what it is lent, in document 01's order: sizes (9), the site table (2), the book (1), the log's form (3), the site (4).
 ghost use mathlib.Core.Path.{_≡_};
-ghost use mathlib.Core.Bool.{_&&_};
+ghost use mathlib.Core.Bool.{false, _&&_};
 ghost use Prim.Native.Nat.{_≤_};
 ghost use lib.Dec.{leb};
 ghost use lib.ListN.{length, take, replicate};
@@ -10,11 +10,13 @@ ghost use Rattle.commands.specs.Book.{maxCommands, walkedPlaces};
 ghost use Rattle.entries.specs.Entries.{cells, Counting};
 ghost use Rattle.layout.specs.Layout.{siteSize, headOf};
 ghost use Rattle.refusals.specs.Refusals.{codeOf};
-ghost use Rattle.protocol.specs.System.{verdict};
-ghost use Rattle.judging.specs.Judging.{forTable, forBook, forFirst, forLent, forSite, forSiteAndLog, placesAfter, Judges};
+ghost use Rattle.protocol.specs.System.{granted, _else_⨾_, verdict};
+ghost use Rattle.judging.specs.Outcomes.{_then_};
+ghost use Rattle.judging.specs.Judging.{forTable, forBook, forFirst, forRules, forLent, forSite, forSiteAndLog, placesAfter, Judges};
 use commands::Measured;
 use entries::Entry;
 use layout::Site;
+use refusals::Refusal;
 use table::Judged;
 use table::SiteTable;
 
@@ -201,6 +203,29 @@ pub fn note_site_and_log(
 {
     let mut counts = [0u8; entries::CELLS];
     note_and_count(enough, sites, faults, book, site, log, places, &mut counts)
+}
+
+// What a call answers that has a refusal whatever the site is: 9, 2 or 1, and else the refusal's number. The site need not be looked at.
+pub fn refuse(
+    enough: bool,
+    sites: usize,
+    faults: usize,
+    book: &[u8],
+    site: &[u8],
+    refusal: Refusal,
+) -> u32
+    ensures { λ r. ⌜ r ≡ codeOf (verdict (forRules sites faults (now (book .entry)) (enough && leb siteSize (length (now (site .entry)))) then false else refusal ⨾ granted)) ⌝ }
+{
+    let sized = enough & (site.len() >= Site::SIZE);
+    let first = judge_first(sized, sites, faults);
+    if first != 0 {
+        return first;
+    }
+    let second = judge_book(book);
+    if second != 0 {
+        return second;
+    }
+    refusals::number(refusal)
 }
 
 // The log position of a site.
