@@ -3,7 +3,7 @@
 use mathlib.Core.Path.{_≡_, refl, sym, ap, subst, _∙_}
 use mathlib.Core.Bool.{Bool, true, false, cond, not, _&&_}
 use mathlib.Core.List.{List}
-use Prim.Native.Nat.{ℕ, _*_, _/_, _%_, _≤_}
+use Prim.Native.Nat.{ℕ, _*_, _/_, _%_, _≤_, _<_}
 use native.Mathlib.Omega.{arith}
 use lib.Dec.{leb}
 use lib.ListN.{length, take, length-take}
@@ -24,7 +24,7 @@ use Rattle.commands.specs.declared.Measured.{Measured}
 use Rattle.commands.specs.declared.Measured.the-variants.{Commands, Unreadable}
 use Rattle.commands.specs.Book.{maxCommands, commandsOf, placesOf, judgeBook, measureBook, walkedPlaces}
 use Rattle.commands.proofs.Noting.{note-noted}
-use Rattle.commands.proofs.Walk.{is-counted, not-counted}
+use Rattle.commands.proofs.Walk.{few-commands, is-counted, not-counted}
 use Rattle.protocol.specs.System.{Demands, granted, _else_⨾_, verdict}
 use Rattle.entries.specs.Entries.{entrySize, goodTo}
 use Rattle.layout.specs.Layout.{siteSize, headOf}
@@ -33,7 +33,7 @@ use Rattle.layout.specs.Good.{goodSite}
 use Rattle.lent.proofs.Judged.{site-good}
 use Rattle.judging.specs.Outcomes.{isTaken, _then_}
 use Rattle.judging.specs.declared.Judgement.{Judgement}
-use Rattle.judging.specs.Judging.{anyPosition, entriesIn, isWhole, forTable, forBook, forFirst, forRules, forLent, forSite, forSiteAndLog, placesAfter, Judges}
+use Rattle.judging.specs.Judging.{anyPosition, entriesIn, isWhole, forTable, forBook, forFirst, forRules, forLent, forSite, forSiteAndLog, placesAfter, packing, unpacked, Judges}
 use Rattle.judging.proofs.Demands.{met, taken-zero, then-taken, then-code}
 
 -- The first bytes of a buffer that is long enough.
@@ -98,6 +98,14 @@ module _ (n f : ℕ) (book : List ℕ) (sized : Bool) (r : Refusal) {k : ℕ} (q
     pub refuse-last : {m : ℕ} → m ≡ numberOf r → l ≡ 0 → m ≡ codeOf (verdict (forRules n f book sized then false else r ⨾ granted))
     refuse-last e y = then-answer (forFirst n f sized) (forBook book then false else r ⨾ granted) q z (then-answer (forBook book) (false else r ⨾ granted) p y e)
 
+-- ---- a judgement as one number
+
+pub packed-refused : (r k : ℕ) → r ≡ packing * k → (unpacked r .code ≡ k) × (unpacked r .commands ≡ 0)
+packed-refused r k e = (omega arith, omega arith)
+
+pub packed-commands : (r : ℕ) → r < packing → (unpacked r .code ≡ 0) × (unpacked r .commands ≡ r)
+packed-commands r h = (omega arith, omega arith)
+
 -- ---- the book, the log's form and the site
 
 module _ (n : ℕ) (book : List ℕ) (whole : Bool) (entries : ℕ) (site : List ℕ) where
@@ -128,6 +136,9 @@ module _ (n : ℕ) (book : List ℕ) (whole : Bool) (entries : ℕ) (site : List
 
       pub lent-bad : {j : Judgement} → (j .code ≡ 4) × (j .commands ≡ 0) → not t ≡ true → Judges (verdict (forLent n book whole entries site)) book j
       lent-bad e b = judges-refused book e (by-site (demand-not t Range granted b)) (λ z. omega arith)
+
+      pub lent-few : commands < packing
+      lent-few = let l = few-commands book in let e = is-counted book h .1 in omega arith
 
       pub lent-good : {j : Judgement} → j .code ≡ 0 → j .commands ≡ commands → not t ≡ false → Judges (verdict (forLent n book whole entries site)) book j
       lent-good e c b =

@@ -46,6 +46,13 @@ pub record Judges (v : Verdict) (book : List ℕ) (j : Judgement) : Type 0 where
   pub taken : j .code ≡ 0 → j .commands ≡ length (commandsOf book)
   pub refused : (j .code ≡ 0 → ⊥) → j .commands ≡ 0
 
+-- A judgement as one number: the number of the refusal times this, or the number of commands.
+abbrev pub packing : ℕ
+packing = 128
+
+abbrev pub unpacked : ℕ → Judgement
+unpacked k = record { code = k / packing; commands = k % packing }
+
 -- The site table and the book.
 abbrev pub forTable : ℕ → ℕ → ℕ → Demands
 forTable sites faults mask = goodTable sites faults mask else Table ⨾ granted

@@ -1,7 +1,7 @@
 // What every call judges of what it is lent, in document 01's order: sizes (9), the site table (2), the book (1), the log's form (3), the site (4).
 ghost use mathlib.Core.Path.{_≡_};
 ghost use mathlib.Core.Bool.{false, _&&_};
-ghost use Prim.Native.Nat.{_≤_};
+ghost use Prim.Native.Nat.{_*_, _≤_};
 ghost use lib.Dec.{leb};
 ghost use lib.ListN.{length, take, replicate};
 ghost use lib.Seq.{sets};
@@ -12,7 +12,7 @@ ghost use Rattle.layout.specs.Layout.{siteSize, headOf};
 ghost use Rattle.refusals.specs.Refusals.{codeOf};
 ghost use Rattle.protocol.specs.System.{granted, _else_⨾_, verdict};
 ghost use Rattle.judging.specs.Outcomes.{_then_};
-ghost use Rattle.judging.specs.Judging.{forTable, forBook, forFirst, forRules, forLent, forSite, forSiteAndLog, placesAfter, Judges};
+ghost use Rattle.judging.specs.Judging.{forTable, forBook, forFirst, forRules, forLent, forSite, forSiteAndLog, placesAfter, packing, unpacked, Judges};
 use commands::Measured;
 use entries::Entry;
 use layout::Site;
@@ -79,6 +79,28 @@ fn judge_first(sized: bool, sites: usize, faults: usize) -> u32
     judge_table(sites, faults, 0)
 }
 
+// A judgement as one number, which is answered in a register: the number of the refusal times this, or the number of commands.
+const PACKING: usize = 128;
+
+// A refusal as such a number.
+fn pack(code: u32) -> usize
+    requires { ⌜ code ≤ 9 ⌝ }
+    ensures { λ r. ⌜ r ≡ packing * code ⌝ }
+{
+    PACKING * (code as usize)
+}
+
+// The judgement that such a number stands for.
+fn unpack(number: usize) -> Judgement
+    requires { ⌜ number ≤ 9 * packing ⌝ }
+    ensures { λ r. ⌜ r ≡ unpacked number ⌝ }
+{
+    Judgement {
+        code: (number / PACKING) as u32,
+        commands: number % PACKING,
+    }
+}
+
 // The book, the log's form and the site, for so many log entries: 0, 1, 3 or 4. The places that a walk through the book comes to are noted.
 fn note_lent(
     sites: usize,
@@ -87,22 +109,22 @@ fn note_lent(
     whole: bool,
     entries: usize,
     places: &mut [u16],
-) -> Judgement
+) -> usize
     requires { ⌜ (sites ≤ maxSites) × (maxCommands ≤ length (now places)) ⌝ }
-    ensures { λ r. ⌜ Judges (verdict (forLent sites (now (book .entry)) whole entries (now (site .entry)))) (now (book .entry)) r
-        × (now (places .exit) ≡ sets (now (places .entry)) 0 (walkedPlaces (now (book .entry)))) ⌝ }
+    ensures { λ r. ⌜ Judges (verdict (forLent sites (now (book .entry)) whole entries (now (site .entry)))) (now (book .entry)) (unpacked r)
+        × (r ≤ 9 * packing) × (now (places .exit) ≡ sets (now (places .entry)) 0 (walkedPlaces (now (book .entry)))) ⌝ }
 {
     let measured = commands::note(book, places);
     let Measured::Commands(commands) = measured else {
-        return refused(REFUSED_BOOK);
+        return pack(REFUSED_BOOK);
     };
     if !whole {
-        return refused(REFUSED_FORM);
+        return pack(REFUSED_FORM);
     }
     if !lent::judge(site, sites, commands, entries) {
-        return refused(REFUSED_RANGE);
+        return pack(REFUSED_RANGE);
     }
-    Judgement { code: 0, commands }
+    commands
 }
 
 // What a call that is lent a site judges, with the places of the book's commands noted; `enough`: its other buffers are long enough. 0, 9, 2, 1 or 4.
@@ -123,7 +145,8 @@ pub fn note_site(
     if first != 0 {
         return refused(first);
     }
-    note_lent(sites, book, &site[..Site::SIZE], true, ANY_POSITION, places)
+    let number = note_lent(sites, book, &site[..Site::SIZE], true, ANY_POSITION, places);
+    unpack(number)
 }
 
 // The same without the places.
@@ -158,7 +181,8 @@ pub fn note_and_count(
     }
     let whole = log.len() % Entry::BYTES == 0;
     let entries = log.len() / Entry::BYTES;
-    let judged = note_lent(sites, book, &site[..Site::SIZE], whole, entries, places);
+    let number = note_lent(sites, book, &site[..Site::SIZE], whole, entries, places);
+    let judged = unpack(number);
     if judged.code != 0 {
         return judged;
     }

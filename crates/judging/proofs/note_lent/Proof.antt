@@ -1,8 +1,9 @@
 -- `judging::note_lent`: a law for each answer.
 -- Assumes nothing.
-use mathlib.Core.Path.{refl, sym, _∙_}
+use mathlib.Core.Path.{sym, _∙_}
+use native.Mathlib.Omega.{arith}
 use denote.Ref.{now}
-use Rattle.judging.proofs.Laws.{lent-unreadable, lent-cut, lent-bad, lent-good}
+use Rattle.judging.proofs.Laws.{packed-refused, packed-commands, lent-unreadable, lent-cut, lent-bad, lent-few, lent-good}
 use borrow.Author.Needs.{needs}
 use Rattle.judging.proofs.note_lent.Statement.{statement}
 use Rattle.judging.proofs.note_lent.Tie as tie
@@ -16,8 +17,8 @@ enum-known-measured c = search needs
 enum-told : tie.Need-enum-told
 enum-told c = search needs
 
-refused-requires : tie.Need-refused-requires
-refused-requires c κs = search needs
+pack-requires : tie.Need-pack-requires
+pack-requires c κs = search needs
 
 same-length : tie.Need-same-length
 same-length c = search needs
@@ -26,10 +27,10 @@ returns : tie.Need-returns
 returns c =
     let a = c .before .before .before .before .before .before .before .before .before .before .args in
     let n = c .before .before .before .before .before .note .ensures in
-    (lent-unreadable (a .sites) (now (a .book)) (a .whole) (a .entries) (now (a .site)) (c .refused .ensures) (sym (n .0) ∙ c .before .enum-told .given .1), n .1)
+    (lent-unreadable (a .sites) (now (a .book)) (a .whole) (a .entries) (now (a .site)) (packed-refused _ 1 (c .pack .ensures)) (sym (n .0) ∙ c .before .enum-told .given .1), omega (arith, c .pack .ensures), n .1)
 
-refused-requires-2 : tie.Need-refused-requires-2
-refused-requires-2 c κs = search needs
+pack-requires-2 : tie.Need-pack-requires-2
+pack-requires-2 c κs = search needs
 
 same-length-2 : tie.Need-same-length-2
 same-length-2 c = search needs
@@ -38,13 +39,13 @@ returns-2 : tie.Need-returns-2
 returns-2 c =
     let a = c .before .before .before .before .before .before .before .before .before .before .before .before .args in
     let n = c .before .before .before .before .before .before .before .note .ensures in
-    (lent-cut (a .sites) (now (a .book)) (a .whole) (a .entries) (now (a .site)) (sym (n .0) ∙ c .before .before .before .measured .given .1) (c .refused2 .ensures) (c .before .if1 .taken), n .1)
+    (lent-cut (a .sites) (now (a .book)) (a .whole) (a .entries) (now (a .site)) (sym (n .0) ∙ c .before .before .before .measured .given .1) (packed-refused _ 3 (c .pack2 .ensures)) (c .before .if1 .taken), omega (arith, c .pack2 .ensures), n .1)
 
 judge-requires : tie.Need-judge-requires
 judge-requires c κs = search needs
 
-refused-requires-3 : tie.Need-refused-requires-3
-refused-requires-3 c κs = search needs
+pack-requires-3 : tie.Need-pack-requires-3
+pack-requires-3 c κs = search needs
 
 same-length-3 : tie.Need-same-length-3
 same-length-3 c = search needs
@@ -53,7 +54,7 @@ returns-3 : tie.Need-returns-3
 returns-3 c =
     let a = c .before .before .before .before .before .before .before .before .before .before .before .before .before .before .args in
     let n = c .before .before .before .before .before .before .before .before .before .note .ensures in
-    (lent-bad (a .sites) (now (a .book)) (a .whole) (a .entries) (now (a .site)) (sym (n .0) ∙ c .before .before .before .before .before .measured .given .1) (c .before .before .before .if1 .left) (c .before .before .judge .ensures) (c .refused3 .ensures) (c .before .if2 .taken), n .1)
+    (lent-bad (a .sites) (now (a .book)) (a .whole) (a .entries) (now (a .site)) (sym (n .0) ∙ c .before .before .before .before .before .measured .given .1) (c .before .before .before .if1 .left) (c .before .before .judge .ensures) (packed-refused _ 4 (c .pack3 .ensures)) (c .before .if2 .taken), omega (arith, c .pack3 .ensures), n .1)
 
 same-length-4 : tie.Need-same-length-4
 same-length-4 c = search needs
@@ -62,7 +63,10 @@ returns-4 : tie.Need-returns-4
 returns-4 c =
     let a = c .before .before .before .before .before .before .before .before .before .before .before .before .before .args in
     let n = c .before .before .before .before .before .before .before .before .note .ensures in
-    (lent-good (a .sites) (now (a .book)) (a .whole) (a .entries) (now (a .site)) (sym (n .0) ∙ c .before .before .before .before .measured .given .1) (c .before .before .if1 .left) (c .before .judge .ensures) refl refl (c .if2 .left), n .1)
+    let counted = sym (n .0) ∙ c .before .before .before .before .measured .given .1 in
+    let few = lent-few (a .sites) (now (a .book)) (a .whole) (a .entries) (now (a .site)) counted (c .before .before .if1 .left) (c .before .judge .ensures) in
+    let packed = packed-commands _ few in
+    (lent-good (a .sites) (now (a .book)) (a .whole) (a .entries) (now (a .site)) counted (c .before .before .if1 .left) (c .before .judge .ensures) (packed .0) (packed .1) (c .if2 .left), omega (arith, few), n .1)
 
 pub note-lent-spec : {M : Type 1} → statement M
 note-lent-spec =
@@ -71,14 +75,14 @@ note-lent-spec =
     note-requires
     enum-known-measured
     enum-told
-    refused-requires
+    pack-requires
     same-length
     returns
-    refused-requires-2
+    pack-requires-2
     same-length-2
     returns-2
     judge-requires
-    refused-requires-3
+    pack-requires-3
     same-length-3
     returns-3
     same-length-4

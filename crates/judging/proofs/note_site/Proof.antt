@@ -1,11 +1,13 @@
 -- `judging::note_site`: a law for each answer.
 -- Assumes nothing.
-use mathlib.Core.Path.{_∙_}
+use mathlib.Core.Path.{sym, subst, _∙_}
 use mathlib.Core.Bool.{_&&_}
 use lib.Dec.{leb}
 use lib.ListN.{length}
 use denote.Ref.{now}
 use Rattle.layout.specs.Layout.{siteSize}
+use Rattle.protocol.specs.System.{verdict}
+use Rattle.judging.specs.Judging.{forSite, Judges}
 use Rattle.judging.proofs.Laws.{first-length, places-kept, places-noted, first-few, first-sized, site-first, site-judges}
 use borrow.Author.Needs.{needs}
 use Rattle.judging.proofs.note_site.Statement.{statement}
@@ -33,15 +35,19 @@ note-lent-requires c κs =
     let a = c .before .before .before .before .before .before .before .args in
     (first-few (a .sites) (a .faults) (a .enough && leb siteSize (length (now (a .site)))) (now (a .book)) (now (a .places)) (c .before .before .before .judge-first .ensures) (c .before .before .if1 .left), c .before .before .before .before .before .before .before .pre)
 
+unpack-requires : tie.Need-unpack-requires
+unpack-requires c κs = c .before .before .note-lent .ensures .1
+
 same-length : tie.Need-same-length
 same-length c = search needs
 
 returns-2 : tie.Need-returns-2
 returns-2 c =
-    let a = c .before .before .before .before .before .before .before .before .before .before .args in
-    let q = c .before .before .before .before .before .before .judge-first .ensures in
-    let z = c .before .before .before .before .before .if1 .left in
-    (site-judges (a .sites) (a .faults) (now (a .book)) (a .enough) (now (a .site)) q z (c .before .before .note-lent .ensures .0), c .before .before .note-lent .ensures .1 ∙ places-noted (a .sites) (a .faults) (a .enough && leb siteSize (length (now (a .site)))) (now (a .book)) (now (a .places)) q z)
+    let a = c .before .before .before .before .before .before .before .before .before .before .before .args in
+    let q = c .before .before .before .before .before .before .before .judge-first .ensures in
+    let z = c .before .before .before .before .before .before .if1 .left in
+    let n = c .before .before .before .note-lent .ensures in
+    (subst (Judges (verdict (forSite (a .sites) (a .faults) (now (a .book)) (a .enough) (now (a .site)))) (now (a .book))) (sym (c .unpack .ensures)) (site-judges (a .sites) (a .faults) (now (a .book)) (a .enough) (now (a .site)) q z (n .0)), n .2 ∙ places-noted (a .sites) (a .faults) (a .enough && leb siteSize (length (now (a .site)))) (now (a .book)) (now (a .places)) q z)
 
 pub note-site-spec : {M : Type 1} → statement M
 note-site-spec =
@@ -52,5 +58,6 @@ note-site-spec =
     returns
     slice-aggregate-note-lent
     note-lent-requires
+    unpack-requires
     same-length
     returns-2)
