@@ -4,14 +4,14 @@ use mathlib.Core.Path.{_≡_, refl, sym, ap, _∙_}
 use mathlib.Core.Bool.{Bool, true, false, _&&_, _||_, not}
 use mathlib.Core.List.{List}
 use mathlib.Core.Logic.{_⊎_, inl, inr, ⊎-elim}
-use Prim.Native.Nat.{ℕ, zero, suc, _+_, _≤_, _<_}
+use Prim.Native.Nat.{ℕ, zero, suc, _+_, _-_, _≤_, _<_}
 use native.Mathlib.Numerals.{add-one}
 use native.Mathlib.Decide.{ℕ-discrete}
 use native.Mathlib.Omega.{arith}
 use lib.Dec.{eqb}
 use borrow.Author.Tests.{eq-eqb, ne-eqb}
 use Rattle.theory.specs.Sets.{all}
-use Rattle.theory.specs.Counting.{both, left, right, either, or-true, lt-or-le, last-or-below, never, not-true, not-false, same-test, all-none, all-of, all-ext}
+use Rattle.theory.specs.Counting.{both, left, right, either, or-true, lt-or-le, last-or-below, never, not-true, not-false, same-test, all-none, all-at, all-of, all-ext}
 use Rattle.sets.specs.declared.Set.{Set}
 use Rattle.sets.specs.Sets.{least, inSet, emptyOf, unionOf, withinOf}
 use Rattle.sets.proofs.Laws.{in-empty, in-union, within-at, within-of, within-all, least-le, least-in, least-before}
@@ -39,20 +39,24 @@ module _ (b : List ℕ) (m : ℕ) where
   abbrev setsAt : ℕ → Bool
   setsAt i = withinOf (entryOf b i .nc) m && withinOf (entryOf b i .c) m
 
-  pub sets-none : {ncs cs : Set} → ncs ≡ emptyOf → cs ≡ emptyOf → (withinOf ncs m && withinOf cs m) ≡ setsTo b m 0
-  sets-none en ec =
-      let none = within-of emptyOf m (λ j l k. absurd (never (inSet emptyOf j) k (in-empty j))) in
-      (λ i. withinOf (en i) m && withinOf (ec i) m) ∙ both (withinOf emptyOf m) (withinOf emptyOf m) none none ∙ sym (all-none setsAt)
+  -- The sets of k entries at some places are in range.
+  abbrev pub setsFrom : (ℕ → ℕ) → ℕ → Bool
+  setsFrom at k = all k (λ i. setsAt (at i))
 
-  pub sets-more : (i : ℕ) (ncs cs : Set) {nc c ncs′ cs′ : Set} → (withinOf ncs m && withinOf cs m) ≡ setsTo b m i → nc ≡ entryOf b i .nc → c ≡ entryOf b i .c
-      → ncs′ ≡ unionOf ncs nc → cs′ ≡ unionOf cs c → (withinOf ncs′ m && withinOf cs′ m) ≡ setsTo b m (i + 1)
+  pub sets-none : (at : ℕ → ℕ) {ncs cs : Set} → ncs ≡ emptyOf → cs ≡ emptyOf → (withinOf ncs m && withinOf cs m) ≡ setsFrom at 0
+  sets-none at en ec =
+      let none = within-of emptyOf m (λ j l k. absurd (never (inSet emptyOf j) k (in-empty j))) in
+      (λ i. withinOf (en i) m && withinOf (ec i) m) ∙ both (withinOf emptyOf m) (withinOf emptyOf m) none none ∙ sym (all-none (λ i. setsAt (at i)))
+
+  pub sets-more : (at : ℕ → ℕ) (i : ℕ) (ncs cs : Set) {nc c ncs′ cs′ : Set} → (withinOf ncs m && withinOf cs m) ≡ setsFrom at i → nc ≡ entryOf b (at i) .nc
+      → c ≡ entryOf b (at i) .c → ncs′ ≡ unionOf ncs nc → cs′ ≡ unionOf cs c → (withinOf ncs′ m && withinOf cs′ m) ≡ setsFrom at (i + 1)
   unfolding all
-  sets-more i ncs cs {nc} {c} h en ec fn fc =
+  sets-more at i ncs cs {nc} {c} h en ec fn fc =
       (λ j. withinOf (fn j) m && withinOf (fc j) m)
       ∙ (λ j. within-union ncs nc m j && within-union cs c m j)
       ∙ swap (withinOf ncs m) (withinOf nc m) (withinOf cs m) (withinOf c m)
       ∙ (λ j. h j && (withinOf (en j) m && withinOf (ec j) m))
-      ∙ ap (λ (x : ℕ). all x setsAt) (sym (add-one i))
+      ∙ ap (λ (x : ℕ). all x (λ k. setsAt (at k))) (sym (add-one i))
     where
       swap : (p q r s : Bool) → ((p && q) && (r && s)) ≡ ((p && r) && (q && s))
       swap true true r s = refl
@@ -60,9 +64,36 @@ module _ (b : List ℕ) (m : ℕ) where
       swap true false false s = refl
       swap false q r s = refl
 
-  pub sets-end : (i k : ℕ) (ncs cs : Set) {all : Set} → (withinOf ncs m && withinOf cs m) ≡ setsTo b m i → i ≡ k → all ≡ unionOf ncs cs
-      → {t : Bool} → t ≡ withinOf all m → t ≡ setsTo b m k
-  sets-end i k ncs cs h q e et = et ∙ ap (λ (x : Set). withinOf x m) e ∙ within-union ncs cs m ∙ h ∙ ap (λ (x : ℕ). setsTo b m x) q
+  -- Two halves that may share an entry are all entries.
+  halves : (k later half : ℕ) → later ≤ half → later + half ≡ k → (setsFrom (λ i. i) half && setsFrom (λ i. later + i) half) ≡ setsTo b m k
+  halves k later half l e = same-test (setsFrom (λ i. i) half && setsFrom (λ i. later + i) half) (setsTo b m k) joined apart
+    where
+      joined : (setsFrom (λ i. i) half && setsFrom (λ i. later + i) half) ≡ true → setsTo b m k ≡ true
+      joined h = all-of k setsAt (λ i li. ⊎-elim (before i) (after i li) (lt-or-le i half))
+        where
+          before : (i : ℕ) → i < half → setsAt i ≡ true
+          before i li = all-at half setsAt (left (setsFrom (λ i. i) half) (setsFrom (λ i. later + i) half) h) i li
+
+          after : (i : ℕ) → i < k → half ≤ i → setsAt i ≡ true
+          after i li lh =
+              let q : later + (i - later) ≡ i = omega arith in
+              ap setsAt (sym q) ∙ all-at half (λ j. setsAt (later + j)) (right (setsFrom (λ i. i) half) (setsFrom (λ i. later + i) half) h) (i - later) (omega arith)
+
+      apart : setsTo b m k ≡ true → (setsFrom (λ i. i) half && setsFrom (λ i. later + i) half) ≡ true
+      apart h =
+          both (setsFrom (λ i. i) half) (setsFrom (λ i. later + i) half) (all-of half setsAt (λ j lj. all-at k setsAt h j (omega arith)))
+          (all-of half (λ j. setsAt (later + j)) (λ j lj. all-at k setsAt h (later + j) (omega arith)))
+
+  -- A half that was gathered.
+  gathered : (at : ℕ → ℕ) (i half : ℕ) (ncs cs : Set) {x : Set} {t : Bool} → (withinOf ncs m && withinOf cs m) ≡ setsFrom at i → i ≡ half → x ≡ unionOf ncs cs
+      → t ≡ withinOf x m → t ≡ setsFrom at half
+  gathered at i half ncs cs h q e et = et ∙ ap (λ (x : Set). withinOf x m) e ∙ within-union ncs cs m ∙ h ∙ ap (λ (x : ℕ). setsFrom at x) q
+
+  pub sets-end : (k later half i : ℕ) (ncs cs ncs′ cs′ : Set) {x y : Set} {t u : Bool} → later ≤ half → later + half ≡ k → i ≡ half
+      → (withinOf ncs m && withinOf cs m) ≡ setsFrom (λ j. j) i → (withinOf ncs′ m && withinOf cs′ m) ≡ setsFrom (λ j. later + j) i → x ≡ unionOf ncs cs → y ≡ unionOf ncs′ cs′
+      → t ≡ withinOf x m → u ≡ withinOf y m → (t && u) ≡ setsTo b m k
+  sets-end k later half i ncs cs ncs′ cs′ l e q h h′ ex ey et eu =
+      (λ j. gathered (λ j. j) i half ncs cs h q ex et j && gathered (λ j. later + j) i half ncs′ cs′ h′ q ey eu j) ∙ halves k later half l e
 
   -- Every set is within a book of 64 commands.
   pub sets-any : (k : ℕ) → 64 ≤ m → true ≡ setsTo b m k

@@ -221,7 +221,8 @@ fn count_prefix(log: &[u8], k: usize, sites: usize, counts: &mut [u8]) -> bool
     !found.has(1)
 }
 
-// Whether the sets of the first k entries have no command from a number on. All are gathered before they are looked at.
+// Whether the sets of the first k entries have no command from a number on. All are gathered before they are looked at, those of both
+// halves side by side, so that a union waits for one of two before it. Of an odd number the middle entry is in both halves.
 fn sets_within(log: &[u8], k: usize, commands: usize) -> bool
     requires { ⌜ k * entrySize ≤ length (now log) ⌝ }
     ensures { λ r. ⌜ r ≡ setsTo (now (log .entry)) commands k ⌝ }
@@ -229,18 +230,27 @@ fn sets_within(log: &[u8], k: usize, commands: usize) -> bool
     if commands >= Set::CAPACITY {
         return true;
     }
+    let later = k / 2;
+    let half = k - later;
     let mut ncs = Set::empty();
     let mut cs = Set::empty();
+    let mut later_ncs = Set::empty();
+    let mut later_cs = Set::empty();
     let mut i: usize = 0;
-    while i < k {
+    while i < half {
         let nc = nc_of(log, i);
         let c = c_of(log, i);
+        let later_nc = nc_of(log, later + i);
+        let later_c = c_of(log, later + i);
         ncs = ncs.union(nc);
         cs = cs.union(c);
+        later_ncs = later_ncs.union(later_nc);
+        later_cs = later_cs.union(later_c);
         i += 1;
     }
-    let both = ncs.union(cs);
-    both.within(commands)
+    let first = ncs.union(cs);
+    let second = later_ncs.union(later_cs);
+    first.within(commands) & second.within(commands)
 }
 
 // Whether a log read would take each of the first k entries: in range, and no third of its site and round. The table, where it would,
