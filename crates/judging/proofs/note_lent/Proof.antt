@@ -1,6 +1,6 @@
 -- `judging::note_lent`: a law for each answer.
 -- Assumes nothing.
-use mathlib.Core.Path.{sym, _∙_}
+use mathlib.Core.Path.{refl, sym, _∙_}
 use native.Mathlib.Omega.{arith}
 use denote.Ref.{now}
 use Rattle.judging.proofs.Laws.{packed-refused, packed-commands, lent-unreadable, lent-cut, lent-bad, lent-few, lent-good}
@@ -17,44 +17,35 @@ enum-known-measured c = search needs
 enum-told : tie.Need-enum-told
 enum-told c = search needs
 
-pack-requires : tie.Need-pack-requires
-pack-requires c κs = search needs
-
 same-length : tie.Need-same-length
 same-length c = search needs
 
 returns : tie.Need-returns
 returns c =
-    let a = c .before .before .before .before .before .before .before .before .before .before .args in
-    let n = c .before .before .before .before .before .note .ensures in
-    (lent-unreadable (a .sites) (now (a .book)) (a .whole) (a .entries) (now (a .site)) (packed-refused _ 1 (c .pack .ensures)) (sym (n .0) ∙ c .before .enum-told .given .1), omega (arith, c .pack .ensures), n .1)
-
-pack-requires-2 : tie.Need-pack-requires-2
-pack-requires-2 c κs = search needs
+    let a = c .before .before .before .before .before .before .before .before .before .args in
+    let n = c .before .before .before .before .note .ensures in
+    (lent-unreadable (a .sites) (now (a .book)) (a .whole) (a .entries) (now (a .site)) (packed-refused _ 1 refl) (sym (n .0) ∙ c .enum-told .given .1), omega arith, n .1)
 
 same-length-2 : tie.Need-same-length-2
 same-length-2 c = search needs
 
 returns-2 : tie.Need-returns-2
 returns-2 c =
-    let a = c .before .before .before .before .before .before .before .before .before .before .before .before .args in
-    let n = c .before .before .before .before .before .before .before .note .ensures in
-    (lent-cut (a .sites) (now (a .book)) (a .whole) (a .entries) (now (a .site)) (sym (n .0) ∙ c .before .before .before .measured .given .1) (packed-refused _ 3 (c .pack2 .ensures)) (c .before .if1 .taken), omega (arith, c .pack2 .ensures), n .1)
+    let a = c .before .before .before .before .before .before .before .before .before .before .before .args in
+    let n = c .before .before .before .before .before .before .note .ensures in
+    (lent-cut (a .sites) (now (a .book)) (a .whole) (a .entries) (now (a .site)) (sym (n .0) ∙ c .before .before .measured .given .1) (packed-refused _ 3 refl) (c .if1 .taken), omega arith, n .1)
 
 judge-requires : tie.Need-judge-requires
 judge-requires c κs = search needs
-
-pack-requires-3 : tie.Need-pack-requires-3
-pack-requires-3 c κs = search needs
 
 same-length-3 : tie.Need-same-length-3
 same-length-3 c = search needs
 
 returns-3 : tie.Need-returns-3
 returns-3 c =
-    let a = c .before .before .before .before .before .before .before .before .before .before .before .before .before .before .args in
-    let n = c .before .before .before .before .before .before .before .before .before .note .ensures in
-    (lent-bad (a .sites) (now (a .book)) (a .whole) (a .entries) (now (a .site)) (sym (n .0) ∙ c .before .before .before .before .before .measured .given .1) (c .before .before .before .if1 .left) (c .before .before .judge .ensures) (packed-refused _ 4 (c .pack3 .ensures)) (c .before .if2 .taken), omega (arith, c .pack3 .ensures), n .1)
+    let a = c .before .before .before .before .before .before .before .before .before .before .before .before .before .args in
+    let n = c .before .before .before .before .before .before .before .before .note .ensures in
+    (lent-bad (a .sites) (now (a .book)) (a .whole) (a .entries) (now (a .site)) (sym (n .0) ∙ c .before .before .before .before .measured .given .1) (c .before .before .if1 .left) (c .before .judge .ensures) (packed-refused _ 4 refl) (c .if2 .taken), omega arith, n .1)
 
 same-length-4 : tie.Need-same-length-4
 same-length-4 c = search needs
@@ -75,14 +66,11 @@ note-lent-spec =
     note-requires
     enum-known-measured
     enum-told
-    pack-requires
     same-length
     returns
-    pack-requires-2
     same-length-2
     returns-2
     judge-requires
-    pack-requires-3
     same-length-3
     returns-3
     same-length-4
