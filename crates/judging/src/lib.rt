@@ -82,7 +82,9 @@ const PACKING: usize = 128;
 
 // The refusals as such numbers. They stand as they are: a function of the refusal's number costs 1 to 2 nanoseconds a call.
 const PACKED_BOOK: usize = 128;
+
 const PACKED_FORM: usize = 384;
+
 const PACKED_RANGE: usize = 512;
 
 // The judgement that such a number stands for.
