@@ -17,6 +17,13 @@ use Rattle.sets.specs.Sets.{least, inSet, emptyOf, unionOf, withinOf}
 use Rattle.sets.proofs.Laws.{in-empty, in-union, within-at, within-of, within-all, least-le, least-in, least-before}
 use Rattle.entries.specs.Entries.{entryOf, numbersOf, noThirdAt, goodAt, goodTo, numberedTo, setsTo}
 
+-- Two conjunctions taken the other way round.
+swap : (p q r s : Bool) → ((p && q) && (r && s)) ≡ ((p && r) && (q && s))
+swap true true r s = refl
+swap true false true s = refl
+swap true false false s = refl
+swap false q r s = refl
+
 -- ---- sets gathered
 
 within-union : (x y : Set) (n : ℕ) → withinOf (unionOf x y) n ≡ (withinOf x n && withinOf y n)
@@ -57,12 +64,6 @@ module _ (b : List ℕ) (m : ℕ) where
       ∙ swap (withinOf ncs m) (withinOf nc m) (withinOf cs m) (withinOf c m)
       ∙ (λ j. h j && (withinOf (en j) m && withinOf (ec j) m))
       ∙ ap (λ (x : ℕ). all x (λ k. setsAt (at k))) (sym (add-one i))
-    where
-      swap : (p q r s : Bool) → ((p && q) && (r && s)) ≡ ((p && r) && (q && s))
-      swap true true r s = refl
-      swap true false true s = refl
-      swap true false false s = refl
-      swap false q r s = refl
 
   -- Two halves that may share an entry are all entries.
   halves : (k later half : ℕ) → later ≤ half → later + half ≡ k → (setsFrom (λ i. i) half && setsFrom (λ i. later + i) half) ≡ setsTo b m k
@@ -107,28 +108,22 @@ all-and : (k : ℕ) (p q : ℕ → Bool) → all k (λ i. p i && q i) ≡ (all k
 unfolding all
 all-and zero p q = refl
 all-and (suc k) p q = ap (λ (x : Bool). x && (p k && q k)) (all-and k p q) ∙ swap (all k p) (all k q) (p k) (q k)
-  where
-    swap : (w x y z : Bool) → ((w && x) && (y && z)) ≡ ((w && y) && (x && z))
-    swap true true y z = refl
-    swap true false true z = refl
-    swap true false false z = refl
-    swap false x y z = refl
 
 module _ (b : List ℕ) (n m k : ℕ) where
   split : goodTo b n m k ≡ (numberedTo b n k && setsTo b m k)
   split =
       all-ext k (goodAt b n m) (λ i. (numbersOf n (entryOf b i .site) (entryOf b i .round) && noThirdAt b i) && setsAt b m i)
-      (λ i _. swap (numbersOf n (entryOf b i .site) (entryOf b i .round)) (withinOf (entryOf b i .nc) m) (withinOf (entryOf b i .c) m) (noThirdAt b i))
+      (λ i _. regroup (numbersOf n (entryOf b i .site) (entryOf b i .round)) (withinOf (entryOf b i .nc) m) (withinOf (entryOf b i .c) m) (noThirdAt b i))
       ∙ all-and k (λ i. numbersOf n (entryOf b i .site) (entryOf b i .round) && noThirdAt b i) (setsAt b m)
     where
-      swap : (p q r s : Bool) → (((p && q) && r) && s) ≡ ((p && s) && (q && r))
-      swap true true true true = refl
-      swap true true true false = refl
-      swap true true false true = refl
-      swap true true false false = refl
-      swap true false r true = refl
-      swap true false r false = refl
-      swap false q r s = refl
+      regroup : (p q r s : Bool) → (((p && q) && r) && s) ≡ ((p && s) && (q && r))
+      regroup true true true true = refl
+      regroup true true true false = refl
+      regroup true true false true = refl
+      regroup true true false false = refl
+      regroup true false r true = refl
+      regroup true false r false = refl
+      regroup false q r s = refl
 
   pub prefix-numbers : {t : Bool} → t ≡ numberedTo b n k → not t ≡ true → false ≡ goodTo b n m k
   prefix-numbers {t} et h = sym (split ∙ ap (λ (x : Bool). x && setsTo b m k) (sym et ∙ not-true t h))

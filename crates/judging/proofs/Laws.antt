@@ -100,6 +100,9 @@ module _ (n f : ℕ) (book : List ℕ) (sized : Bool) (r : Refusal) {k : ℕ} (q
 
 -- ---- a judgement as one number
 
+pub judges-same : {v : Verdict} {book : List ℕ} {i j : Judgement} → j ≡ i → Judges v book i → Judges v book j
+judges-same {v} {book} e h = subst (Judges v book) (sym e) h
+
 pub packed-refused : (r k : ℕ) → r ≡ packing * k → (unpacked r .code ≡ k) × (unpacked r .commands ≡ 0)
 packed-refused r k e = (omega arith, omega arith)
 

@@ -98,7 +98,8 @@ fn unpack(number: usize) -> Judgement
     }
 }
 
-// The book, the log's form and the site, for so many log entries: 0, 1, 3 or 4. The places that a walk through the book comes to are noted.
+// The book, the log's form and the site, for so many log entries: a judgement with 0, 1, 3 or 4, as one number. The places that a walk
+// through the book comes to are noted.
 fn note_lent(
     sites: usize,
     book: &[u8],

@@ -7,12 +7,10 @@ use Rattle.theory.specs.Counting.{not-false}
 use Rattle.entries.specs.Entries.{Counting}
 use mathlib.Core.Bool.{_&&_}
 use lib.Dec.{leb}
-use lib.ListN.{length, take}
+use lib.ListN.{length}
 use denote.Ref.{now}
 use Rattle.layout.specs.Layout.{siteSize}
-use Rattle.protocol.specs.System.{verdict}
-use Rattle.judging.specs.Judging.{entriesIn, isWhole, forLent, Judges}
-use Rattle.judging.proofs.Laws.{first-length, places-kept, places-noted, first-few, first-sized, log-first, log-refused, log-position, log-entries, log-taken}
+use Rattle.judging.proofs.Laws.{judges-same, first-length, places-kept, places-noted, first-few, first-sized, log-first, log-refused, log-position, log-entries, log-taken}
 use borrow.Author.Needs.{needs}
 use Rattle.judging.proofs.note_and_count.Statement.{statement}
 use Rattle.judging.proofs.note_and_count.Tie as tie
@@ -54,7 +52,7 @@ returns-2 c =
     let q = c .before .before .before .before .before .before .before .before .before .judge-first .ensures in
     let z = c .before .before .before .before .before .before .before .before .if1 .left in
     let n = c .before .before .before .before .before .note-lent .ensures in
-    let j = subst (Judges (verdict (forLent (a .sites) (now (a .book)) (isWhole (now (a .log))) (entriesIn (now (a .log))) (take siteSize (now (a .site))))) (now (a .book))) (sym (c .before .before .unpack .ensures)) (n .0) in
+    let j = judges-same (c .before .before .unpack .ensures) (n .0) in
     (log-refused (a .sites) (a .faults) (now (a .book)) (a .enough) (now (a .site)) q z (now (a .log)) j (c .if2 .taken), n .2 ∙ places-noted (a .sites) (a .faults) (a .enough && leb siteSize (length (now (a .site)))) (now (a .book)) (now (a .places)) q z, λ e. absurd (c .if2 .taken e))
 
 slice-aggregate-position-of : tie.Need-slice-aggregate-position-of
@@ -73,7 +71,7 @@ judge-prefix-requires c κs =
     let q = c .before .before .before .before .before .before .before .before .before .before .before .before .judge-first .ensures in
     let z = c .before .before .before .before .before .before .before .before .before .before .before .if1 .left in
     let n = c .before .before .before .before .before .before .before .before .note-lent .ensures in
-    let j = subst (Judges (verdict (forLent (a .sites) (now (a .book)) (isWhole (now (a .log))) (entriesIn (now (a .log))) (take siteSize (now (a .site))))) (now (a .book))) (sym (c .before .before .before .before .before .unpack .ensures)) (n .0) in
+    let j = judges-same (c .before .before .before .before .before .unpack .ensures) (n .0) in
     (log-position (a .sites) (a .faults) (now (a .book)) (a .enough) (now (a .site)) q z (now (a .log)) j (c .before .before .before .if2 .left) (c .before .position-of .ensures), first-few (a .sites) (a .faults) (a .enough && leb siteSize (length (now (a .site)))) (now (a .book)) (now (a .places)) q z, c .before .before .before .before .before .before .before .before .before .before .before .before .before .before .before .before .before .before .pre .1)
 
 refused-requires-2 : tie.Need-refused-requires-2
@@ -88,7 +86,7 @@ returns-3 c =
     let q = c .before .before .before .before .before .before .before .before .before .before .before .before .before .before .before .before .before .judge-first .ensures in
     let z = c .before .before .before .before .before .before .before .before .before .before .before .before .before .before .before .before .if1 .left in
     let n = c .before .before .before .before .before .before .before .before .before .before .before .before .before .note-lent .ensures in
-    let j = subst (Judges (verdict (forLent (a .sites) (now (a .book)) (isWhole (now (a .log))) (entriesIn (now (a .log))) (take siteSize (now (a .site))))) (now (a .book))) (sym (c .before .before .before .before .before .before .before .before .before .before .unpack .ensures)) (n .0) in
+    let j = judges-same (c .before .before .before .before .before .before .before .before .before .before .unpack .ensures) (n .0) in
     (log-entries (a .sites) (a .faults) (now (a .book)) (a .enough) (now (a .site)) q z (now (a .log)) j (c .before .before .before .before .before .before .before .before .if2 .left) (c .before .before .before .before .before .before .position-of .ensures) (c .before .before .before .before .judge-prefix .ensures .0) (c .refused2 .ensures) (c .before .if3 .taken), n .2 ∙ places-noted (a .sites) (a .faults) (a .enough && leb siteSize (length (now (a .site)))) (now (a .book)) (now (a .places)) q z, λ e. absurd (let r = c .refused2 .ensures .0 in omega arith))
 
 same-length-3 : tie.Need-same-length-3
@@ -106,7 +104,7 @@ returns-4 c =
     let q = c .before .before .before .before .before .before .before .before .before .before .before .before .before .before .before .before .judge-first .ensures in
     let z = c .before .before .before .before .before .before .before .before .before .before .before .before .before .before .before .if1 .left in
     let n = c .before .before .before .before .before .before .before .before .before .before .before .before .note-lent .ensures in
-    let j = subst (Judges (verdict (forLent (a .sites) (now (a .book)) (isWhole (now (a .log))) (entriesIn (now (a .log))) (take siteSize (now (a .site))))) (now (a .book))) (sym (c .before .before .before .before .before .before .before .before .before .unpack .ensures)) (n .0) in
+    let j = judges-same (c .before .before .before .before .before .before .before .before .before .unpack .ensures) (n .0) in
     (log-taken (a .sites) (a .faults) (now (a .book)) (a .enough) (now (a .site)) q z (now (a .log)) j (c .before .before .before .before .before .before .before .if2 .left) (c .before .before .before .before .before .position-of .ensures) (c .before .before .before .judge-prefix .ensures .0) (c .if3 .left), n .2 ∙ places-noted (a .sites) (a .faults) (a .enough && leb siteSize (length (now (a .site)))) (now (a .book)) (now (a .places)) q z, λ _. subst (λ (x : ℕ). Counting (now (a .log)) x (c .before .before .before .judge-prefix .last .1 .1 .1 .1 .0)) (c .before .before .before .before .before .position-of .ensures) (c .before .before .before .judge-prefix .ensures .1 (not-false _ (c .if3 .left))))
 
 pub note-and-count-spec : {M : Type 1} → statement M

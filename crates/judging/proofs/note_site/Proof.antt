@@ -1,14 +1,12 @@
 -- `judging::note_site`: a law for each answer.
 -- Assumes nothing.
-use mathlib.Core.Path.{sym, subst, _∙_}
+use mathlib.Core.Path.{_∙_}
 use mathlib.Core.Bool.{_&&_}
 use lib.Dec.{leb}
 use lib.ListN.{length}
 use denote.Ref.{now}
 use Rattle.layout.specs.Layout.{siteSize}
-use Rattle.protocol.specs.System.{verdict}
-use Rattle.judging.specs.Judging.{forSite, Judges}
-use Rattle.judging.proofs.Laws.{first-length, places-kept, places-noted, first-few, first-sized, site-first, site-judges}
+use Rattle.judging.proofs.Laws.{judges-same, first-length, places-kept, places-noted, first-few, first-sized, site-first, site-judges}
 use borrow.Author.Needs.{needs}
 use Rattle.judging.proofs.note_site.Statement.{statement}
 use Rattle.judging.proofs.note_site.Tie as tie
@@ -47,7 +45,7 @@ returns-2 c =
     let q = c .before .before .before .before .before .before .before .judge-first .ensures in
     let z = c .before .before .before .before .before .before .if1 .left in
     let n = c .before .before .before .note-lent .ensures in
-    (subst (Judges (verdict (forSite (a .sites) (a .faults) (now (a .book)) (a .enough) (now (a .site)))) (now (a .book))) (sym (c .unpack .ensures)) (site-judges (a .sites) (a .faults) (now (a .book)) (a .enough) (now (a .site)) q z (n .0)), n .2 ∙ places-noted (a .sites) (a .faults) (a .enough && leb siteSize (length (now (a .site)))) (now (a .book)) (now (a .places)) q z)
+    (judges-same (c .unpack .ensures) (site-judges (a .sites) (a .faults) (now (a .book)) (a .enough) (now (a .site)) q z (n .0)), n .2 ∙ places-noted (a .sites) (a .faults) (a .enough && leb siteSize (length (now (a .site)))) (now (a .book)) (now (a .places)) q z)
 
 pub note-site-spec : {M : Type 1} → statement M
 note-site-spec =
