@@ -41,11 +41,12 @@ use Rattle.system.specs.Dash.{dash, lastRound}
 use Rattle.layout.specs.declared.Proposal.{Proposal}
 use Rattle.layout.specs.Layout.{siteRounds, headOf, view}
 use Rattle.layout.specs.Good.{Good, HoldsOver}
-use Rattle.layout.proofs.Finish.{alone}
+use Rattle.layout.proofs.Finish.{alone, unchanged}
 use Rattle.layout.specs.Step.{settled}
 use Rattle.site.specs.declared.Turn.{Turn}
 use Rattle.site.specs.declared.Turn.the-variants as turns
-use Rattle.site.specs.Steps.{undeliveredOf, TookTurn, Turned, answerTo}
+use Rattle.site.specs.Steps.{undeliveredOf, hasTurn, TookTurn, Turned, answerTo}
+use Rattle.site.proofs.Turning.{no-turn}
 use Rattle.entries.specs.declared.Entry.{Entry}
 use Rattle.entries.specs.Entries.{logTo, writeEntry, viewEntry, inRangeOf}
 use Rattle.entries.proofs.Bytes.{Fits}
@@ -118,6 +119,23 @@ turned-by rows i b {u} {p} eu ep en ef took =
     ∙ free-new t book u p (ap (λ (x : Set). free (dash t (commandsOf book)) (inSet x)) ep ∙ calm)
     ∙ ap (free (dash t (commandsOf book))) (ap inSet eu ∙ (λ k m. in-without (headOf b .received) (headOf b .delivered) m k)))
     (ap (λ (m : ℕ). ltb m 2) (sym (none i (headOf b .round)))))
+
+-- A turn that is not enabled changes nothing.
+pub not-turned : (rows : List ℕ) (i : ℕ) (b : List ℕ) → ((k : ℕ) → getD b k 0 < 256) → {e : Bool} → e ≡ hasTurn (headOf b) → not e ≡ true
+    → TurnedBy rows i (turns.Refused Disabled) b b
+not-turned rows i b small {e} ee z =
+    λ t book log ec g calm quiet.
+    let s = view t (commandsOf book) b in
+    let v = no-turn t (commandsOf book) b small g i log (sym ee ∙ not-true e z) in
+    record {
+      answer = ap (λ (v : Verdict). answerTo t (commandsOf book) v (acknowledges (dash t (commandsOf book)) s) s) (sym v);
+      site =
+          subst
+          (λ (v : Verdict).
+          HoldsOver t (commandsOf book) b b
+          (settled v (pick (acknowledges (dash t (commandsOf book)) s) (acknowledge (dash t (commandsOf book)) s) (propose (dash t (commandsOf book)) s)) s))
+          (sym v) (unchanged t (commandsOf book) g small);
+    }
 
 -- ---- what an answer tells
 

@@ -21,18 +21,29 @@ use site::Turn;
 use table::SiteTable;
 use world::Stepped;
 
-// Site i takes its turn, by the rows of conflicts. In a run its entry is never a third.
+// A site takes its turn, by the rows of conflicts. In a run its entry is never a third. Conflicts are looked for only where the turn is enabled.
+fn turn_by(site: &mut [u8], rows: &[u64]) -> Turn
+    requires { ⌜ (length (now site) ≡ siteSize) × (length (now rows) ≡ capacity) ⌝ }
+    ensures { λ r. ⌜ ((i : ℕ) → TurnedBy (now (rows .entry)) i r (now (site .entry)) (now (site .exit))) ⌝ }
+{
+    if !site::has_turn(&site[..]) {
+        return Turn::Refused(Refusal::Disabled);
+    }
+    let undelivered = site::undelivered(&site[..]);
+    let pending = layout::pending(&site[..]);
+    let new = undelivered.without(pending);
+    let free = calm::is_free_between(rows, new, undelivered);
+    site::take_turn(site, free, false)
+}
+
+// Site i takes its turn.
 fn turn_at(sites: &mut [u8], rows: &[u64], i: usize) -> Turn
     requires { ⌜ (i * siteSize + siteSize ≤ length (now sites)) × (length (now rows) ≡ capacity) ⌝ }
     ensures { λ r. ⌜ AtSite i (TurnedBy (now (rows .entry)) i r) (now (sites .entry)) (now (sites .exit)) ⌝ }
 {
     let from = i * Site::SIZE;
     let to = from + Site::SIZE;
-    let undelivered = site::undelivered(&sites[from..to]);
-    let pending = layout::pending(&sites[from..to]);
-    let new = undelivered.without(pending);
-    let free = calm::is_free_between(rows, new, undelivered);
-    site::take_turn(&mut sites[from..to], free, false)
+    turn_by(&mut sites[from..to], rows)
 }
 
 // 07: site i takes its turn. What it sends is kept, and what it proposes is appended to the log.

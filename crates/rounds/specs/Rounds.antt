@@ -21,15 +21,15 @@ use Rattle.recovery.specs.declared.Decision.the-variants.{Undecided, Decided}
 use Rattle.recovery.specs.Decisions.{decisionOf}
 use Rattle.rounds.specs.declared.Round.{Round}
 
--- Rounds 0 to 33, of 8 words each: 7 are in use.
+-- Rounds 0 to 33, of 7 words each.
 abbrev pub keptRounds : ℕ
 keptRounds = 34
 
 abbrev pub roundWords : ℕ
-roundWords = 8
+roundWords = 7
 
 abbrev pub keptWords : ℕ
-keptWords = 272
+keptWords = 238
 
 -- What the words of round r hold.
 unfoldable pub roundIn : List ℕ → ℕ → Round

@@ -20,9 +20,9 @@ use sets::Set;
 use table::SiteTable;
 
 // The words that are kept of a log, for rounds 0 to 33.
-pub const WORDS: usize = 272;
-// The words of a round, one line of a cache; the last is not used.
-const ROUND_WORDS: usize = 8;
+pub const WORDS: usize = 238;
+// The words of a round.
+const ROUND_WORDS: usize = 7;
 
 // What is kept of a round. The place of an entry is how many entries the log has with it; 0 where there is none.
 pub struct Round {
