@@ -6,8 +6,8 @@ use mathlib.Core.List.{List}
 use Prim.Native.Nat.{ℕ, _*_, _/_, _%_, _≤_, _<_}
 use native.Mathlib.Omega.{arith}
 use lib.Dec.{leb}
-use lib.ListN.{length, take, length-take}
-use borrow.Author.Tests.{leb-true, eqb-true}
+use lib.ListN.{length, take, length-take, replicate}
+use borrow.Author.Tests.{le-leb, lt-leb, leb-true, eqb-true}
 use lib.Seq.{sets}
 use Rattle.theory.specs.Sets.{pick}
 use Rattle.theory.specs.Counting.{left, right, not-true, not-false, never}
@@ -33,7 +33,7 @@ use Rattle.layout.specs.Good.{goodSite}
 use Rattle.lent.proofs.Judged.{site-good}
 use Rattle.judging.specs.Outcomes.{isTaken, _then_}
 use Rattle.judging.specs.declared.Judgement.{Judgement}
-use Rattle.judging.specs.Judging.{anyPosition, entriesIn, isWhole, forTable, forBook, forFirst, forRules, forLent, forSite, forSiteAndLog, placesAfter, packing, unpacked, Judges}
+use Rattle.judging.specs.Judging.{anyPosition, entriesIn, isWhole, forTable, forBook, forFirst, forRules, forLent, forSite, forSiteAndLog, notedIn, placesAfter, packing, unpacked, Judges}
 use Rattle.judging.proofs.Demands.{met, taken-zero, then-taken, then-code}
 
 -- The first bytes of a buffer that is long enough.
@@ -154,17 +154,24 @@ no-log : (t : Bool) (d : Demands) → verdict (t else Book ⨾ true else Form �
 no-log true d = refl
 no-log false d = refl
 
+-- A walk notes all places where there is room for those of any book, and else none.
+pub all-noted : (book places : List ℕ) → maxCommands ≤ length places → notedIn book places ≡ sets places 0 (walkedPlaces book)
+all-noted book places h = λ i. pick (le-leb maxCommands (length places) h i) (sets places 0 (walkedPlaces book)) places
+
+pub none-noted : (book places : List ℕ) → length places < maxCommands → notedIn book places ≡ places
+none-noted book places h = λ i. pick (lt-leb maxCommands (length places) h i) (sets places 0 (walkedPlaces book)) places
+
 module _ (n f : ℕ) (sized : Bool) (book places : List ℕ) {k : ℕ} (q : k ≡ codeOf (verdict (forFirst n f sized))) where
   -- The places where the call is refused before its book, and where it is not.
   pub places-kept : (k ≡ 0 → ⊥) → places ≡ placesAfter n f book sized places
   places-kept z = go (verdict (forFirst n f sized)) q
     where
-      go : (v : Verdict) → k ≡ codeOf v → places ≡ pick (isTaken v) (sets places 0 (walkedPlaces book)) places
+      go : (v : Verdict) → k ≡ codeOf v → places ≡ pick (isTaken v) (notedIn book places) places
       go Taken e = absurd (z e)
       go (Refused r) e = refl
 
-  pub places-noted : k ≡ 0 → sets places 0 (walkedPlaces book) ≡ placesAfter n f book sized places
-  places-noted z = λ i. pick (isTaken (sym (taken-zero (verdict (forFirst n f sized)) (sym q ∙ z)) i)) (sets places 0 (walkedPlaces book)) places
+  pub places-noted : k ≡ 0 → notedIn book places ≡ placesAfter n f book sized places
+  places-noted z = λ i. pick (isTaken (sym (taken-zero (verdict (forFirst n f sized)) (sym q ∙ z)) i)) (notedIn book places) places
 
   pub first-few : k ≡ 0 → n ≤ maxSites
   first-few z = limits n f 0 (met (forFirst n f sized) q z .1 .0) .sites
@@ -287,7 +294,10 @@ module _ (n f : ℕ) (book : List ℕ) where
 
 -- ---- the noted places of a call that was judged
 
--- Room for the places of the longest book.
+-- Words for the places of the longest book before any is noted, and that there is room in them.
+abbrev pub noPlaces : List ℕ
+noPlaces = replicate {A = ℕ} maxCommands 0
+
 pub full-room : maxCommands ≤ 64
 full-room = omega arith
 
@@ -305,7 +315,7 @@ module _ (n f : ℕ) (book : List ℕ) (enough : Bool) (site places : List ℕ) 
   noted h j =
       let m = counted book (j .listed) in
       note-noted book places room (m .1)
-      (e ∙ (λ i. pick (isTaken (verdict (h i else Size ⨾ j .table i else Table ⨾ granted))) (sets places 0 (walkedPlaces book)) places))
+      (e ∙ (λ i. pick (isTaken (verdict (h i else Size ⨾ j .table i else Table ⨾ granted))) (notedIn book places) places) ∙ all-noted book places room)
 
   pub site-noted : {k : ℕ} → k ≡ codeOf (verdict (forSite n f book enough site)) → k ≡ 0 → take (length (commandsOf book)) after ≡ placesOf book
   site-noted q z = noted (met (forSite n f book enough site) q z .0) (site-judged n f book enough site q z .1)

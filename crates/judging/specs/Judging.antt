@@ -14,7 +14,7 @@ use Rattle.refusals.specs.declared.Verdict.{Verdict}
 use Rattle.refusals.specs.Refusals.{codeOf}
 use Rattle.table.specs.declared.SiteTable.{SiteTable}
 use Rattle.table.specs.Table.{goodTable}
-use Rattle.commands.specs.Book.{commandsOf, judgeBook, walkedPlaces}
+use Rattle.commands.specs.Book.{maxCommands, commandsOf, judgeBook, walkedPlaces}
 use Rattle.protocol.specs.System.{System, Demands, granted, _else_⨾_, verdict}
 use Rattle.protocol.specs.Site as protocol
 use Rattle.system.specs.Dash.{dash}
@@ -76,9 +76,13 @@ forLent sites book whole entries site =
     ⨾ goodSite sites (length (commandsOf book)) entries site else Range
     ⨾ granted
 
--- The noted places after a call was judged: those that a walk through the book comes to, where it came to the book.
+-- The noted places after a walk through a book: those that it comes to, where there is room for those of any book; else none are noted.
+abbrev pub notedIn : List ℕ → List ℕ → List ℕ
+notedIn book places = pick (leb maxCommands (length places)) (sets places 0 (walkedPlaces book)) places
+
+-- The noted places after a call was judged: those of a walk through the book, where it came to the book.
 abbrev pub placesAfter : ℕ → ℕ → List ℕ → Bool → List ℕ → List ℕ
-placesAfter sites faults book sized places = pick (isTaken (verdict (forFirst sites faults sized))) (sets places 0 (walkedPlaces book)) places
+placesAfter sites faults book sized places = pick (isTaken (verdict (forFirst sites faults sized))) (notedIn book places) places
 
 -- How many rows the table of sets heard of a lent site has.
 abbrev pub spanIn : List ℕ → ℕ

@@ -4,15 +4,14 @@ ghost use mathlib.Core.Bool.{false, _&&_};
 ghost use Prim.Native.Nat.{_*_, _≤_};
 ghost use lib.Dec.{leb};
 ghost use lib.ListN.{length, take, replicate};
-ghost use lib.Seq.{sets};
 ghost use Rattle.table.specs.Table.{maxSites};
-ghost use Rattle.commands.specs.Book.{maxCommands, walkedPlaces};
+ghost use Rattle.commands.specs.Book.{measureBook};
 ghost use Rattle.entries.specs.Entries.{cells, Counting};
 ghost use Rattle.layout.specs.Layout.{siteSize, headOf};
 ghost use Rattle.refusals.specs.Refusals.{codeOf};
 ghost use Rattle.protocol.specs.System.{granted, _else_⨾_, verdict};
 ghost use Rattle.judging.specs.Outcomes.{_then_};
-ghost use Rattle.judging.specs.Judging.{forTable, forBook, forFirst, forRules, forLent, forSite, forSiteAndLog, placesAfter, packing, unpacked, Judges};
+ghost use Rattle.judging.specs.Judging.{forTable, forBook, forFirst, forRules, forLent, forSite, forSiteAndLog, notedIn, placesAfter, packing, unpacked, Judges};
 use commands::Measured;
 use entries::Entry;
 use layout::Site;
@@ -98,8 +97,19 @@ fn unpack(number: usize) -> Judgement
     }
 }
 
+// How many commands a book has. The places that a walk through it comes to are noted where there is room for those of any book; a walk
+// that notes nothing is shorter.
+fn walk(book: &[u8], places: &mut [u16]) -> Measured
+    ensures { λ r. ⌜ (r ≡ measureBook (now (book .entry))) × (now (places .exit) ≡ notedIn (now (book .entry)) (now (places .entry))) ⌝ }
+{
+    if places.len() >= commands::MAX_COMMANDS {
+        return commands::note(book, places);
+    }
+    commands::measure(book)
+}
+
 // The book, the log's form and the site, for so many log entries: a judgement with 0, 1, 3 or 4, as one number. The places that a walk
-// through the book comes to are noted.
+// through the book comes to are noted where there is room.
 fn note_lent(
     sites: usize,
     book: &[u8],
@@ -108,11 +118,11 @@ fn note_lent(
     entries: usize,
     places: &mut [u16],
 ) -> usize
-    requires { ⌜ (sites ≤ maxSites) × (maxCommands ≤ length (now places)) ⌝ }
+    requires { ⌜ sites ≤ maxSites ⌝ }
     ensures { λ r. ⌜ Judges (verdict (forLent sites (now (book .entry)) whole entries (now (site .entry)))) (now (book .entry)) (unpacked r)
-        × (r ≤ 9 * packing) × (now (places .exit) ≡ sets (now (places .entry)) 0 (walkedPlaces (now (book .entry)))) ⌝ }
+        × (r ≤ 9 * packing) × (now (places .exit) ≡ notedIn (now (book .entry)) (now (places .entry))) ⌝ }
 {
-    let measured = commands::note(book, places);
+    let measured = walk(book, places);
     let Measured::Commands(commands) = measured else {
         return PACKED_BOOK;
     };
@@ -125,7 +135,8 @@ fn note_lent(
     commands
 }
 
-// What a call that is lent a site judges, with the places of the book's commands noted; `enough`: its other buffers are long enough. 0, 9, 2, 1 or 4.
+// What a call that is lent a site judges, with the places of the book's commands noted where there is room; `enough`: its other buffers are long
+// enough. 0, 9, 2, 1 or 4.
 pub fn note_site(
     enough: bool,
     sites: usize,
@@ -134,7 +145,6 @@ pub fn note_site(
     site: &[u8],
     places: &mut [u16],
 ) -> Judgement
-    requires { ⌜ maxCommands ≤ length (now places) ⌝ }
     ensures { λ r. ⌜ Judges (verdict (forSite sites faults (now (book .entry)) enough (now (site .entry)))) (now (book .entry)) r
         × (now (places .exit) ≡ placesAfter sites faults (now (book .entry)) (enough && leb siteSize (length (now (site .entry)))) (now (places .entry))) ⌝ }
 {
@@ -151,11 +161,11 @@ pub fn note_site(
 pub fn judge_site(enough: bool, sites: usize, faults: usize, book: &[u8], site: &[u8]) -> Judgement
     ensures { λ r. ⌜ Judges (verdict (forSite sites faults (now (book .entry)) enough (now (site .entry)))) (now (book .entry)) r ⌝ }
 {
-    let mut places = [0u16; 64];
+    let mut places = [0u16; 0];
     note_site(enough, sites, faults, book, site, &mut places)
 }
 
-// What a call that is lent a site and the log judges, with the places of the book's commands noted. 0, 9, 2, 1, 3 or 4.
+// What a call that is lent a site and the log judges, with the places of the book's commands noted where there is room. 0, 9, 2, 1, 3 or 4.
 // The table, where the call is not refused, has the entries counted that the site has read.
 pub fn note_and_count(
     enough: bool,
@@ -167,7 +177,7 @@ pub fn note_and_count(
     places: &mut [u16],
     counts: &mut [u8],
 ) -> Judgement
-    requires { ⌜ (maxCommands ≤ length (now places)) × (now counts ≡ replicate cells 0) ⌝ }
+    requires { ⌜ now counts ≡ replicate cells 0 ⌝ }
     ensures { λ r. ⌜ Judges (verdict (forSiteAndLog sites faults (now (book .entry)) enough (now (site .entry)) (now (log .entry)))) (now (book .entry)) r
         × (now (places .exit) ≡ placesAfter sites faults (now (book .entry)) (enough && leb siteSize (length (now (site .entry)))) (now (places .entry)))
         × (r .code ≡ 0 → Counting (now (log .entry)) (headOf (take siteSize (now (site .entry))) .position) (now (counts .exit))) ⌝ }
@@ -205,7 +215,7 @@ pub fn judge_and_count(
     ensures { λ r. ⌜ Judges (verdict (forSiteAndLog sites faults (now (book .entry)) enough (now (site .entry)) (now (log .entry)))) (now (book .entry)) r
         × (r .code ≡ 0 → Counting (now (log .entry)) (headOf (take siteSize (now (site .entry))) .position) (now (counts .exit))) ⌝ }
 {
-    let mut places = [0u16; 64];
+    let mut places = [0u16; 0];
     note_and_count(enough, sites, faults, book, site, log, &mut places, counts)
 }
 
@@ -219,7 +229,6 @@ pub fn note_site_and_log(
     log: &[u8],
     places: &mut [u16],
 ) -> Judgement
-    requires { ⌜ maxCommands ≤ length (now places) ⌝ }
     ensures { λ r. ⌜ Judges (verdict (forSiteAndLog sites faults (now (book .entry)) enough (now (site .entry)) (now (log .entry)))) (now (book .entry)) r
         × (now (places .exit) ≡ placesAfter sites faults (now (book .entry)) (enough && leb siteSize (length (now (site .entry)))) (now (places .entry))) ⌝ }
 {

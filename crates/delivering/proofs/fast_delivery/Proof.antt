@@ -2,7 +2,7 @@
 -- Assumes nothing.
 use denote.Ref.{now}
 use Rattle.layout.specs.Layout.{siteSize}
-use Rattle.judging.proofs.Laws.{first-length, full-room}
+use Rattle.judging.proofs.Laws.{first-length, noPlaces, full-room}
 use Rattle.delivering.proofs.Laws.{fast-refused, fast-range, fast-sized, fast-ready, fast-done}
 use borrow.Author.Needs.{needs}
 use Rattle.delivering.proofs.fast_delivery.Statement.{statement}
@@ -53,7 +53,7 @@ fast-delivery-requires c κs =
     let a = c .before .before .before .before .before .before .before .before .before .before .before .before .args in
     let j = c .before .before .before .before .before .before .before .note-site .ensures in
     let z = c .before .before .before .before .if1 .left in
-    fast-ready (a .sites) (a .faults) (now (a .book)) (now (a .site)) (a .command) (j .0 .code) z (j .0 .taken z) (c .before .before .if2 .left) _ full-room (j .1)
+    fast-ready (a .sites) (a .faults) (now (a .book)) (now (a .site)) (a .command) (j .0 .code) z (j .0 .taken z) (c .before .before .if2 .left) noPlaces full-room (j .1)
 
 code-requires : tie.Need-code-requires
 code-requires c κs = search needs

@@ -3,7 +3,7 @@
 use mathlib.Core.Path.{sym}
 use denote.Ref.{now}
 use Rattle.layout.specs.Layout.{siteSize}
-use Rattle.judging.proofs.Laws.{first-length, full-room}
+use Rattle.judging.proofs.Laws.{first-length, noPlaces, full-room}
 use Rattle.delivering.proofs.Laws.{end-refused, end-disabled, end-sized, end-ready, end-done}
 use borrow.Author.Needs.{needs}
 use Rattle.delivering.proofs.round_end.Statement.{statement}
@@ -71,7 +71,7 @@ end-round-requires c κs =
     let a = c .before .before .before .before .before .before .before .before .before .before .before .before .before .before .args in
     let j = c .before .before .before .before .before .before .before .before .note-site-and-log .ensures in
     let z = c .before .before .before .before .before .if1 .left in
-    end-ready (a .sites) (a .faults) (now (a .book)) (now (a .site)) (now (a .log)) (j .0 .code) z (j .0 .taken z) _ full-room (j .1)
+    end-ready (a .sites) (a .faults) (now (a .book)) (now (a .site)) (now (a .log)) (j .0 .code) z (j .0 .taken z) noPlaces full-room (j .1)
 
 code-requires : tie.Need-code-requires
 code-requires c κs = search needs

@@ -38,7 +38,7 @@ slice-aggregate-note-lent c =
 note-lent-requires : tie.Need-note-lent-requires
 note-lent-requires c κs =
     let a = c .before .before .before .before .before .before .before .before .before .args in
-    (first-few (a .sites) (a .faults) (a .enough && leb siteSize (length (now (a .site)))) (now (a .book)) (now (a .places)) (c .before .before .before .judge-first .ensures) (c .before .before .if1 .left), c .before .before .before .before .before .before .before .before .before .pre .0)
+    first-few (a .sites) (a .faults) (a .enough && leb siteSize (length (now (a .site)))) (now (a .book)) (now (a .places)) (c .before .before .before .judge-first .ensures) (c .before .before .if1 .left)
 
 unpack-requires : tie.Need-unpack-requires
 unpack-requires c κs = c .before .before .note-lent .ensures .1
@@ -72,7 +72,7 @@ judge-prefix-requires c κs =
     let z = c .before .before .before .before .before .before .before .before .before .before .before .if1 .left in
     let n = c .before .before .before .before .before .before .before .before .note-lent .ensures in
     let j = judges-same (c .before .before .before .before .before .unpack .ensures) (n .0) in
-    (log-position (a .sites) (a .faults) (now (a .book)) (a .enough) (now (a .site)) q z (now (a .log)) j (c .before .before .before .if2 .left) (c .before .position-of .ensures), first-few (a .sites) (a .faults) (a .enough && leb siteSize (length (now (a .site)))) (now (a .book)) (now (a .places)) q z, c .before .before .before .before .before .before .before .before .before .before .before .before .before .before .before .before .before .before .pre .1)
+    (log-position (a .sites) (a .faults) (now (a .book)) (a .enough) (now (a .site)) q z (now (a .log)) j (c .before .before .before .if2 .left) (c .before .position-of .ensures), first-few (a .sites) (a .faults) (a .enough && leb siteSize (length (now (a .site)))) (now (a .book)) (now (a .places)) q z, c .before .before .before .before .before .before .before .before .before .before .before .before .before .before .before .before .before .before .pre)
 
 refused-requires-2 : tie.Need-refused-requires-2
 refused-requires-2 c κs = search needs

@@ -8,8 +8,8 @@ use borrow.Author.Needs.{needs}
 use Rattle.judging.proofs.note_lent.Statement.{statement}
 use Rattle.judging.proofs.note_lent.Tie as tie
 
-note-requires : tie.Need-note-requires
-note-requires c κs = search needs
+walk-requires : tie.Need-walk-requires
+walk-requires c κs = search needs
 
 enum-known-measured : tie.Need-enum-known-measured
 enum-known-measured c = search needs
@@ -23,7 +23,7 @@ same-length c = search needs
 returns : tie.Need-returns
 returns c =
     let a = c .before .before .before .before .before .before .before .before .before .args in
-    let n = c .before .before .before .before .note .ensures in
+    let n = c .before .before .before .before .walk .ensures in
     (lent-unreadable (a .sites) (now (a .book)) (a .whole) (a .entries) (now (a .site)) (packed-refused _ 1 refl) (sym (n .0) ∙ c .enum-told .given .1), omega arith, n .1)
 
 same-length-2 : tie.Need-same-length-2
@@ -32,7 +32,7 @@ same-length-2 c = search needs
 returns-2 : tie.Need-returns-2
 returns-2 c =
     let a = c .before .before .before .before .before .before .before .before .before .before .before .args in
-    let n = c .before .before .before .before .before .before .note .ensures in
+    let n = c .before .before .before .before .before .before .walk .ensures in
     (lent-cut (a .sites) (now (a .book)) (a .whole) (a .entries) (now (a .site)) (sym (n .0) ∙ c .before .before .measured .given .1) (packed-refused _ 3 refl) (c .if1 .taken), omega arith, n .1)
 
 judge-requires : tie.Need-judge-requires
@@ -44,7 +44,7 @@ same-length-3 c = search needs
 returns-3 : tie.Need-returns-3
 returns-3 c =
     let a = c .before .before .before .before .before .before .before .before .before .before .before .before .before .args in
-    let n = c .before .before .before .before .before .before .before .before .note .ensures in
+    let n = c .before .before .before .before .before .before .before .before .walk .ensures in
     (lent-bad (a .sites) (now (a .book)) (a .whole) (a .entries) (now (a .site)) (sym (n .0) ∙ c .before .before .before .before .measured .given .1) (c .before .before .if1 .left) (c .before .judge .ensures) (packed-refused _ 4 refl) (c .if2 .taken), omega arith, n .1)
 
 same-length-4 : tie.Need-same-length-4
@@ -53,7 +53,7 @@ same-length-4 c = search needs
 returns-4 : tie.Need-returns-4
 returns-4 c =
     let a = c .before .before .before .before .before .before .before .before .before .before .before .before .before .args in
-    let n = c .before .before .before .before .before .before .before .before .note .ensures in
+    let n = c .before .before .before .before .before .before .before .before .walk .ensures in
     let counted = sym (n .0) ∙ c .before .before .before .before .measured .given .1 in
     let few = lent-few (a .sites) (now (a .book)) (a .whole) (a .entries) (now (a .site)) counted (c .before .before .if1 .left) (c .before .judge .ensures) in
     let packed = packed-commands _ few in
@@ -63,7 +63,7 @@ pub note-lent-spec : {M : Type 1} → statement M
 note-lent-spec =
     tie.close
     (tie.spec
-    note-requires
+    walk-requires
     enum-known-measured
     enum-told
     same-length

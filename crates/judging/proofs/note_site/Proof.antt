@@ -31,7 +31,7 @@ slice-aggregate-note-lent c =
 note-lent-requires : tie.Need-note-lent-requires
 note-lent-requires c κs =
     let a = c .before .before .before .before .before .before .before .args in
-    (first-few (a .sites) (a .faults) (a .enough && leb siteSize (length (now (a .site)))) (now (a .book)) (now (a .places)) (c .before .before .before .judge-first .ensures) (c .before .before .if1 .left), c .before .before .before .before .before .before .before .pre)
+    first-few (a .sites) (a .faults) (a .enough && leb siteSize (length (now (a .site)))) (now (a .book)) (now (a .places)) (c .before .before .before .judge-first .ensures) (c .before .before .if1 .left)
 
 unpack-requires : tie.Need-unpack-requires
 unpack-requires c κs = c .before .before .note-lent .ensures .1

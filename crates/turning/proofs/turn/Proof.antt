@@ -3,7 +3,7 @@
 use mathlib.Core.Path.{sym}
 use denote.Ref.{now}
 use Rattle.layout.specs.Layout.{siteSize}
-use Rattle.judging.proofs.Laws.{first-length, full-room}
+use Rattle.judging.proofs.Laws.{first-length, noPlaces, full-room}
 use Rattle.turning.proofs.Laws.{turn-refused, turn-range, turn-disabled, turn-sized, turn-counts, turn-received, turn-noted, turn-room, turn-own, turn-done}
 use borrow.Author.Needs.{needs}
 use Rattle.turning.proofs.turn.Statement.{statement}
@@ -83,7 +83,7 @@ is-calm-requires c κs =
     let a = c .before .before .before .before .before .before .before .before .before .before .before .before .before .before .before .before .before .before .args in
     let q = c .before .before .before .before .before .before .before .before .before .before .note-and-count .ensures .0 .code in
     let z = c .before .before .before .before .before .before .if1 .left in
-    (turn-noted (a .sites) (a .faults) (now (a .book)) (now (a .site)) (now (a .log)) (a .own) (now (a .out)) q z _ full-room (c .before .before .before .before .before .before .before .before .before .before .note-and-count .ensures .1), sym (first-length siteSize (now (a .site)) (turn-sized (a .sites) (a .faults) (now (a .book)) (now (a .site)) (now (a .log)) (a .own) (now (a .out)) q z)), turn-received (a .sites) (a .faults) (now (a .book)) (now (a .site)) (now (a .log)) (a .own) (now (a .out)) q z)
+    (turn-noted (a .sites) (a .faults) (now (a .book)) (now (a .site)) (now (a .log)) (a .own) (now (a .out)) q z noPlaces full-room (c .before .before .before .before .before .before .before .before .before .before .note-and-count .ensures .1), sym (first-length siteSize (now (a .site)) (turn-sized (a .sites) (a .faults) (now (a .book)) (now (a .site)) (now (a .log)) (a .own) (now (a .out)) q z)), turn-received (a .sites) (a .faults) (now (a .book)) (now (a .site)) (now (a .log)) (a .own) (now (a .out)) q z)
 
 slice-reshare-prefix-round-of : tie.Need-slice-reshare-prefix-round-of
 slice-reshare-prefix-round-of c =
