@@ -1,6 +1,7 @@
 pub mod Laws
 pub mod Walk
 pub mod Places
+pub mod Measuring
 pub mod Noting
 pub mod Decoding
 pub mod Writing

@@ -3,7 +3,7 @@
 use mathlib.Core.Path.{_≡_, refl, sym, ap, _∙_}
 use mathlib.Core.List.{List, [], _∷_}
 use mathlib.Core.Option.{Option, none, some}
-use Prim.Native.Nat.{ℕ, zero, suc, _+_, _-_, _≤_, _<_}
+use Prim.Native.Nat.{ℕ, zero, suc, _+_, _-_, _*_, _≤_, _<_}
 use native.Mathlib.Decide.{ℕ-discrete}
 use native.Mathlib.Omega.{arith}
 use lib.ListN.{length, take, drop, length-drop}
@@ -36,12 +36,13 @@ step-at n (b ∷ l) h = refl
 pub whole-at : (n : ℕ) (l : List ℕ) {c : Command} → 0 < length l → readCommand l ≡ Whole c → readUpTo (suc n) l ≡ also c (readUpTo n (drop (sizeOf c) l))
 whole-at n l h e = rw (step-at n l h, e) refl
 
-bad-at : (n : ℕ) (l : List ℕ) → 0 < length l → readCommand l ≡ Bad → readUpTo (suc n) l ≡ none
-bad-at n l h e = rw (step-at n l h, e) refl
-
 full-at : (l : List ℕ) → 0 < length l → readUpTo 0 l ≡ none
 full-at [] h = absurd (omega arith)
 full-at (b ∷ l) h = refl
+
+bad-at : (n : ℕ) (l : List ℕ) → 0 < length l → readCommand l ≡ Bad → readUpTo n l ≡ none
+bad-at zero l h e = full-at l h
+bad-at (suc n) l h e = rw (step-at n l h, e) refl
 
 end-at : (n : ℕ) (l : List ℕ) → length l ≡ 0 → readUpTo n l ≡ some []
 end-at zero [] h = refl
@@ -63,17 +64,13 @@ module _ (s : List ℕ) (k at : ℕ) where
       let q : k ≡ k + 0 = omega arith in
       ap Commands q ∙ ap (countFrom k) (sym (end-at (maxCommands - k) (drop at s) (omega (arith, length-drop at s)))) ∙ e
 
-  pub measure-full : at < length s → k ≡ maxCommands → countFrom k (readUpTo (maxCommands - k) (drop at s)) ≡ measureBook s → Unreadable ≡ measureBook s
+  pub measure-full : at < length s → maxCommands ≤ k → countFrom k (readUpTo (maxCommands - k) (drop at s)) ≡ measureBook s → Unreadable ≡ measureBook s
   measure-full h g e =
       let q : maxCommands - k ≡ 0 = omega arith in
       ap (countFrom k) (sym (full-at (drop at s) (omega (arith, length-drop at s)))) ∙ ap (λ (n : ℕ). countFrom k (readUpTo n (drop at s))) (sym q) ∙ e
 
-  pub measure-bad : at < length s → k < maxCommands → readCommand (drop at s) ≡ Bad → countFrom k (readUpTo (maxCommands - k) (drop at s)) ≡ measureBook s → Unreadable ≡ measureBook s
-  measure-bad h g r e =
-      let q : maxCommands - k ≡ suc (maxCommands - (k + 1)) = omega arith in
-      ap (countFrom k) (sym (bad-at (maxCommands - (k + 1)) (drop at s) (omega (arith, length-drop at s)) r))
-      ∙ ap (λ (n : ℕ). countFrom k (readUpTo n (drop at s))) (sym q)
-      ∙ e
+  pub measure-bad : at < length s → readCommand (drop at s) ≡ Bad → countFrom k (readUpTo (maxCommands - k) (drop at s)) ≡ measureBook s → Unreadable ≡ measureBook s
+  measure-bad h r e = ap (countFrom k) (sym (bad-at (maxCommands - k) (drop at s) (omega (arith, length-drop at s)) r)) ∙ e
 
   pub measure-more : {c : Command} {z : ℕ} → at < length s → k < maxCommands → readCommand (drop at s) ≡ Whole c → z ≡ sizeOf c → countFrom k (readUpTo (maxCommands - k) (drop at s)) ≡ measureBook s
       → countFrom (k + 1) (readUpTo (maxCommands - (k + 1)) (drop (at + z) s)) ≡ measureBook s
@@ -85,6 +82,20 @@ module _ (s : List ℕ) (k at : ℕ) where
       ∙ ap (countFrom k) (sym (whole-at (maxCommands - (k + 1)) (drop at s) (omega (arith, length-drop at s)) r))
       ∙ ap (λ (n : ℕ). countFrom k (readUpTo n (drop at s))) (sym q)
       ∙ e
+
+-- Bytes too many for n commands.
+long-reading : (n : ℕ) (l : List ℕ) (r : Reading) → ((m : List ℕ) → 10 * n < length m → readUpTo n m ≡ none) → 10 * suc n < length l → readCommand l ≡ r → readUpTo (suc n) l ≡ none
+long-reading n l Bad f h e = bad-at (suc n) l (omega arith) e
+long-reading n l (Whole c) f h e =
+    whole-at n l (omega arith) e ∙ ap (also c) (f (drop (sizeOf c) l) (omega (arith, length-drop (sizeOf c) l, size-small c)))
+
+long-at : (n : ℕ) (l : List ℕ) → 10 * n < length l → readUpTo n l ≡ none
+long-at zero l h = full-at l (omega arith)
+long-at (suc n) l h = long-reading n l (readCommand l) (λ m g. long-at n m g) h refl
+
+pub measure-long : (s : List ℕ) → 10 * maxCommands < length s → Unreadable ≡ measureBook s
+unfolding measureBook
+measure-long s h = ap (countFrom 0) (sym (long-at maxCommands s h))
 
 counted : (o : Option (List Command)) {n : ℕ} → countFrom 0 o ≡ Commands n → (Taken ≡ verdictOf o) × (n ≡ length (orNone o))
 counted none h = absurd (let z : _≡_ {A = ℕ} 0 1 = cc in omega arith)

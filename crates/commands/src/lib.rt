@@ -15,6 +15,9 @@ pub const MAX_COMMANDS: usize = 64;
 // The bytes of the longest command, a FIT.
 const LONGEST: usize = 10;
 
+// A book of more bytes has too many commands.
+const MOST_BYTES: usize = MAX_COMMANDS * LONGEST;
+
 // What stands at the front of some bytes.
 pub enum Reading {
     Whole(Command),
@@ -103,16 +106,21 @@ fn short_size(kind: u8) -> usize
 
 // The bytes of the command at the front of bytes enough for any, whatever its bike; 0 where there is none.
 // The start is read for every kind: a test of both at once keeps the kinds from becoming a table of jumps.
+// The kinds without a start are told first: one jump taken for each command of a walk.
 fn long_size(bytes: &[u8]) -> usize
     requires { ⌜ 10 ≤ length (now bytes) ⌝ }
     ensures { λ r. ⌜ r ≡ walkSize (now (bytes .entry)) ⌝ }
 {
     let kind = bytes[0];
     let start = wire::get4(bytes, 6);
+    let size = short_size(kind);
+    if size != 0 {
+        return size;
+    }
     if (kind == 2) & (start <= Bike::MAX_READING) {
         return LONGEST;
     }
-    short_size(kind)
+    0
 }
 
 // The same of bytes too few for a FIT.
@@ -180,12 +188,41 @@ pub fn note(book: &[u8], places: &mut [u16]) -> Measured
     Measured::Commands(k)
 }
 
-// How many commands a book has; Unreadable where it is refused.
+// How many commands a book has; Unreadable where it is refused. Nothing is noted.
+// The walk goes to the end of so few bytes, and the count is looked at there, not at each command.
 pub fn measure(book: &[u8]) -> Measured
     ensures { λ r. ⌜ r ≡ measureBook (now (book .entry)) ⌝ }
 {
-    let mut places = [0u16; 64];
-    note(book, &mut places)
+    let n = book.len();
+    if n > MOST_BYTES {
+        return Measured::Unreadable;
+    }
+    let long = long_positions(n);
+    let mut at: usize = 0;
+    let mut k: usize = 0;
+    let mut bikes: u8 = 0;
+    while at < long {
+        let size = long_size(&book[at..]);
+        if size == 0 {
+            return Measured::Unreadable;
+        }
+        bikes = bikes | book[at + 1];
+        at += size;
+        k += 1;
+    }
+    while at < n {
+        let size = last_size(&book[at..]);
+        if size == 0 {
+            return Measured::Unreadable;
+        }
+        bikes = bikes | book[at + 1];
+        at += size;
+        k += 1;
+    }
+    if (bikes >= Bike::COUNT as u8) | (k > MAX_COMMANDS) {
+        return Measured::Unreadable;
+    }
+    Measured::Commands(k)
 }
 
 // The number of commands; 0 where the book is refused.

@@ -1,7 +1,7 @@
 use borrow.Author.Needs.{needs}
 use mathlib.Core.Path.{_∙_}
 use native.Mathlib.Omega.{arith}
-use Rattle.commands.proofs.Noting.{last-cut, last-whole}
+use Rattle.commands.proofs.Measuring.{last-cut, last-whole}
 use Rattle.commands.proofs.last_size.Statement.{statement}
 use Rattle.commands.proofs.last_size.Tie as tie
 

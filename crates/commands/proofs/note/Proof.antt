@@ -8,7 +8,8 @@ use mathlib.Core.Path.{_≡_, refl, _∙_}
 use lib.ListN.{length, length-set}
 use lib.Seq.{sets}
 use Rattle.commands.specs.Book.{maxCommands, walkedPlaces}
-use Rattle.commands.proofs.Noting.{toNote, Walking, size-at, walk-inside, walk-all, walk-on, walk-full, walk-end, walk-wild, walk-bad, walk-more}
+use Rattle.commands.proofs.Measuring.{size-at, walk-inside}
+use Rattle.commands.proofs.Noting.{toNote, Walking, walk-all, walk-on, walk-full, walk-end, walk-wild, walk-bad, walk-more}
 use Rattle.commands.proofs.note.Statement.{statement}
 use Rattle.commands.proofs.note.Tie as tie
 
@@ -215,7 +216,7 @@ returns-6 : tie.Need-returns-6 Inv-loop μ-loop Inv-loop2 μ-loop2
 returns-6 c =
     let s = now (c .before .before .before .before .before .before .before .before .args .book) in
     let l = c .before .before .loop2 in
-    let e = walk-end s _ (l .places) (l .k) (l .at) (l .bikes) (l .inv .6) (omega arith) (omega arith) in
+    let e = walk-end s _ (l .places) (l .k) (l .at) (l .bikes) (l .inv .6) (omega arith) (omega arith) (l .inv .3) in
     (e .0, e .1 ∙ c .before .before .before .before .loop .inv .6 .noted)
 
 pub note-spec : {M : Type 1} → statement M

@@ -1,5 +1,5 @@
 use borrow.Author.Needs.{needs}
-use Rattle.commands.proofs.Noting.{short-four, short-none}
+use Rattle.commands.proofs.Measuring.{short-four, short-none}
 use Rattle.commands.proofs.short_size.Statement.{statement}
 use Rattle.commands.proofs.short_size.Tie as tie
 
