@@ -48,13 +48,14 @@ unfolding deliveryText
 delivery-length command answer = let a = length-digits 2 command in simp length-append (omega arith)
 
 -- A refusal's number is written as one digit.
-pub step-written : {s s₁ s₂ s₃ s₄ : List ℕ} {at p₁ p₂ p₃ p₄ : ℕ} (step refusal : ℕ) → at ≤ length s → refusal < 10 → Wrote s₁ p₁ s at (ascii "step ")
-    → Wrote s₂ p₂ s₁ p₁ (counted step (ascii " refused ")) → Wrote s₃ p₃ s₂ p₂ (digits 1 refusal) → Wrote s₄ p₄ s₃ p₃ lineEnd
+pub step-written : {s s₁ s₂ s₃ s₄ : List ℕ} {at p₁ p₂ p₃ p₄ : ℕ} (step refusal : ℕ) → at ≤ length s → refusal < 10 → Wrote s₁ p₁ s at (ascii "step " ++ decimal step)
+    → Wrote s₂ p₂ s₁ p₁ (ascii " refused ") → Wrote s₃ p₃ s₂ p₂ (digits 1 refusal) → Wrote s₄ p₄ s₃ p₃ lineEnd
     → Wrote s₄ p₄ s at (stepLine step refusal)
 unfolding stepLine
-step-written {s} {s₄ = s₄} {at = at} {p₄ = p₄} step refusal h l w₁ w₂ w₃ w₄ =
+step-written {s} {s₂ = s₂} {s₄ = s₄} {at = at} {p₂ = p₂} {p₄ = p₄} step refusal h l w₁ w₂ w₃ w₄ =
     let front : List ℕ = ascii "step " ++ counted step (ascii " refused ") in
-    subst (Wrote s₄ p₄ s at) (append-assoc front (decimal refusal) lineEnd) (both h (both h (both h w₁ w₂) (wrote-decimal refusal (sym (width-one refusal (omega arith))) w₃)) w₄)
+    let named : Wrote s₂ p₂ s at front = subst (Wrote s₂ p₂ s at) (append-assoc (ascii "step ") (decimal step) (ascii " refused ")) (both h w₁ w₂) in
+    subst (Wrote s₄ p₄ s at) (append-assoc front (decimal refusal) lineEnd) (both h (both h named (wrote-decimal refusal (sym (width-one refusal (omega arith))) w₃)) w₄)
 
 -- 11 sites, 2 faulty ones and 64 commands at most.
 pub run-short : (sites faulty commands : ℕ) → sites < 100 → faulty < 10 → commands < 100 → length (runLine sites faulty commands) ≤ 33

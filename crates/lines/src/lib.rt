@@ -40,13 +40,13 @@ pub fn put_run_line(
     put_counted(out, p3, commands, b" commands\n")
 }
 
-// The line of a refused step. The number of a refusal has one digit.
+// The line of a refused step. The number of a refusal has one digit, that of a step no more than five.
 pub fn put_step_line(out: &mut [u8], at: usize, step: usize, refusal: usize) -> usize
-    requires { ⌜ (at + length (stepLine step refusal) ≤ length (now out)) × (refusal < 10) ⌝ }
+    requires { ⌜ (at + length (stepLine step refusal) ≤ length (now out)) × (refusal < 10) × (step < 100000) ⌝ }
     ensures { λ r. ⌜ Wrote (now (out .exit)) r (now (out .entry)) at (stepLine step refusal) ⌝ }
 {
-    let p1 = print::put_text(out, at, b"step ");
-    let p2 = put_counted(out, p1, step, b" refused ");
+    let p1 = print::put_short(out, at, b"step ", step);
+    let p2 = print::put_text(out, p1, b" refused ");
     let p3 = print::put_digits(out, p2, 1, refusal);
     print::put_text(out, p3, b"\n")
 }

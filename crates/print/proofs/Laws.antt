@@ -1,20 +1,20 @@
 -- Laws of printing: how long a number is, how texts written one after another are one text, and what is left of a text in a loop.
 -- Assumes nothing.
-use mathlib.Core.Bool.{true, false}
+use mathlib.Core.Bool.{true, false, cond}
 use mathlib.Core.Path.{_≡_, refl, sym, ap, subst, _∙_}
 use mathlib.Core.List.{List, [], _∷_, _++_, append-assoc, append-nil}
-use Prim.Native.Nat.{ℕ, zero, suc, _+_, _-_, _/_, _%_, _^_, _≤_, _<_}
+use Prim.Native.Nat.{ℕ, zero, suc, _+_, _-_, _*_, _/_, _%_, _^_, _≤_, _<_}
 use native.Mathlib.Nat.{pow-suc, div-lt-iff-lt-mul, le-div-iff-mul-le}
 use native.Mathlib.Decide.{decLt}
 use native.Mathlib.Numerals.{add-one}
 use native.Mathlib.Omega.{arith}
-use borrow.Author.Tests.{le-leb, lt-leb, ltb-true}
-use lib.Dec.{T}
+use borrow.Author.Tests.{le-leb, lt-leb, lt-ltb, le-ltb, ltb-true}
+use lib.Dec.{T, ltb}
 use lib.IntN.{ℤ, pos, negsuc, natAbs}
 use lib.Signed.{ltZ}
 use lib.ListN.{length, take, drop, getD, set, length-append, take-append-drop}
-use lib.Seq.{set-split, drop-at, take-all, length-take-le, paste, paste-suc, take-set-le}
-use Rattle.wire.specs.Wire.{splice}
+use lib.Seq.{set-split, drop-at, take-all, take-take, take-append-le, length-take-le, paste, paste-suc, take-set-le}
+use Rattle.wire.specs.Wire.{bytes, splice}
 use Rattle.wire.proofs.Laws.{splice-two}
 use Rattle.print.specs.Print.{digits, widthTo, width, decimal, signedDecimal, Wrote}
 
@@ -142,6 +142,66 @@ four-parted n x =
     ∙ digits-parted (n + 2) x
     ∙ ap (λ (k : ℕ). digits k x) e
 
+-- ---- a number of up to five digits, and a text before it
+
+reaches : {a : ℕ} (k x : ℕ) → a ≡ cond (ltb k x) 1 0 → k < x → a ≡ 1
+reaches k x e h = e ∙ ap (λ b. cond b 1 0) (lt-ltb k x h)
+
+misses : {a : ℕ} (k x : ℕ) → a ≡ cond (ltb k x) 1 0 → x ≤ k → a ≡ 0
+misses k x e h = e ∙ ap (λ b. cond b 1 0) (le-ltb k x h)
+
+-- A number below 100000 has a digit more for each of these that it is above.
+pub width-sum : (x : ℕ) → x < 100000 → {a b c d : ℕ} → a ≡ cond (ltb 9 x) 1 0 → b ≡ cond (ltb 99 x) 1 0 → c ≡ cond (ltb 999 x) 1 0 → d ≡ cond (ltb 9999 x) 1 0
+    → 1 + a + b + c + d ≡ width x
+width-sum x h ea eb ec ed =
+    elim (decLt 9 x) [
+      | no l ↦ omega (arith, width-one x (omega arith), misses 9 x ea (omega arith), misses 99 x eb (omega arith), misses 999 x ec (omega arith), misses 9999 x ed (omega arith))
+      | yes k ↦
+          elim (decLt 99 x) [
+            | no l ↦
+                omega (arith, width-between 1 x (omega arith) (omega arith), reaches 9 x ea k, misses 99 x eb (omega arith), misses 999 x ec (omega arith), misses 9999 x ed (omega arith))
+            | yes k₁ ↦
+                elim (decLt 999 x) [
+                  | no l ↦
+                      omega (arith, width-between 2 x (omega arith) (omega arith), reaches 9 x ea k, reaches 99 x eb k₁, misses 999 x ec (omega arith), misses 9999 x ed (omega arith))
+                  | yes k₂ ↦
+                      elim (decLt 9999 x) [
+                        | no l ↦ omega (arith, width-between 3 x (omega arith) (omega arith), reaches 9 x ea k, reaches 99 x eb k₁, reaches 999 x ec k₂, misses 9999 x ed (omega arith))
+                        | yes k₃ ↦ omega (arith, width-between 4 x (omega arith) (omega arith), reaches 9 x ea k, reaches 99 x eb k₁, reaches 999 x ec k₂, reaches 9999 x ed k₃)
+                      ]
+                ]
+          ]
+    ]
+
+-- The last n of more digits, k of them before these.
+pub digits-last : (k n x : ℕ) → (z : List ℕ) × (length z ≡ k) × (digits (k + n) x ≡ z ++ digits n x)
+unfolding digits
+digits-last k zero x = let q : k + 0 ≡ k = omega arith in (digits k x, length-digits k x, ap (λ (m : ℕ). digits m x) q ∙ sym (append-nil (digits k x)))
+digits-last k (suc n) x =
+    let q : k + suc n ≡ suc (k + n) = omega arith in
+    let l = digits-last k n (x / 10) in (
+      l .0,
+      l .1,
+      ap (λ (m : ℕ). digits m x) q ∙ ap (λ (y : List ℕ). y ++ ((48 + x % 10) ∷ [])) (l .2) ∙ append-assoc (l .0) (digits n (x / 10)) ((48 + x % 10) ∷ []),
+    )
+
+-- A text written over the start of another, up to a place in it.
+pub written-over : (s : List ℕ) (at n : ℕ) (z d t : List ℕ) → length z + n ≡ length t → at + n ≤ length s
+    → splice (splice s (at + n) (z ++ d)) at t ≡ splice s at (t ++ d)
+unfolding splice
+written-over s at n z d t e h =
+    let r : List ℕ = drop (at + n + length (z ++ d)) s in
+    let q : length (take (at + n) s ++ z) ≡ at + length t = length-append (take (at + n) s) z ∙ omega (arith, length-take-le (at + n) s h) in
+    let same : take (at + n) s ++ (z ++ d) ++ r ≡ (take (at + n) s ++ z) ++ (d ++ r) = simp append-assoc in
+    let m = length-take-le (at + n) s h in
+    let front : take at (take (at + n) s ++ (z ++ d) ++ r) ≡ take at s =
+    take-append-le at (take (at + n) s ++ (z ++ d)) r (omega (arith, m, length-append (take (at + n) s) (z ++ d)))
+    ∙ take-append-le at (take (at + n) s) (z ++ d) (omega (arith, m))
+    ∙ take-take at (at + n) s (omega arith) in
+    let back : drop (at + length t) (take (at + n) s ++ (z ++ d) ++ r) ≡ d ++ r = ap (drop (at + length t)) same ∙ drop-at (take (at + n) s ++ z) (d ++ r) (at + length t) q in
+    let end : at + n + length (z ++ d) ≡ at + length (t ++ d) = omega (arith, length-append z d, length-append t d) in
+    rw (front, back, end) (simp append-assoc)
+
 -- ---- the copy of a text
 
 pub copy-more : (d : List ℕ) (at : ℕ) (t : List ℕ) (i : ℕ) {s : List ℕ} → at + i < length d → i < length t → s ≡ paste d at t i
@@ -165,6 +225,34 @@ both {s} {s₁} {s₂} {at} {r₁} {r₂} {a} {b} h p q =
 pub wrote-parted : {s₁ s₂ s : List ℕ} {r₁ r₂ at : ℕ} (n x : ℕ) → at ≤ length s → Wrote s₁ r₁ s at (digits n (x / 10000)) → Wrote s₂ r₂ s₁ r₁ (digits 4 (x % 10000))
     → Wrote s₂ r₂ s at (digits (n + 4) x)
 wrote-parted {s₁} {s₂} {s} {r₁} {r₂} {at} n x h v w = subst (Wrote s₂ r₂ s at) (four-parted n x) (both h v w)
+
+-- A number of five digits: the first as one byte, and the last four.
+pub wrote-five : {s s₁ s₂ : List ℕ} {r at : ℕ} (x : ℕ) → x < 100000 → at ≤ length s → s₁ ≡ splice s at (bytes 1 (48 + x / 10000))
+    → Wrote s₂ r s₁ (at + 1) (digits 4 (x - 10000 * (x / 10000))) → Wrote s₂ r s at (digits 5 x)
+unfolding digits bytes
+wrote-five {s} {s₁} {s₂} {r} {at} x l h e w =
+    let q : (48 + x / 10000) % 256 ≡ 48 + x / 10000 % 10 = omega arith in
+    let m : x - 10000 * (x / 10000) ≡ x % 10000 = omega arith in
+    wrote-parted {r₁ = at + 1} 1 x h
+    (record { end = refl; bytes = e ∙ ap (λ (b : ℕ). splice s at (b ∷ [])) q })
+    (subst (λ (y : ℕ). Wrote s₂ r s₁ (at + 1) (digits 4 y)) m w)
+
+-- A number written with leading zeros, and a text over these.
+pub wrote-short : {s s₁ s₂ : List ℕ} {at r₁ r₂ n : ℕ} (x : ℕ) (t : List ℕ) → length t ≡ 5 → n ≡ width x → n ≤ 5 → at + 5 + n ≤ length s → Wrote s₁ r₁ s (at + n) (digits 5 x)
+    → Wrote s₂ r₂ s₁ at t → Wrote s₂ r₁ s at (t ++ decimal x)
+unfolding decimal
+wrote-short {s} {s₁} {s₂} {at} {r₁} {r₂} {n} x t e ew few h v w =
+    let l = digits-last (5 - n) n x in
+    let q : 5 - n + n ≡ 5 = omega arith in
+    let y : digits 5 x ≡ l .0 ++ digits n x = ap (λ (m : ℕ). digits m x) (sym q) ∙ l .2 in
+    record {
+      end = v .end ∙ omega (arith, length-digits 5 x, length-append t (digits (width x) x), length-digits (width x) x, e, ew);
+      bytes =
+          w .bytes
+          ∙ (λ i. splice ((v .bytes ∙ ap (splice s (at + n)) y) i) at t)
+          ∙ written-over s at n (l .0) (digits n x) t (omega (arith, l .1, e)) (omega arith)
+          ∙ ap (λ (m : ℕ). splice s at (t ++ digits m x)) ew;
+    }
 
 pub wrote-decimal : {s₁ s : List ℕ} {r at n : ℕ} (x : ℕ) → n ≡ width x → Wrote s₁ r s at (digits n x) → Wrote s₁ r s at (decimal x)
 unfolding decimal

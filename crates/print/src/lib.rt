@@ -1,5 +1,7 @@
 // Numbers and texts in ASCII, written into a lent buffer. Each function answers the position after what it wrote.
 ghost use mathlib.Core.Path.{_≡_};
+ghost use mathlib.Core.Bool.{cond};
+ghost use mathlib.Core.List.{_++_};
 ghost use Prim.Native.Nat.{_+_, _≤_, _<_};
 ghost use lib.ListN.{length};
 ghost use Rattle.print.specs.Print.{digits, width, decimal, signedDecimal, Wrote};
@@ -91,6 +93,44 @@ pub fn put_decimal(out: &mut [u8], at: usize, x: usize) -> usize
     }
     let n = digit_count(x);
     put_digits(out, at, n, x)
+}
+
+// 1 where a test holds, else 0.
+fn one(test: bool) -> usize
+    ensures { λ r. ⌜ (r ≡ cond test 1 0) × (r ≤ 1) ⌝ }
+{
+    if test { 1 } else { 0 }
+}
+
+// How many digits a number of up to five digits has, without a branch.
+fn short_width(x: u32) -> usize
+    requires { ⌜ x < 100000 ⌝ }
+    ensures { λ r. ⌜ r ≡ width x ⌝ }
+{
+    1 + one(x > 9) + one(x > 99) + one(x > 999) + one(x > 9999)
+}
+
+// The last five digits of a number of no more are written.
+fn put_five(out: &mut [u8], at: usize, x: u32) -> usize
+    requires { ⌜ (x < 100000) × (at + 5 ≤ length (now out)) ⌝ }
+    ensures { λ r. ⌜ Wrote (now (out .exit)) r (now (out .entry)) at (digits 5 x) ⌝ }
+{
+    let head = x / 10000;
+    wire::put1(out, at, (48 + head) as u8);
+    put_four(out, at + 1, (x - 10000 * head) as usize)
+}
+
+// A text of five bytes and a number of up to five digits are written, without a branch: the number first, with leading zeros, so that it
+// ends where it is to end, and the text over the zeros.
+pub fn put_short(out: &mut [u8], at: usize, text: &[u8], x: usize) -> usize
+    requires { ⌜ (length (now text) ≡ 5) × (x < 100000) × (at + 5 + length (decimal x) ≤ length (now out)) ⌝ }
+    ensures { λ r. ⌜ Wrote (now (out .exit)) r (now (out .entry)) at (now (text .entry) ++ decimal x) ⌝ }
+{
+    let y = x as u32;
+    let n = short_width(y);
+    let end = put_five(out, at + n, y);
+    put_text(out, at, text);
+    end
 }
 
 // A text is written.

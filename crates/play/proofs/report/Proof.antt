@@ -16,7 +16,7 @@ put-step-line-requires c κs =
     let s = c .before .before .before in
     let n = code-small (s .pre .2 .0) in
     let l : s .args .code < 10 = omega (arith, s .pre .2 .1) in
-    (omega (arith, step-short (s .args .number) (s .args .code) (s .pre .1) l), l)
+    (omega (arith, step-short (s .args .number) (s .args .code) (s .pre .1) l), l, s .pre .1)
 
 same-length : tie.Need-same-length
 same-length c = search needs
