@@ -124,15 +124,13 @@ module _ (t : SiteTable) (book : List Command) (steps : List ℕ) (b : Buffers) 
 
 -- ---- what a step starts
 
-module _ (t : SiteTable) (steps : List ℕ) (at entries : ℕ) (sent : List ℕ) (number end : ℕ) (sites out : List ℕ) {x : Start} (after lines : List ℕ)
-    (h : startOf t steps at entries sent number end sites out x after lines) where
-  pub many : {r : Told} → x ≡ Many r → PlayedBatch t steps at entries sent number end sites out r after lines
-  many e = subst (λ (y : Start). startOf t steps at entries sent number end sites out y after lines) e h
+module _ (t : SiteTable) (steps : List ℕ) (at entries : ℕ) (sent sites : List ℕ) {x : Start} (after : List ℕ) (h : startOf t steps at entries sent sites x after) where
+  pub many : {r : Batch} → x ≡ Many r → PlayedBatch t steps at entries sent sites r after
+  many e = subst (λ (y : Start). startOf t steps at entries sent sites y after) e h
 
   -- Where nothing was done yet, the run stands where it stood.
-  pub playing-one : (book : List Command) (before : List ℕ) (from : ℕ) {earlier : List ℕ} (log : List ℕ) → x ≡ One → Playing t book steps before from earlier (lent sites log entries sent) out end at number
-      → Playing t book steps before from earlier (lent after log entries sent) lines end at number
-  playing-one book before from {earlier} log e p =
-      let o : (after ≡ sites) × (lines ≡ out) = subst (λ (y : Start). startOf t steps at entries sent number end sites out y after lines) e h in
-      subst (λ (y : List ℕ). Playing t book steps before from earlier (lent y log entries sent) lines end at number) (sym (o .0))
-      (subst (λ (y : List ℕ). Playing t book steps before from earlier (lent sites log entries sent) y end at number) (sym (o .1)) p)
+  pub playing-one : (book : List Command) (before : List ℕ) (from : ℕ) {earlier : List ℕ} (log out : List ℕ) (end number : ℕ) → x ≡ One
+      → Playing t book steps before from earlier (lent sites log entries sent) out end at number → Playing t book steps before from earlier (lent after log entries sent) out end at number
+  playing-one book before from {earlier} log out end number e p =
+      let o : after ≡ sites = subst (λ (y : Start). startOf t steps at entries sent sites y after) e h in
+      subst (λ (y : List ℕ). Playing t book steps before from earlier (lent y log entries sent) out end at number) (sym o) p

@@ -64,15 +64,13 @@ pub record ToldOf (x : Batch) (number end : ℕ) (before : List ℕ) (r : Told) 
   pub onward : r .next ≡ x .next
   pub counted : r .number ≡ number + x .past + 1
 
-module _ (t : SiteTable) (steps : List ℕ) (at entries : ℕ) (sent : List ℕ) (number end : ℕ) (sites out : List ℕ) where
-  -- A batch that was played, with its line.
-  pub record PlayedBatch (r : Told) (after lines : List ℕ) : Type 0 where
-    pub batch : Batch
-    pub ends : Ends steps at batch
-    pub did : BatchOf t steps at entries sent sites batch after
-    pub told : ToldOf batch number end out r lines
+module _ (t : SiteTable) (steps : List ℕ) (at entries : ℕ) (sent sites : List ℕ) where
+  -- A batch that was played; its last step has no line yet.
+  pub record PlayedBatch (r : Batch) (after : List ℕ) : Type 0 where
+    pub ends : Ends steps at r
+    pub did : BatchOf t steps at entries sent sites r after
 
   -- What a step starts: a batch that was played, or only itself, and then nothing was done yet.
-  abbrev pub startOf : Start → List ℕ → List ℕ → Type 0
-  startOf (Many r) after lines = PlayedBatch r after lines
-  startOf One after lines = (after ≡ sites) × (lines ≡ out)
+  abbrev pub startOf : Start → List ℕ → Type 0
+  startOf (Many r) after = PlayedBatch r after
+  startOf One after = after ≡ sites

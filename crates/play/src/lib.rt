@@ -47,7 +47,7 @@ pub struct Told {
 
 // What a step starts: many steps that were played, or only itself, which is still to be carried out.
 pub enum Start {
-    Many(Told),
+    Many(Batch),
     One,
 }
 
@@ -197,29 +197,18 @@ fn play_batch(
     roles: &[u8],
     steps: &[u8],
     at: usize,
-    out: &mut [u8],
-    end: usize,
-    number: usize,
     step: Step,
 ) -> Start
     requires { ⌜ (length (now sites) ≡ table .sites * siteSize) × (isGood table ≡ true) × Roles table (now roles) × GoodSent (now sent) × (entries ≤ 65535)
-        × (readStep (drop at (now steps)) ≡ Whole step) × (at ≤ length (now steps)) × (length (now steps) < maxRun)
-        × (end + lineRoom ≤ length (now out)) × (2 * number ≤ at + 2) ⌝ }
-    ensures { λ r. ⌜ startOf table (now (steps .entry)) at entries (now (sent .entry)) number end (now (sites .entry)) (now (out .entry)) r (now (sites .exit)) (now (out .exit)) ⌝ }
+        × (readStep (drop at (now steps)) ≡ Whole step) × (at ≤ length (now steps)) × (length (now steps) < maxRun) ⌝ }
+    ensures { λ r. ⌜ startOf table (now (steps .entry)) at entries (now (sent .entry)) (now (sites .entry)) r (now (sites .exit)) ⌝ }
 {
     match step {
         Step::Acknowledgment { .. } => {
-            let batch = acknowledgments(sites, sent, table, roles, steps, at);
-            Start::Many(tell(out, end, number, batch))
+            Start::Many(acknowledgments(sites, sent, table, roles, steps, at))
         }
-        Step::Check { .. } => {
-            let batch = checks(sites, sent, table, roles, steps, at);
-            Start::Many(tell(out, end, number, batch))
-        }
-        Step::LogRead { .. } => {
-            let batch = log_reads(sites, entries, table, roles, steps, at);
-            Start::Many(tell(out, end, number, batch))
-        }
+        Step::Check { .. } => Start::Many(checks(sites, sent, table, roles, steps, at)),
+        Step::LogRead { .. } => Start::Many(log_reads(sites, entries, table, roles, steps, at)),
         _ => Start::One,
     }
 }
@@ -259,21 +248,10 @@ fn play_on(
                 entries: entries,
             };
         };
-        let start = play_batch(
-            sites,
-            &sent[..],
-            entries,
-            table,
-            roles,
-            steps,
-            at,
-            out,
-            end,
-            number,
-            step,
-        );
+        let start = play_batch(sites, &sent[..], entries, table, roles, steps, at, step);
         match start {
-            Start::Many(told) => {
+            Start::Many(batch) => {
+                let told = tell(out, end, number, batch);
                 end = told.end;
                 at = told.next;
                 number = told.number;

@@ -98,53 +98,64 @@ returns c =
 
 play-batch-requires : tie.Need-play-batch-requires Inv-loop μ-loop
 play-batch-requires c κs =
-    let a = c .before .before .before .before .before .before .before .before .before .before .before .before .before .before .before .before .before .before .before in
-    let l = c .before .before .before .before .before .before .before .before .loop in
+    let a = c .before .before .before .before .before .before .before .before .before .before .before .before .before .before .before .before .before .before in
+    let l = c .before .before .before .before .before .before .before .loop in
     let w = l .inv .8 .world .good in
-    let m = l .inv .1 (omega (arith, c .before .before .before .before .before .before .before .loop-test .taken)) in (
+    let m = l .inv .1 (omega (arith, c .before .before .before .before .before .before .loop-test .taken)) in (
       w .size,
       a .pre .0 .good,
       a .pre .1,
       w .sent,
       omega (arith, w .room, w .short),
-      sym (c .before .before .before .before .before .before .read-step .ensures) ∙ c .before .before .before .before .reading .given .1,
+      sym (c .before .before .before .before .before .read-step .ensures) ∙ c .before .before .before .reading .given .1,
       l .inv .0,
       a .pre .0 .short,
-      omega (arith, a .pre .0 .room, a .pre .0 .short, l .inv .0, l .inv .3, l .inv .7),
-      m,
     )
 
 enum-known-start : tie.Need-enum-known-start Inv-loop μ-loop
 enum-known-start c = search needs
 
+tell-requires : tie.Need-tell-requires Inv-loop μ-loop
+tell-requires c κs =
+    let a = c .before .before .before .before .before .before .before .before .before .before .before .before .before .before .before .before .before .before .before .before .before .before .before .before .before in
+    let l = c .before .before .before .before .before .before .before .before .before .before .before .before .before .before .loop in
+    let x = many (a .args .table) (now (a .args .steps)) (l .at) (l .entries) (l .sent) (l .sites) _ (c .before .before .before .before .before .before .play-batch .ensures) (c .before .before .start .given .1) in
+    let m = l .inv .1 (omega (arith, c .before .before .before .before .before .before .before .before .before .before .before .before .before .loop-test .taken)) in (
+      omega (arith, a .pre .0 .room, a .pre .0 .short, l .inv .0, l .inv .3, l .inv .7),
+      omega (arith, a .pre .0 .short, m, x .ends .far, x .ends .inside),
+      (x .ends .verdict, x .ends .number),
+    )
+
 loop-less : tie.Need-loop-less Inv-loop μ-loop
 loop-less c =
-    let a = c .before .before .before .before .before .before .before .before .before .before .before .before .before .before .before .before .before .before .before .before .before .before .before .before .before .before .before in
-    let l = c .before .before .before .before .before .before .before .before .before .before .before .before .before .before .before .before .loop in
-    let b = c .before .before .before .before .before .before .before .play-batch in
-    let x = many (a .args .table) (now (a .args .steps)) (l .at) (l .entries) (l .sent) (l .number) (l .end) (l .sites) (l .out) _ _ (b .ensures) (c .before .start .given .1) in
-    let h = c .before .before .before .before .before .before .before .before .before .before .before .before .before .before .before .loop-test .taken in
-    omega (arith, x .told .onward, x .ends .far, x .ends .inside)
+    let a = c .before .before .before .before .before .before .before .before .before .before .before .before .before .before .before .before .before .before .before .before .before .before .before .before .before .before .before .before in
+    let l = c .before .before .before .before .before .before .before .before .before .before .before .before .before .before .before .before .before .loop in
+    let b = c .before .before .before .before .before .before .before .before .before .play-batch in
+    let x = many (a .args .table) (now (a .args .steps)) (l .at) (l .entries) (l .sent) (l .sites) _ (b .ensures) (c .before .before .before .before .before .start .given .1) in
+    let told = c .before .before .tell .ensures in
+    let h = c .before .before .before .before .before .before .before .before .before .before .before .before .before .before .before .before .loop-test .taken in
+    omega (arith, told .onward, x .ends .far, x .ends .inside)
 
 loop-again : tie.Need-loop-again Inv-loop μ-loop
 loop-again c =
-    let a = c .before .before .before .before .before .before .before .before .before .before .before .before .before .before .before .before .before .before .before .before .before .before .before .before .before .before .before in
-    let l = c .before .before .before .before .before .before .before .before .before .before .before .before .before .before .before .before .loop in
-    let b = c .before .before .before .before .before .before .before .play-batch in
-    let x = many (a .args .table) (now (a .args .steps)) (l .at) (l .entries) (l .sent) (l .number) (l .end) (l .sites) (l .out) _ _ (b .ensures) (c .before .start .given .1) in
-    let m = l .inv .1 (omega (arith, c .before .before .before .before .before .before .before .before .before .before .before .before .before .before .before .loop-test .taken)) in
+    let a = c .before .before .before .before .before .before .before .before .before .before .before .before .before .before .before .before .before .before .before .before .before .before .before .before .before .before .before .before in
+    let l = c .before .before .before .before .before .before .before .before .before .before .before .before .before .before .before .before .before .loop in
+    let b = c .before .before .before .before .before .before .before .before .before .play-batch in
+    let x = many (a .args .table) (now (a .args .steps)) (l .at) (l .entries) (l .sent) (l .sites) _ (b .ensures) (c .before .before .before .before .before .start .given .1) in
+    let told = c .before .before .tell .ensures in
+    let m = l .inv .1 (omega (arith, c .before .before .before .before .before .before .before .before .before .before .before .before .before .before .before .before .loop-test .taken)) in
     let p = l .inv .8 in
     let k = now (a .args .book) in
     let d = x .did (commandsOf k) (l .log) (p .world .good) (entries-twice (a .args .table) k (a .pre .0 .good) (p .past) (p .world)) in (
-      omega (arith, x .told .onward, x .ends .inside),
-      (λ n. omega (arith, x .told .onward, x .told .counted, x .ends .far)),
-      omega (arith, x .told .onward, x .told .counted, x .ends .far),
-      omega (arith, x .told .room, x .told .counted),
+      omega (arith, told .onward, x .ends .inside),
+      (λ n. omega (arith, told .onward, told .counted, x .ends .far)),
+      omega (arith, told .onward, told .counted, x .ends .far),
+      omega (arith, told .room, told .counted),
       b .kept .0 ∙ l .inv .4,
       l .inv .5,
       l .inv .6,
-      b .kept .1 .1 .1 .1 .1 .1 .1 .0 ∙ l .inv .7,
-      playing-batch (a .args .table) (commandsOf k) (now (a .args .steps)) (lent (l .sites) (l .log) (l .entries) (l .sent)) (l .at) (now (a .args .out)) (a .args .from) p (omega arith) d (x .told),
+      c .before .before .tell .kept .0 ∙ l .inv .7,
+      playing-batch (a .args .table) (commandsOf k) (now (a .args .steps)) (lent (l .sites) (l .log) (l .entries) (l .sent)) (l .at) (now (a .args .out)) (a .args .from) p (omega arith) d told,
       l .inv .9,
     )
 
@@ -156,19 +167,19 @@ size-requires c κs = search needs
 
 add-next : tie.Need-add-next Inv-loop μ-loop
 add-next c =
-    let a = c .before .before .before .before .before .before .before .before .before .before .before .before .before .before .before .before .before .before .before .before .before .before .before .before .before .before .before in
-    let l = c .before .before .before .before .before .before .before .before .before .before .before .before .before .before .before .before .loop in
-    let e = sym (c .before .before .before .before .before .before .before .before .before .before .before .before .before .before .read-step .ensures) ∙ c .before .before .before .before .before .before .before .before .before .before .before .before .reading .given .1 in
+    let a = c .before .before .before .before .before .before .before .before .before .before .before .before .before .before .before .before .before .before .before .before .before .before .before .before in
+    let l = c .before .before .before .before .before .before .before .before .before .before .before .before .before .loop in
+    let e = sym (c .before .before .before .before .before .before .before .before .before .before .before .read-step .ensures) ∙ c .before .before .before .before .before .before .before .before .before .reading .given .1 in
     let i = inside (now (a .args .steps)) (l .at) (l .inv .0) e (c .size .ensures) in
     record { fits = omega (arith, a .pre .0 .short, i .1) }
 
 step-requires : tie.Need-step-requires Inv-loop μ-loop
 step-requires c κs =
-    let a = c .before .before .before .before .before .before .before .before .before .before .before .before .before .before .before .before .before .before .before .before .before .before .before .before .before .before .before .before .before .before .before in
-    let l = c .before .before .before .before .before .before .before .before .before .before .before .before .before .before .before .before .before .before .before .before .loop in
-    let b = c .before .before .before .before .before .before .before .before .before .before .before .play-batch in
+    let a = c .before .before .before .before .before .before .before .before .before .before .before .before .before .before .before .before .before .before .before .before .before .before .before .before .before .before .before .before in
+    let l = c .before .before .before .before .before .before .before .before .before .before .before .before .before .before .before .before .before .loop in
+    let b = c .before .before .before .before .before .before .before .before .before .play-batch in
     let k = now (a .args .book) in
-    let p = playing-one (a .args .table) (now (a .args .steps)) (l .at) (l .entries) (l .sent) (l .number) (l .end) (l .sites) (l .out) _ _ (b .ensures) (commandsOf k) (now (a .args .out)) (a .args .from) (l .log) (c .before .before .before .before .before .enum-told2 .given .1) (l .inv .8) in
+    let p = playing-one (a .args .table) (now (a .args .steps)) (l .at) (l .entries) (l .sent) (l .sites) _ (b .ensures) (commandsOf k) (now (a .args .out)) (a .args .from) (l .log) (l .out) (l .end) (l .number) (c .before .before .before .before .before .enum-told2 .given .1) (l .inv .8) in
     let g = a .pre .0 .good in
     let n = entries-few (a .args .table) k g (p .past) (p .world) in (
       (record {
@@ -180,7 +191,7 @@ step-requires c κs =
         ends = ends-room (a .args .table) k g (p .past) (p .world);
         twice = entries-twice (a .args .table) k g (p .past) (p .world);
         room = omega (arith, a .pre .0 .log, l .inv .5);
-        acks = acks-few (a .args .table) k g (p .past) (p .world) (meaning (c .before .before .before .before .before .before .before .before .before .before .before .before .before .before .before .before .reading .given .0 .0));
+        acks = acks-few (a .args .table) k g (p .past) (p .world) (meaning (c .before .before .before .before .before .before .before .before .before .before .before .before .before .reading .given .0 .0));
       }),
       a .pre .0 .noted,
       a .pre .1,
@@ -190,37 +201,37 @@ step-requires c κs =
 
 report-requires-2 : tie.Need-report-requires-2 Inv-loop μ-loop
 report-requires-2 c κs =
-    let a = c .before .before .before .before .before .before .before .before .before .before .before .before .before .before .before .before .before .before .before .before .before .before .before .before .before .before .before .before .before .before .before .before .before .before .before .before .before .before .before .before .before in
-    let l = c .before .before .before .before .before .before .before .before .before .before .before .before .before .before .before .before .before .before .before .before .before .before .before .before .before .before .before .before .before .before .loop in
+    let a = c .before .before .before .before .before .before .before .before .before .before .before .before .before .before .before .before .before .before .before .before .before .before .before .before .before .before .before .before .before .before .before .before .before .before .before .before .before .before in
+    let l = c .before .before .before .before .before .before .before .before .before .before .before .before .before .before .before .before .before .before .before .before .before .before .before .before .before .before .before .loop in
     let k = c .before .before .before .before .before .before .before .before .before .step .ensures .0 in
-    let b = c .before .before .before .before .before .before .before .before .before .before .before .before .before .before .before .before .before .before .before .before .before .play-batch in
-    let m = l .inv .1 (omega (arith, c .before .before .before .before .before .before .before .before .before .before .before .before .before .before .before .before .before .before .before .before .before .before .before .before .before .before .before .before .before .loop-test .taken)) in
-    (omega (arith, a .pre .0 .room, a .pre .0 .short, l .inv .0, l .inv .3, l .inv .7, b .kept .1 .1 .1 .1 .1 .1 .1 .0), omega (arith, a .pre .0 .short, l .inv .0), (k .verdict, k .number))
+    let b = c .before .before .before .before .before .before .before .before .before .before .before .before .before .before .before .before .before .before .before .play-batch in
+    let m = l .inv .1 (omega (arith, c .before .before .before .before .before .before .before .before .before .before .before .before .before .before .before .before .before .before .before .before .before .before .before .before .before .before .loop-test .taken)) in
+    (omega (arith, a .pre .0 .room, a .pre .0 .short, l .inv .0, l .inv .3, l .inv .7), omega (arith, a .pre .0 .short, l .inv .0), (k .verdict, k .number))
 
 add-number : tie.Need-add-number Inv-loop μ-loop
 add-number c =
-    let a = c .before .before .before .before .before .before .before .before .before .before .before .before .before .before .before .before .before .before .before .before .before .before .before .before .before .before .before .before .before .before .before .before .before .before .before .before .before .before .before .before .before .before .before .before in
-    let l = c .before .before .before .before .before .before .before .before .before .before .before .before .before .before .before .before .before .before .before .before .before .before .before .before .before .before .before .before .before .before .before .before .before .loop in
+    let a = c .before .before .before .before .before .before .before .before .before .before .before .before .before .before .before .before .before .before .before .before .before .before .before .before .before .before .before .before .before .before .before .before .before .before .before .before .before .before .before .before .before in
+    let l = c .before .before .before .before .before .before .before .before .before .before .before .before .before .before .before .before .before .before .before .before .before .before .before .before .before .before .before .before .before .before .loop in
     record { fits = omega (arith, a .pre .0 .short, l .inv .2) }
 
 loop-less-2 : tie.Need-loop-less-2 Inv-loop μ-loop
 loop-less-2 c =
-    let a = c .before .before .before .before .before .before .before .before .before .before .before .before .before .before .before .before .before .before .before .before .before .before .before .before .before .before .before .before .before .before .before .before .before .before .before .before .before .before .before .before .before .before .before .before in
-    let l = c .before .before .before .before .before .before .before .before .before .before .before .before .before .before .before .before .before .before .before .before .before .before .before .before .before .before .before .before .before .before .before .before .before .loop in
-    let h = c .before .before .before .before .before .before .before .before .before .before .before .before .before .before .before .before .before .before .before .before .before .before .before .before .before .before .before .before .before .before .before .before .loop-test .taken in
-    let e = sym (c .before .before .before .before .before .before .before .before .before .before .before .before .before .before .before .before .before .before .before .before .before .before .before .before .before .before .before .before .before .before .before .read-step .ensures) ∙ c .before .before .before .before .before .before .before .before .before .before .before .before .before .before .before .before .before .before .before .before .before .before .before .before .before .before .before .before .before .reading .given .1 in
+    let a = c .before .before .before .before .before .before .before .before .before .before .before .before .before .before .before .before .before .before .before .before .before .before .before .before .before .before .before .before .before .before .before .before .before .before .before .before .before .before .before .before .before in
+    let l = c .before .before .before .before .before .before .before .before .before .before .before .before .before .before .before .before .before .before .before .before .before .before .before .before .before .before .before .before .before .before .loop in
+    let h = c .before .before .before .before .before .before .before .before .before .before .before .before .before .before .before .before .before .before .before .before .before .before .before .before .before .before .before .before .before .loop-test .taken in
+    let e = sym (c .before .before .before .before .before .before .before .before .before .before .before .before .before .before .before .before .before .before .before .before .before .before .before .before .before .before .before .before .read-step .ensures) ∙ c .before .before .before .before .before .before .before .before .before .before .before .before .before .before .before .before .before .before .before .before .before .before .before .before .before .before .reading .given .1 in
     let i = inside (now (a .args .steps)) (l .at) (l .inv .0) e (c .before .before .before .before .before .before .before .before .before .before .before .before .before .before .before .before .before .size .ensures) in
     omega (arith, i .0, i .1)
 
 loop-again-2 : tie.Need-loop-again-2 Inv-loop μ-loop
 loop-again-2 c =
-    let a = c .before .before .before .before .before .before .before .before .before .before .before .before .before .before .before .before .before .before .before .before .before .before .before .before .before .before .before .before .before .before .before .before .before .before .before .before .before .before .before .before .before .before .before .before in
-    let l = c .before .before .before .before .before .before .before .before .before .before .before .before .before .before .before .before .before .before .before .before .before .before .before .before .before .before .before .before .before .before .before .before .before .loop in
-    let b = c .before .before .before .before .before .before .before .before .before .before .before .before .before .before .before .before .before .before .before .before .before .before .before .before .play-batch in
+    let a = c .before .before .before .before .before .before .before .before .before .before .before .before .before .before .before .before .before .before .before .before .before .before .before .before .before .before .before .before .before .before .before .before .before .before .before .before .before .before .before .before .before in
+    let l = c .before .before .before .before .before .before .before .before .before .before .before .before .before .before .before .before .before .before .before .before .before .before .before .before .before .before .before .before .before .before .loop in
+    let b = c .before .before .before .before .before .before .before .before .before .before .before .before .before .before .before .before .before .before .before .before .before .before .play-batch in
     let k = now (a .args .book) in
-    let p = playing-one (a .args .table) (now (a .args .steps)) (l .at) (l .entries) (l .sent) (l .number) (l .end) (l .sites) (l .out) _ _ (b .ensures) (commandsOf k) (now (a .args .out)) (a .args .from) (l .log) (c .before .before .before .before .before .before .before .before .before .before .before .before .before .before .before .before .before .before .enum-told2 .given .1) (l .inv .8) in
-    let m = l .inv .1 (omega (arith, c .before .before .before .before .before .before .before .before .before .before .before .before .before .before .before .before .before .before .before .before .before .before .before .before .before .before .before .before .before .before .before .before .loop-test .taken)) in
-    let e = sym (c .before .before .before .before .before .before .before .before .before .before .before .before .before .before .before .before .before .before .before .before .before .before .before .before .before .before .before .before .before .before .before .read-step .ensures) ∙ c .before .before .before .before .before .before .before .before .before .before .before .before .before .before .before .before .before .before .before .before .before .before .before .before .before .before .before .before .before .reading .given .1 in
+    let p = playing-one (a .args .table) (now (a .args .steps)) (l .at) (l .entries) (l .sent) (l .sites) _ (b .ensures) (commandsOf k) (now (a .args .out)) (a .args .from) (l .log) (l .out) (l .end) (l .number) (c .before .before .before .before .before .before .before .before .before .before .before .before .before .before .before .before .before .before .enum-told2 .given .1) (l .inv .8) in
+    let m = l .inv .1 (omega (arith, c .before .before .before .before .before .before .before .before .before .before .before .before .before .before .before .before .before .before .before .before .before .before .before .before .before .before .before .before .before .loop-test .taken)) in
+    let e = sym (c .before .before .before .before .before .before .before .before .before .before .before .before .before .before .before .before .before .before .before .before .before .before .before .before .before .before .before .before .read-step .ensures) ∙ c .before .before .before .before .before .before .before .before .before .before .before .before .before .before .before .before .before .before .before .before .before .before .before .before .before .before .reading .given .1 in
     let i = inside (now (a .args .steps)) (l .at) (l .inv .0) e (c .before .before .before .before .before .before .before .before .before .before .before .before .before .before .before .before .before .size .ensures) in
     let j = c .before .before .before .before .before .before .before .before .before .before .before .before .step in
     let v = j .ensures .0 in
@@ -232,8 +243,8 @@ loop-again-2 c =
       j .kept .0 ∙ b .kept .0 ∙ l .inv .4,
       j .kept .1 .0 ∙ l .inv .5,
       j .kept .1 .1 .0 ∙ l .inv .6,
-      w .kept .0 ∙ b .kept .1 .1 .1 .1 .1 .1 .1 .0 ∙ l .inv .7,
-      playing-more (a .args .table) (commandsOf k) (now (a .args .steps)) (now (a .args .out)) (a .args .from) p (omega (arith, b .kept .1 .1 .1 .1 .1 .1 .1 .0, l .inv .7)) e
+      w .kept .0 ∙ l .inv .7,
+      playing-more (a .args .table) (commandsOf k) (now (a .args .steps)) (now (a .args .out)) (a .args .from) p (omega (arith, l .inv .7)) e
           (ap (λ (z : ℕ). l .at + z) (c .before .before .before .before .before .before .before .before .before .before .before .before .before .before .before .before .before .size .ensures)) (v .outcome) (w .ensures .0 (v .verdict) (v .number)),
       j .ensures .1,
     )
@@ -280,6 +291,7 @@ play-on-spec =
     returns
     play-batch-requires
     enum-known-start
+    tell-requires
     loop-less
     loop-again
     enum-told-2
