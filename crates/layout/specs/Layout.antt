@@ -143,11 +143,13 @@ heardOf b = heardIn (readLe 2 b spanPlace) b
 abbrev pub spanWith : ℕ → ℕ → ℕ
 spanWith k r = pick (leb r k) k r
 
+-- The bytes with the rows after k of them, up to that of round r, empty.
+abbrev pub emptied : List ℕ → ℕ → ℕ → List ℕ
+emptied b k r = splice b (rowAt k) (replicate (rowAt r - rowAt k) 0)
+
 -- The bytes with rows up to round r: those that were not there are empty.
 abbrev pub reached : List ℕ → ℕ → List ℕ
-reached b r =
-    pick (leb r (readLe 2 b spanPlace)) b
-    (splice (splice b (rowAt (readLe 2 b spanPlace)) (replicate (rowAt r - rowAt (readLe 2 b spanPlace)) 0)) spanPlace (bytes 2 r))
+reached b r = pick (leb r (readLe 2 b spanPlace)) b (splice (emptied b (readLe 2 b spanPlace) r) spanPlace (bytes 2 r))
 
 -- The bytes with an acknowledgment united with what its sender acknowledged in its round, in a table that has the round.
 abbrev pub heardMore : List ℕ → ℕ → ℕ → Set → List ℕ
