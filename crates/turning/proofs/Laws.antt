@@ -3,14 +3,14 @@
 use mathlib.Core.Path.{_≡_, refl, sym, ap, subst, _∙_}
 use mathlib.Core.Bool.{Bool, true, false, not, _&&_, _||_}
 use mathlib.Core.List.{List, [], _++_, append-nil}
-use Prim.Native.Nat.{ℕ, _+_, _/_, _≤_, _<_}
+use Prim.Native.Nat.{ℕ, zero, suc, _+_, _/_, _≤_, _<_}
 use native.Mathlib.Omega.{arith}
 use lib.Dec.{leb, ltb}
 use lib.ListN.{length, take, drop, getD, length-take, length-drop, drop-of-length-le}
 use borrow.Author.Tests.{lt-ltb, le-ltb, leb-true}
 use borrow.Rule.Slice.PartMut.{putMid}
-use Rattle.theory.specs.Sets.{pick, any}
-use Rattle.theory.specs.Counting.{not-true}
+use Rattle.theory.specs.Sets.{pick, any, all}
+use Rattle.theory.specs.Counting.{left, right, not-true}
 use Rattle.wire.specs.Wire.{bytes, splice}
 use Rattle.wire.proofs.Laws.{mid-splice}
 use Rattle.wire.proofs.Small.{take-small}
@@ -34,8 +34,10 @@ use Rattle.system.specs.Dash.{dash, lastRound}
 use Rattle.calm.specs.Rows.{freeBy}
 use Rattle.calm.proofs.Same.{free-rows}
 use Rattle.entries.specs.declared.Entry.{Entry}
-use Rattle.entries.specs.Entries.{entrySize, entryBytes, writeEntry, logTo, logOf, Counting}
+use Rattle.entries.specs.Entries.{entrySize, entryBytes, writeEntry, logTo, logOf, inRangeOf, noThirdAt, goodAt, goodTo, Counting}
+use Rattle.entries.specs.Entries as logged
 use Rattle.entries.proofs.Bytes.{length-entry}
+use Rattle.entries.proofs.Judging.{entries-none, entries-next, one-no-round, in-range-told}
 use Rattle.layout.specs.declared.Proposal.{Proposal}
 use Rattle.layout.specs.Layout.{siteSize, receivedPlace, deliveredPlace, headOf, view}
 use Rattle.layout.specs.Good.{Good, HoldsOver}
@@ -51,7 +53,7 @@ use Rattle.judging.specs.Judging.{tableOf, systemOf, spanIn, siteIn, withSite, 
 use Rattle.judging.proofs.Demands.{then-taken, then-refused, answered-refused}
 use Rattle.judging.proofs.Laws.{Judged, log-judged, log-noted}
 use Rattle.judging.proofs.Steps.{written, as-before}
-use Rattle.turning.specs.Turning.{turnSize, buffers, acknowledgmentBytes, proposalBytes, entryFor, entryOf, sentBytes, turned, sent, turnCall}
+use Rattle.turning.specs.Turning.{turnSize, buffers, NonePast, acknowledgmentBytes, proposalBytes, entryFor, entryOf, sentBytes, turned, sent, turnCall}
 
 -- ---- the conflict test
 
@@ -77,6 +79,18 @@ pub third-told : (log : List ℕ) (own round : ℕ) {free : Bool} {n : ℕ} → 
     → leb 2 n ≡ (not free && leb 2 (entries own round (logOf log)))
 unfolding logOf
 third-told log own round ef e = λ i. not (sym ef i) && leb 2 (e i)
+
+-- Entries in range are of no round past the last.
+pub none-past : (log : List ℕ) (n m k : ℕ) → goodTo log n m k ≡ true → NonePast log k
+unfolding all
+none-past log n m zero h j r l = sym (entries-none log j r)
+none-past log n m (suc k) h j r l =
+    let q : suc k ≡ k + 1 = omega arith in
+    let e = ap (λ (x : ℕ). entries j r (logTo log x)) q ∙ entries-next log j r k in
+    let f = none-past log n m k (left (goodTo log n m k) (goodAt log n m k) h) j r l in
+    let g = in-range-told n m (logged.entryOf log k) (left (inRangeOf n m (logged.entryOf log k)) (noThirdAt log k) (right (goodTo log n m k) (goodAt log n m k) h)) .round in
+    let o = one-no-round log j r k refl (λ w. omega arith) in
+    omega arith
 
 -- A turn that acknowledges does not ask for them.
 module _ (t : SiteTable) (cs : List Command) (b : List ℕ) (own : ℕ) (log : Log) (good : Good (t .sites) (length cs) b) where
@@ -176,14 +190,17 @@ module _ (n f : ℕ) (book site log : List ℕ) (own : ℕ) (o : List ℕ) {k : 
     pub turn-received : withinOf (headOf (take siteSize site) .received) (length (commandsOf book)) ≡ true
     turn-received = judged .good .head .received
 
-    -- The counts are of the entries that the site has read.
+    -- The counts are of the entries that the site has read, and none of those is of a round past the last.
     pub turn-counts : own < n → {position round : ℕ} → position ≡ headOf (take siteSize site) .position → round ≡ headOf (take siteSize site) .round → {counts : List ℕ}
-        → Counting log (headOf (take siteSize site) .position) counts → Counting log position counts × (own < maxSites) × (1 ≤ round) × (position ≤ length log / entrySize)
+        → Counting log (headOf (take siteSize site) .position) counts
+        → Counting log position counts × NonePast log position × (own < maxSites) × (1 ≤ round) × (position ≤ length log / entrySize)
     turn-counts l ep er {counts} h =
         let few = judged .few in
         let first = judged .good .head .first in
-        let there = log-judged n f book (leb turnSize (length o)) site log q z .2 .position in
-        (subst (λ (x : ℕ). Counting log x counts) (sym ep) h, omega arith, omega arith, omega arith)
+        let read = log-judged n f book (leb turnSize (length o)) site log q z .2 in
+        let there = read .position in
+        let past = none-past log n (length (commandsOf book)) (headOf (take siteSize site) .position) (read .before) in
+        (subst (λ (x : ℕ). Counting log x counts) (sym ep) h, subst (NonePast log) (sym ep) past, omega arith, omega arith, omega arith)
 
     pub turn-noted : (places : List ℕ) {after : List ℕ} → maxCommands ≤ length places
         → after ≡ placesAfter n f book (leb turnSize (length o) && leb siteSize (length site)) places → take (length (commandsOf book)) after ≡ placesOf book

@@ -1,7 +1,8 @@
 -- The call of a turn: what it asks for, in document 01's order 9, 2, 1, 3, 4, 6, 7, 8, and what it leaves of the site's bytes and of the buffer for what is sent.
 -- Assumes nothing.
+use mathlib.Core.Path.{_≡_}
 use mathlib.Core.List.{List, _++_}
-use Prim.Native.Nat.{ℕ}
+use Prim.Native.Nat.{ℕ, _<_}
 use lib.Dec.{leb, ltb}
 use lib.ListN.{length}
 use Rattle.theory.specs.Sets.{pick}
@@ -11,9 +12,11 @@ use Rattle.refusals.specs.Refusals.{numberOf}
 use Rattle.sets.specs.declared.Set.{Set}
 use Rattle.sets.specs.Sets.{capacity, setOf, setBytes}
 use Rattle.protocol.specs.System.{System, _else_⨾_, verdict}
+use Rattle.protocol.specs.Recovery.{entries}
 use Rattle.protocol.specs.Site.{Site, undelivered, unacknowledged, acknowledges, acknowledge, propose, forTurn}
+use Rattle.system.specs.Dash.{lastRound}
 use Rattle.entries.specs.declared.Entry.{Entry}
-use Rattle.entries.specs.Entries.{logOf, entryBytes}
+use Rattle.entries.specs.Entries.{logTo, logOf, entryBytes}
 use Rattle.layout.specs.declared.Proposal.{Proposal}
 use Rattle.site.specs.declared.Turn.{Turn}
 use Rattle.site.specs.declared.Turn.the-variants as turn
@@ -31,6 +34,10 @@ pub record Buffers : Type 0 where
 
 abbrev pub buffers : List ℕ → List ℕ → Buffers
 buffers s t = record { site = s; turn = t }
+
+-- No site has any of the first k entries in a round past the last.
+abbrev pub NonePast : List ℕ → ℕ → Type 0
+NonePast log k = (j r : ℕ) → lastRound < r → entries j r (logTo log k) ≡ 0
 
 -- An acknowledgment: 1, and the set.
 unfoldable pub acknowledgmentBytes : Set → List ℕ

@@ -1,7 +1,8 @@
 // The call of a turn: the site acknowledges what it received, or proposes where that has a conflict, and what it sends is written.
 ghost use mathlib.Core.Bool.{true, not, _&&_};
+ghost use mathlib.Core.List.{List};
 ghost use mathlib.Core.Path.{_≡_};
-ghost use Prim.Native.Nat.{_/_, _≤_, _<_};
+ghost use Prim.Native.Nat.{ℕ, _/_, _≤_, _<_};
 ghost use lib.Dec.{leb};
 ghost use lib.ListN.{length, take};
 ghost use Rattle.wire.specs.Wire.{splice};
@@ -12,10 +13,10 @@ ghost use Rattle.commands.specs.Book.{commandsOf, placesOf};
 ghost use Rattle.protocol.specs.Recovery as recovery;
 ghost use Rattle.protocol.specs.Site as protocol;
 ghost use Rattle.system.specs.Dash.{dash};
-ghost use Rattle.entries.specs.Entries.{entrySize, logTo, logOf, Counting};
+ghost use Rattle.entries.specs.Entries.{entrySize, logTo, logOf, cells, Counting};
 ghost use Rattle.layout.specs.Layout.{siteSize, headOf, view};
 ghost use Rattle.judging.specs.Outcomes.{outcome};
-ghost use Rattle.turning.specs.Turning.{turnSize, buffers, acknowledgmentBytes, proposalBytes, entryOf, sent, turnCall};
+ghost use Rattle.turning.specs.Turning.{turnSize, buffers, NonePast, acknowledgmentBytes, proposalBytes, entryOf, sent, turnCall};
 use entries::Entry;
 use judging::REFUSED_DISABLED;
 use judging::REFUSED_RANGE;
@@ -57,16 +58,24 @@ fn round_of(site: &[u8]) -> usize
     round as usize
 }
 
-// How many entries of its round a site has in the log: those that it has read are counted, the others are looked at. The log takes no round past 32.
+// How many entries of a round a site has among those that it has read, which are counted. None of them is of a round past 32.
+fn read_entries(counts: &[u8], own: usize, round: usize) -> usize
+    requires { ⌜ (length (now counts) ≡ cells) × (own < maxSites) × (1 ≤ round) ⌝ }
+    ensures { λ r. ⌜ ((log : List ℕ) (k : ℕ) → Counting log k (now (counts .entry)) → NonePast log k → r ≡ recovery.entries own round (logTo log k)) ⌝ }
+{
+    if round > Entry::ROUNDS {
+        return 0;
+    }
+    entries::counted(counts, own, round)
+}
+
+// How many entries of its round a site has in the log: those that it has read are counted, the others are looked at.
 fn own_entries(log: &[u8], own: usize, round: usize, position: usize, counts: &[u8]) -> usize
-    requires { ⌜ Counting (now log) position (now counts) × (own < maxSites) × (1 ≤ round) × (position ≤ length (now log) / entrySize) ⌝ }
+    requires { ⌜ Counting (now log) position (now counts) × NonePast (now log) position × (own < maxSites) × (1 ≤ round) × (position ≤ length (now log) / entrySize) ⌝ }
     ensures { λ r. ⌜ r ≡ recovery.entries own round (logTo (now (log .entry)) (length (now (log .entry)) / entrySize)) ⌝ }
 {
     let n = log.len() / Entry::BYTES;
-    if round > Entry::ROUNDS {
-        return entries::entries_of(log, n, own, round);
-    }
-    let read = entries::counted(counts, own, round);
+    let read = read_entries(counts, own, round);
     entries::entries_since(log, position, read, n, own, round)
 }
 
@@ -79,7 +88,7 @@ fn is_third(
     position: usize,
     counts: &[u8],
 ) -> bool
-    requires { ⌜ Counting (now log) position (now counts) × (own < maxSites) × (1 ≤ round) × (position ≤ length (now log) / entrySize) ⌝ }
+    requires { ⌜ Counting (now log) position (now counts) × NonePast (now log) position × (own < maxSites) × (1 ≤ round) × (position ≤ length (now log) / entrySize) ⌝ }
     ensures { λ r. ⌜ r ≡ (not free && leb 2 (recovery.entries own round (logOf (now (log .entry))))) ⌝ }
 {
     if free {
