@@ -1,6 +1,6 @@
 -- How long the lines of a print are.
 -- Assumes nothing.
-use mathlib.Core.Path.{_≡_, sym, ap, subst, _∙_}
+use mathlib.Core.Path.{_≡_, ap, subst, _∙_}
 use mathlib.Core.List.{List, [], _∷_, _++_, append-assoc}
 use Prim.Native.Nat.{ℕ, _+_, _*_, _^_, _≤_, _<_}
 use native.Mathlib.Omega.{arith}
@@ -10,7 +10,7 @@ use mir.Syntax.{w32}
 use mir.Val.{SFits}
 use Rattle.print.specs.Ascii.{ascii}
 use Rattle.print.specs.Print.{digits, decimal, signedDecimal, Wrote}
-use Rattle.print.proofs.Laws.{length-digits, decimal-short, signed-short, width-one, length-decimal, both, wrote-decimal}
+use Rattle.print.proofs.Laws.{length-digits, decimal-short, signed-short, width-one, length-decimal, both}
 use Rattle.theory.specs.Machine.{Delivery}
 use Rattle.lines.specs.Lines.{counted, numbered, lineEnd, runLine, stepLine, refusedLine, siteHead, deliveryText, deliveriesText, siteLine}
 
@@ -47,15 +47,12 @@ pub delivery-length : (command : ℕ) (answer : ℤ) → length (deliveryText co
 unfolding deliveryText
 delivery-length command answer = let a = length-digits 2 command in simp length-append (omega arith)
 
--- A refusal's number is written as one digit.
-pub step-written : {s s₁ s₂ s₃ s₄ : List ℕ} {at p₁ p₂ p₃ p₄ : ℕ} (step refusal : ℕ) → at ≤ length s → refusal < 10 → Wrote s₁ p₁ s at (ascii "step " ++ decimal step)
-    → Wrote s₂ p₂ s₁ p₁ (ascii " refused ") → Wrote s₃ p₃ s₂ p₂ (digits 1 refusal) → Wrote s₄ p₄ s₃ p₃ lineEnd
-    → Wrote s₄ p₄ s at (stepLine step refusal)
+-- A step's line is written in three pieces.
+pub step-written : {s s₁ s₂ s₃ : List ℕ} {at p₁ p₂ p₃ : ℕ} (step refusal : ℕ) → at ≤ length s → Wrote s₁ p₁ s at (ascii "step " ++ decimal step) → Wrote s₂ p₂ s₁ p₁ (ascii " refused ")
+    → Wrote s₃ p₃ s₂ p₂ (counted refusal lineEnd) → Wrote s₃ p₃ s at (stepLine step refusal)
 unfolding stepLine
-step-written {s} {s₂ = s₂} {s₄ = s₄} {at = at} {p₂ = p₂} {p₄ = p₄} step refusal h l w₁ w₂ w₃ w₄ =
-    let front : List ℕ = ascii "step " ++ counted step (ascii " refused ") in
-    let named : Wrote s₂ p₂ s at front = subst (Wrote s₂ p₂ s at) (append-assoc (ascii "step ") (decimal step) (ascii " refused ")) (both h w₁ w₂) in
-    subst (Wrote s₄ p₄ s at) (append-assoc front (decimal refusal) lineEnd) (both h (both h named (wrote-decimal refusal (sym (width-one refusal (omega arith))) w₃)) w₄)
+step-written {s} {s₂ = s₂} {at = at} {p₂ = p₂} step refusal h w₁ w₂ w₃ =
+    both h (subst (Wrote s₂ p₂ s at) (append-assoc (ascii "step ") (decimal step) (ascii " refused ")) (both h w₁ w₂)) w₃
 
 -- 11 sites, 2 faulty ones and 64 commands at most.
 pub run-short : (sites faulty commands : ℕ) → sites < 100 → faulty < 10 → commands < 100 → length (runLine sites faulty commands) ≤ 33

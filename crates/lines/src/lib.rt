@@ -47,8 +47,7 @@ pub fn put_step_line(out: &mut [u8], at: usize, step: usize, refusal: usize) -> 
 {
     let p1 = print::put_short(out, at, b"step ", step);
     let p2 = print::put_text(out, p1, b" refused ");
-    let p3 = print::put_digits(out, p2, 1, refusal);
-    print::put_text(out, p3, b"\n")
+    print::put_ended(out, p2, refusal)
 }
 
 // The line of a refused header, book or size.

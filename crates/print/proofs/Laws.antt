@@ -237,20 +237,22 @@ wrote-five {s} {s₁} {s₂} {r} {at} x l h e w =
     (record { end = refl; bytes = e ∙ ap (λ (b : ℕ). splice s at (b ∷ [])) q })
     (subst (λ (y : ℕ). Wrote s₂ r s₁ (at + 1) (digits 4 y)) m w)
 
--- A number written with leading zeros, and a text over these.
-pub wrote-short : {s s₁ s₂ : List ℕ} {at r₁ r₂ n : ℕ} (x : ℕ) (t : List ℕ) → length t ≡ 5 → n ≡ width x → n ≤ 5 → at + 5 + n ≤ length s → Wrote s₁ r₁ s (at + n) (digits 5 x)
-    → Wrote s₂ r₂ s₁ at t → Wrote s₂ r₁ s at (t ++ decimal x)
+-- A number of n digits written as k, leading zeros included, and a text over these.
+pub wrote-short : {s s₁ s₂ : List ℕ} {at from r₁ r₂ n : ℕ} (k x : ℕ) (t : List ℕ) → n ≡ width x → n ≤ k → k ≤ length t → from + k ≡ at + length t + n → at + length t + n ≤ length s
+    → Wrote s₁ r₁ s from (digits k x) → Wrote s₂ r₂ s₁ at t → Wrote s₂ r₁ s at (t ++ decimal x)
 unfolding decimal
-wrote-short {s} {s₁} {s₂} {at} {r₁} {r₂} {n} x t e ew few h v w =
-    let l = digits-last (5 - n) n x in
-    let q : 5 - n + n ≡ 5 = omega arith in
-    let y : digits 5 x ≡ l .0 ++ digits n x = ap (λ (m : ℕ). digits m x) (sym q) ∙ l .2 in
+wrote-short {s} {s₁} {s₂} {at} {from} {r₁} {r₂} {n} k x t ew few fits ends h v w =
+    let l = digits-last (k - n) n x in
+    let q : k - n + n ≡ k = omega arith in
+    let y : digits k x ≡ l .0 ++ digits n x = ap (λ (m : ℕ). digits m x) (sym q) ∙ l .2 in
+    let start : from ≡ at + (length t + n - k) = omega arith in
     record {
-      end = v .end ∙ omega (arith, length-digits 5 x, length-append t (digits (width x) x), length-digits (width x) x, e, ew);
+      end = v .end ∙ omega (arith, length-digits k x, length-append t (digits (width x) x), length-digits (width x) x, ew);
       bytes =
           w .bytes
-          ∙ (λ i. splice ((v .bytes ∙ ap (splice s (at + n)) y) i) at t)
-          ∙ written-over s at n (l .0) (digits n x) t (omega (arith, l .1, e)) (omega arith)
+          ∙ (λ i. splice (v .bytes i) at t)
+          ∙ (λ i. splice (splice s (start i) (y i)) at t)
+          ∙ written-over s at (length t + n - k) (l .0) (digits n x) t (omega (arith, l .1)) (omega arith)
           ∙ ap (λ (m : ℕ). splice s at (t ++ digits m x)) ew;
     }
 

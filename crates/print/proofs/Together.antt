@@ -1,13 +1,14 @@
--- Laws of two and of four digits that are written as one number of as many bytes.
+-- Laws of what is written as one number of as many bytes: two digits, four digits, a digit and a line's end.
 -- Assumes nothing.
-use mathlib.Core.Path.{_≡_, sym, ap, _∙_}
-use mathlib.Core.List.{List, [], _∷_}
+use mathlib.Core.Path.{_≡_, refl, sym, ap, subst, _∙_}
+use mathlib.Core.List.{List, [], _∷_, _++_}
 use Prim.Native.Nat.{ℕ, suc, _+_, _-_, _*_, _/_, _%_, _≤_, _<_}
 use native.Mathlib.Omega.{arith}
 use lib.ListN.{length}
 use Rattle.wire.specs.Wire.{bytes, splice}
-use Rattle.print.specs.Print.{digits, Wrote}
-use Rattle.print.proofs.Laws.{length-digits}
+use Rattle.print.specs.Ascii.{ascii}
+use Rattle.print.specs.Print.{digits, decimal, Wrote}
+use Rattle.print.proofs.Laws.{width-one, length-digits}
 
 -- The two pairs of digits of x, 16 bits apart.
 abbrev pub pairsOf : ℕ → ℕ
@@ -41,6 +42,16 @@ two-digits x h =
 
 pub wrote-two : {s₁ s : List ℕ} {at : ℕ} (x : ℕ) → x < 100 → s₁ ≡ splice s at (bytes 2 (twoOf x)) → Wrote s₁ (at + 2) s at (digits 2 x)
 wrote-two {s = s} {at = at} x h e = record { end = ap (λ (n : ℕ). at + n) (sym (length-digits 2 x)); bytes = e ∙ ap (splice s at) (two-digits x h) }
+
+ended-digit : (x : ℕ) → x < 10 → bytes 2 (2608 + x) ≡ decimal x ++ ascii "\n"
+unfolding bytes digits decimal
+ended-digit x h =
+    let q : 2608 + x ≡ 48 + x % 10 + 256 * 10 = omega arith in
+    ap (bytes 2) q ∙ low-byte 1 (48 + x % 10) 10 (omega arith) ∙ ap (λ (n : ℕ). digits n x ++ ascii "\n") (sym (width-one x (omega arith)))
+
+pub wrote-ended : {s₁ s : List ℕ} {at : ℕ} (x : ℕ) → x < 10 → s₁ ≡ splice s at (bytes 2 (2608 + x)) → Wrote s₁ (at + 2) s at (decimal x ++ ascii "\n")
+unfolding bytes
+wrote-ended {s₁} {s} {at} x h e = subst (Wrote s₁ (at + 2) s at) (ended-digit x h) (record { end = refl; bytes = e })
 
 module _ (a b c d : ℕ) (la : a < 10) (lb : b < 10) (lc : c < 10) (ld : d < 10) where
   tens-parted : tensOf (10 * a + b + 65536 * (10 * c + d)) ≡ a + 65536 * c

@@ -4,6 +4,7 @@ ghost use mathlib.Core.Bool.{cond};
 ghost use mathlib.Core.List.{_++_};
 ghost use Prim.Native.Nat.{_+_, _≤_, _<_};
 ghost use lib.ListN.{length};
+ghost use Rattle.print.specs.Ascii.{ascii};
 ghost use Rattle.print.specs.Print.{digits, width, decimal, signedDecimal, Wrote};
 
 // How many digits a number has.
@@ -46,6 +47,15 @@ pub fn put_two(out: &mut [u8], at: usize, x: usize) -> usize
     let tens = y * 103 / 1024;
     let word = 12336 + tens + 256 * (y - 10 * tens);
     wire::put2(out, at, word);
+    at + 2
+}
+
+// A number of one digit and a line's end are written, as one number of two bytes: 48 and the digit, and 10.
+pub fn put_ended(out: &mut [u8], at: usize, x: usize) -> usize
+    requires { ⌜ (x < 10) × (at + 2 ≤ length (now out)) ⌝ }
+    ensures { λ r. ⌜ Wrote (now (out .exit)) r (now (out .entry)) at (decimal x ++ ascii "\n") ⌝ }
+{
+    wire::put2(out, at, 2608 + x as u16);
     at + 2
 }
 
@@ -120,14 +130,19 @@ fn put_five(out: &mut [u8], at: usize, x: u32) -> usize
     put_four(out, at + 1, (x - 10000 * head) as usize)
 }
 
-// A text of five bytes and a number of up to five digits are written, without a branch: the number first, with leading zeros, so that it
-// ends where it is to end, and the text over the zeros.
+// A text of five bytes and a number of up to five digits are written: the number first, with leading zeros, so that it ends
+// where it is to end, and the text over the zeros. A number below 10000, as nearly all are, is written by four digits.
 pub fn put_short(out: &mut [u8], at: usize, text: &[u8], x: usize) -> usize
     requires { ⌜ (length (now text) ≡ 5) × (x < 100000) × (at + 5 + length (decimal x) ≤ length (now out)) ⌝ }
     ensures { λ r. ⌜ Wrote (now (out .exit)) r (now (out .entry)) at (now (text .entry) ++ decimal x) ⌝ }
 {
     let y = x as u32;
     let n = short_width(y);
+    if y < 10000 {
+        let last = put_four(out, at + n + 1, x);
+        put_text(out, at, text);
+        return last;
+    }
     let end = put_five(out, at + n, y);
     put_text(out, at, text);
     end

@@ -1,4 +1,4 @@
--- `lines::put_step_line`: the word with the step's number, a text, and the refusal's digit.
+-- `lines::put_step_line`: the word with the step's number, a text, and the refusal's digit with the line's end.
 -- Assumes nothing.
 use borrow.Author.Needs.{needs}
 use denote.Ref.{now}
@@ -9,7 +9,6 @@ use lib.ListN.{length, length-append}
 use native.Mathlib.Omega.{arith}
 use Rattle.print.specs.Ascii.{ascii}
 use Rattle.print.specs.Print.{decimal}
-use Rattle.print.proofs.Laws.{length-digits}
 use Rattle.lines.proofs.Laws.{step-digit, step-written}
 use Rattle.lines.proofs.put_step_line.Statement.{statement}
 use Rattle.lines.proofs.put_step_line.Tie as tie
@@ -31,27 +30,19 @@ put-text-requires c κs =
     let k = c .before .before .before .before .before .before .before .before in
     omega (arith, step-digit (k .args .step) (k .args .refusal) (k .pre .1), named-length (k .args .step), c .before .before .before .before .put-short .ensures .end)
 
-put-digits-requires : tie.Need-put-digits-requires
-put-digits-requires c κs =
+put-ended-requires : tie.Need-put-ended-requires
+put-ended-requires c κs =
     let k = c .before .before .before .before .before .before .before .before .before .before .before .before in
-    omega (arith, step-digit (k .args .step) (k .args .refusal) (k .pre .1), named-length (k .args .step), c .before .before .before .before .before .before .before .before .put-short .ensures .end, c .before .before .before .put-text .ensures .end)
-
-slice-aggregate-put-text-2 : tie.Need-slice-aggregate-put-text-2
-slice-aggregate-put-text-2 c = search needs
-
-put-text-requires-2 : tie.Need-put-text-requires-2
-put-text-requires-2 c κs =
-    let k = c .before .before .before .before .before .before .before .before .before .before .before .before .before .before .before .before .before in
-    omega (arith, step-digit (k .args .step) (k .args .refusal) (k .pre .1), length-digits 1 (k .args .refusal), named-length (k .args .step), c .before .before .before .before .before .before .before .before .before .before .before .before .before .put-short .ensures .end, c .before .before .before .before .before .before .before .before .put-text .ensures .end, c .before .before .before .before .put-digits .ensures .end)
+    (k .pre .1, omega (arith, step-digit (k .args .step) (k .args .refusal) (k .pre .1), named-length (k .args .step), c .before .before .before .before .before .before .before .before .put-short .ensures .end, c .before .before .before .put-text .ensures .end))
 
 same-length : tie.Need-same-length
 same-length c = search needs
 
 returns : tie.Need-returns
 returns c =
-    let k = c .before .before .before .before .before .before .before .before .before .before .before .before .before .before .before .before .before .before .before .before in
+    let k = c .before .before .before .before .before .before .before .before .before .before .before .before .before .before .before in
     let h : k .args .at ≤ length (now (k .args .out)) = omega (arith, step-digit (k .args .step) (k .args .refusal) (k .pre .1)) in
-    step-written (k .args .step) (k .args .refusal) h (k .pre .1) (c .before .before .before .before .before .before .before .before .before .before .before .before .before .before .before .before .put-short .ensures) (c .before .before .before .before .before .before .before .before .before .before .before .put-text .ensures) (c .before .before .before .before .before .before .before .put-digits .ensures) (c .before .before .put-text2 .ensures)
+    step-written (k .args .step) (k .args .refusal) h (c .before .before .before .before .before .before .before .before .before .before .before .put-short .ensures) (c .before .before .before .before .before .before .put-text .ensures) (c .before .before .put-ended .ensures)
 
 pub put-step-line-spec : {M : Type 1} → statement M
 put-step-line-spec =
@@ -61,8 +52,6 @@ put-step-line-spec =
     put-short-requires
     slice-aggregate-put-text
     put-text-requires
-    put-digits-requires
-    slice-aggregate-put-text-2
-    put-text-requires-2
+    put-ended-requires
     same-length
     returns)

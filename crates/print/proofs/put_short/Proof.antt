@@ -1,4 +1,4 @@
--- `print::put_short`: five digits that end where the number is to end, and the text over the zeros.
+-- `print::put_short`: four or five digits that end where the number is to end, and the text over the zeros.
 -- Assumes nothing.
 use borrow.Author.Needs.{needs}
 use native.Mathlib.Omega.{arith}
@@ -13,11 +13,14 @@ cast-y c = search needs
 short-width-requires : tie.Need-short-width-requires
 short-width-requires c κs = search needs
 
-add-put-five : tie.Need-add-put-five
-add-put-five c = let o = c .before .before .before .before in omega (arith, c .before .short-width .ensures, width-short 4 (o .args .x) (o .pre .1), length-decimal (o .args .x), o .pre .2)
+add-put-four : tie.Need-add-put-four
+add-put-four c = let o = c .before .before .before .before .before in omega (arith, c .before .before .short-width .ensures, length-decimal (o .args .x), o .pre .2)
 
-put-five-requires : tie.Need-put-five-requires
-put-five-requires c κs = let o = c .before .before .before .before in (o .pre .1, omega (arith, c .before .short-width .ensures, width-short 4 (o .args .x) (o .pre .1), length-decimal (o .args .x), o .pre .2))
+add-put-four-2 : tie.Need-add-put-four-2
+add-put-four-2 c = let o = c .before .before .before .before .before in omega (arith, c .before .before .short-width .ensures, length-decimal (o .args .x), o .pre .2)
+
+put-four-requires : tie.Need-put-four-requires
+put-four-requires c κs = let o = c .before .before .before .before .before in (omega arith, omega (arith, c .before .before .short-width .ensures, length-decimal (o .args .x), o .pre .2))
 
 put-text-requires : tie.Need-put-text-requires
 put-text-requires c κs = search needs
@@ -27,11 +30,33 @@ same-length c = search needs
 
 returns : tie.Need-returns
 returns c =
-    let o = c .before .before .before .before .before .before .before .before .before .before .before in
-    let w = c .before .before .before .before .before .before .before .before .short-width .ensures in
+    let o = c .before .before .before .before .before .before .before .before .before .before .before .before in
+    let w = c .before .before .before .before .before .before .before .before .before .short-width .ensures in
+    let few = width-short 3 (o .args .x) (omega arith) in
+    let e = o .pre .0 in
+    wrote-short 4 (o .args .x) (now (o .args .text)) w (omega (arith, w, few)) (omega (arith, e)) (omega (arith, e)) (omega (arith, w, e, length-decimal (o .args .x), o .pre .2))
+    (c .before .before .before .before .before .before .put-four .ensures) (c .before .before .put-text .ensures)
+
+add-put-five : tie.Need-add-put-five
+add-put-five c = let o = c .before .before .before .before .before in omega (arith, c .before .before .short-width .ensures, length-decimal (o .args .x), o .pre .2)
+
+put-five-requires : tie.Need-put-five-requires
+put-five-requires c κs = let o = c .before .before .before .before .before in (o .pre .1, omega (arith, c .before .before .short-width .ensures, length-decimal (o .args .x), o .pre .2))
+
+put-text-requires-2 : tie.Need-put-text-requires-2
+put-text-requires-2 c κs = search needs
+
+same-length-2 : tie.Need-same-length-2
+same-length-2 c = search needs
+
+returns-2 : tie.Need-returns-2
+returns-2 c =
+    let o = c .before .before .before .before .before .before .before .before .before .before .before .before in
+    let w = c .before .before .before .before .before .before .before .before .before .short-width .ensures in
     let few = width-short 4 (o .args .x) (o .pre .1) in
-    wrote-short (o .args .x) (now (o .args .text)) (o .pre .0) w (omega (arith, w, few)) (omega (arith, w, length-decimal (o .args .x), o .pre .2))
-    (c .before .before .before .before .before .before .put-five .ensures) (c .before .before .put-text .ensures)
+    let e = o .pre .0 in
+    wrote-short 5 (o .args .x) (now (o .args .text)) w (omega (arith, w, few)) (omega (arith, e)) (omega (arith, e)) (omega (arith, w, e, length-decimal (o .args .x), o .pre .2))
+    (c .before .before .before .before .before .before .put-five .ensures) (c .before .before .put-text2 .ensures)
 
 pub put-short-spec : {M : Type 1} → statement M
 put-short-spec =
@@ -39,8 +64,14 @@ put-short-spec =
     (tie.spec
     cast-y
     short-width-requires
-    add-put-five
-    put-five-requires
+    add-put-four
+    add-put-four-2
+    put-four-requires
     put-text-requires
     same-length
-    returns)
+    returns
+    add-put-five
+    put-five-requires
+    put-text-requires-2
+    same-length-2
+    returns-2)
