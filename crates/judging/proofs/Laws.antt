@@ -2,7 +2,7 @@
 -- Assumes nothing.
 use mathlib.Core.Path.{_≡_, refl, sym, ap, subst, _∙_}
 use mathlib.Core.Bool.{Bool, true, false, cond, not, _&&_}
-use mathlib.Core.List.{List}
+use mathlib.Core.List.{List, [], _∷_}
 use Prim.Native.Nat.{ℕ, _*_, _/_, _%_, _≤_, _<_}
 use native.Mathlib.Omega.{arith}
 use lib.Dec.{leb}
@@ -70,6 +70,12 @@ module _ {v : Verdict} (book : List ℕ) {j : Judgement} where
 -- The book that was measured.
 pub book-counted : (s : List ℕ) {n : ℕ} → measureBook s ≡ Commands n → 0 ≡ codeOf (verdict (forBook s))
 book-counted s h = λ i. codeOf (verdict (isTaken (is-counted s h .0 i) else Book ⨾ granted))
+
+-- A book without a byte has no command.
+pub book-empty : (s : List ℕ) → length s ≡ 0 → 0 ≡ codeOf (verdict (forBook s))
+unfolding measureBook
+book-empty [] h = book-counted [] refl
+book-empty (x ∷ s) h = absurd (omega arith)
 
 pub book-refused : (s : List ℕ) → measureBook s ≡ Unreadable → 1 ≡ codeOf (verdict (forBook s))
 book-refused s h = λ i. codeOf (verdict (isTaken (not-counted s h .0 i) else Book ⨾ granted))
