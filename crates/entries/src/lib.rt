@@ -138,14 +138,6 @@ pub fn entries_since(
     all
 }
 
-// How many of the first k entries a site has in a round.
-pub fn entries_of(log: &[u8], k: usize, site: usize, round: usize) -> usize
-    requires { ⌜ k * entrySize ≤ length (now log) ⌝ }
-    ensures { λ r. ⌜ r ≡ entries site round (logTo (now (log .entry)) k) ⌝ }
-{
-    entries_since(log, 0, 0, k, site, round)
-}
-
 // The first of the first k entries that is of a round; k where none is.
 pub fn first_of(log: &[u8], k: usize, round: usize) -> usize
     requires { ⌜ k * entrySize ≤ length (now log) ⌝ }

@@ -2,19 +2,19 @@
 -- Assumes nothing.
 use mathlib.Core.Path.{_≡_, refl, sym, ap, subst, _∙_}
 use mathlib.Core.Bool.{Bool, true, false, _&&_}
-use mathlib.Core.List.{List, append-nil}
+use mathlib.Core.List.{List}
 use mathlib.Core.Logic.{_⊎_, inl, inr, ⊎-elim}
 use Prim.Native.Nat.{ℕ, _+_, _*_, _-_, _≤_, _<_}
 use native.Mathlib.Omega.{arith}
 use native.Mathlib.Decide.{decLt}
 use lib.Dec.{leb, ltb}
-use lib.ListN.{length, take, drop, getD, replicate, length-replicate, replicate-append-replicate, length-take, length-drop, take-append-drop}
+use lib.ListN.{length, take, drop, getD, replicate, length-replicate, replicate-append-replicate, length-take, length-drop}
 use borrow.Author.Tests.{leb-true, leb-false, le-leb, lt-leb}
 use borrow.Rule.Slice.PartMut.{putMid}
 use Rattle.theory.specs.Sets.{pick}
 use Rattle.theory.specs.Counting.{never}
 use Rattle.wire.specs.Wire.{readLe, bytes, splice}
-use Rattle.wire.proofs.Laws.{length-bytes, length-splice, drop-after, mid-splice, splice-two}
+use Rattle.wire.proofs.Laws.{length-bytes, length-splice, drop-after, mid-splice, splice-none, splice-two}
 use Rattle.wire.proofs.Small.{Small, splice-small, zeros-small, bytes-small, read-zeros}
 use Rattle.sets.specs.declared.Set.{Set}
 use Rattle.sets.specs.Sets.{has, emptyOf, withinOf, readSet}
@@ -200,11 +200,7 @@ row-there b r e l =
 
 -- No rows are emptied.
 pub rows-none : (b : List ℕ) {k r : ℕ} → k ≡ r → b ≡ emptied b k r
-unfolding splice
-rows-none b {k} {r} e =
-    let none : rowAt r - rowAt k ≡ 0 = omega arith in
-    let q : rowAt k + 0 ≡ rowAt k = omega arith in
-    rw none (rw (append-nil, q) (sym (take-append-drop (rowAt k) b)))
+rows-none b {k} {r} e = let none : rowAt r - rowAt k ≡ 0 = omega arith in rw none (sym (splice-none b (rowAt k)))
 
 -- A part of m bytes that is so many rows is cleared.
 pub rows-cleared : (b : List ℕ) (k r m : ℕ) {new : List ℕ} → length b ≡ siteSize → r ≤ siteRounds → k ≤ r → m ≡ rowAt r - rowAt k

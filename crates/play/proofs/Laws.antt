@@ -17,7 +17,8 @@ use Rattle.protocol.specs.World as protocol
 use Rattle.protocol.specs.World.{World, start, judge, step, play}
 use Rattle.system.specs.Dash.{dash}
 use Rattle.print.specs.Print.{Wrote}
-use Rattle.print.proofs.Laws.{Left, left-all, left-more, left-none, splice-none}
+use Rattle.wire.proofs.Laws.{splice-none}
+use Rattle.print.proofs.Laws.{Left, left-all, left-more, left-none}
 use Rattle.steps.specs.declared.Step.{Step}
 use Rattle.steps.specs.declared.Reading.{Reading}
 use Rattle.steps.specs.declared.Reading.the-variants.{Whole, Unreadable}

@@ -12,10 +12,10 @@ use borrow.Author.Tests.{le-leb, lt-leb, lt-ltb, le-ltb, ltb-true}
 use lib.Dec.{T, ltb}
 use lib.IntN.{ℤ, pos, negsuc, natAbs}
 use lib.Signed.{ltZ}
-use lib.ListN.{length, take, drop, getD, set, length-append, take-append-drop}
+use lib.ListN.{length, take, drop, getD, set, length-append}
 use lib.Seq.{set-split, drop-at, take-all, take-take, take-append-le, length-take-le, paste, paste-suc, take-set-le}
 use Rattle.wire.specs.Wire.{bytes, splice}
-use Rattle.wire.proofs.Laws.{splice-two}
+use Rattle.wire.proofs.Laws.{splice-none, splice-two}
 use Rattle.print.specs.Print.{digits, widthTo, width, decimal, signedDecimal, Wrote}
 
 -- ---- how long a number is
@@ -106,10 +106,6 @@ digits-more s at (suc i) x h g =
     let q : suc i - 1 ≡ i = omega arith in
     rw q (ap (λ (k : ℕ). splice (set s (at + k) (48 + x % 10)) at (digits i (x / 10))) (sym l)
     ∙ before-set s at (48 + x % 10) (digits i (x / 10)) (omega arith))
-
-pub splice-none : (s : List ℕ) (at : ℕ) → splice s at [] ≡ s
-unfolding splice
-splice-none s at = let q : at + 0 ≡ at = omega arith in rw (append-nil, q) (take-append-drop at s)
 
 pub digits-none : (s : List ℕ) (at i x : ℕ) → i ≡ 0 → splice s at (digits i x) ≡ s
 unfolding digits

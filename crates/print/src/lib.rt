@@ -21,7 +21,7 @@ fn digit_count(x: usize) -> usize
 }
 
 // The last n digits of a number are written, leading zeros included.
-pub fn put_digits(out: &mut [u8], at: usize, n: usize, x: usize) -> usize
+fn put_digits(out: &mut [u8], at: usize, n: usize, x: usize) -> usize
     requires { ⌜ at + n ≤ length (now out) ⌝ }
     ensures { λ r. ⌜ Wrote (now (out .exit)) r (now (out .entry)) at (digits n x) ⌝ }
 {

@@ -14,7 +14,8 @@ use Rattle.table.specs.declared.SiteTable.{SiteTable}
 use Rattle.table.specs.Table.{faultyOf}
 use Rattle.register.specs.declared.Command.{Command}
 use Rattle.print.specs.Print.{Wrote}
-use Rattle.print.proofs.Laws.{both, splice-none}
+use Rattle.wire.proofs.Laws.{splice-none}
+use Rattle.print.proofs.Laws.{both}
 use Rattle.lines.specs.Lines.{lineEnd, siteHead, deliveryText, deliveriesText, siteLine}
 use Rattle.protocol.specs.Site as protocol
 use Rattle.protocol.specs.World.{World}

@@ -35,6 +35,10 @@ pub length-splice : (s : List ℕ) (at : ℕ) (bs : List ℕ) → at + length bs
 unfolding splice
 length-splice s at bs h = simp (length-append, length-take, length-drop) (omega arith)
 
+pub splice-none : (s : List ℕ) (at : ℕ) → splice s at [] ≡ s
+unfolding splice
+splice-none s at = let q : at + 0 ≡ at = omega arith in rw (append-nil, q) (take-append-drop at s)
+
 pub value-bytes : (n x : ℕ) → x < 256 ^ n → value (bytes n x) ≡ x
 unfolding value bytes
 value-bytes zero x h = omega arith
