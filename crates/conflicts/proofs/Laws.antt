@@ -2,13 +2,13 @@
 -- Assumes nothing.
 use mathlib.Core.Bool.{Bool, true, false, not, _&&_}
 use mathlib.Core.Path.{_≡_, refl, sym, ap, _∙_}
-use mathlib.Core.List.{List, [], _∷_, _++_, append-nil}
+use mathlib.Core.List.{List, [], _∷_, _++_}
 use Prim.Native.Nat.{ℕ, zero, suc, _+_, _-_, _≤_, _<_}
 use native.Mathlib.Numerals.{add-one}
 use native.Mathlib.Omega.{arith}
 use borrow.Author.Tests.{lt-ltb, le-ltb, ne-eqb}
 use lib.Dec.{ltb}
-use lib.ListN.{length, getD, take, drop, set, drop-of-length-le}
+use lib.ListN.{length, getD, take, drop, set, replicate, length-replicate}
 use lib.Seq.{sets, sets-eq}
 use Rattle.theory.specs.Sets.{pick}
 use Rattle.sets.specs.declared.Set.{Set}
@@ -76,7 +76,7 @@ no-more n (suc j) p h =
     let q : n + j + 1 ≡ n + suc j = omega arith in
     no-more n j p h ∙ build-no (n + j) p (h (n + j) (omega arith)) ∙ ap (λ (k : ℕ). setOf k p) q
 
-pub row-none : (s : List ℕ) (m : ℕ) → length (commandsOf s) ≤ m → emptyOf ≡ conflictRow s m
+row-none : (s : List ℕ) (m : ℕ) → length (commandsOf s) ≤ m → emptyOf ≡ conflictRow s m
 unfolding conflictRow
 row-none s m h = build-none (conflictIn s m) ∙ no-more 0 capacity (conflictIn s m) (λ k g. out-left s m k h)
 
@@ -91,28 +91,45 @@ pub rows-size : (s : List ℕ) → length (conflictRows s) ≡ maxCommands
 unfolding conflictRows
 rows-size s = length-rows s maxCommands 0
 
-pub rows-start : (s ws : List ℕ) → length ws ≡ maxCommands → sets ws 0 (rowsFrom s (maxCommands - 0) 0) ≡ conflictRows s
-unfolding conflictRows
-rows-start s ws h =
-    let l = length-rows s maxCommands 0 in
-    sets-eq (rowsFrom s maxCommands 0) ws 0 (omega arith)
-    ∙ ap (λ (t : List ℕ). rowsFrom s maxCommands 0 ++ t) (drop-of-length-le ws {i = 0 + length (rowsFrom s maxCommands 0)} (omega arith))
-    ∙ append-nil (rowsFrom s maxCommands 0)
-
-pub rows-more : (s ws : List ℕ) (m : ℕ) {r : Set} → m < maxCommands → r ≡ conflictRow s m → sets ws m (rowsFrom s (maxCommands - m) m) ≡ conflictRows s
-    → sets (set ws m (r .bits)) (m + 1) (rowsFrom s (maxCommands - (m + 1)) (m + 1)) ≡ conflictRows s
+-- Rows past the book are empty: the first n rows, then empty ones, are all k, where the book ends within the n.
+rows-filled : (s : List ℕ) (k n m : ℕ) → n ≤ k → length (commandsOf s) ≤ m + n → rowsFrom s n m ++ drop n (replicate k 0) ≡ rowsFrom s k m
 unfolding rowsFrom
-rows-more s ws m {r} h e w =
-    let q : suc (maxCommands - (m + 1)) ≡ maxCommands - m = omega arith in
-    ap (λ (k : ℕ). sets (set ws m (r .bits)) k (rowsFrom s (maxCommands - (m + 1)) k)) (add-one m)
-    ∙ ap (λ (t : Set). sets (set ws m (t .bits)) (suc m) (rowsFrom s (maxCommands - (m + 1)) (suc m))) e
-    ∙ ap (λ (n : ℕ). sets ws m (rowsFrom s n m)) q
+rows-filled s zero zero m g h = refl
+rows-filled s zero (suc n) m g h = absurd (omega arith)
+rows-filled s (suc k) zero m g h =
+    let e = row-none s m (omega arith) in
+    let w = rows-filled s k zero (suc m) (omega arith) (omega arith) in
+    λ i. e i .bits ∷ w i
+rows-filled s (suc k) (suc n) m g h =
+    ap (λ (t : List ℕ). conflictRow s m .bits ∷ t) (rows-filled s k n (suc m) (omega arith) (omega arith))
+
+-- Of empty rows the first n are still to be written, where the book has n commands.
+pub rows-start : (s ws : List ℕ) (n : ℕ) → n ≡ length (commandsOf s) → n ≤ maxCommands → ws ≡ replicate maxCommands 0
+    → sets ws 0 (rowsFrom s (n - 0) 0) ≡ conflictRows s
+unfolding conflictRows
+rows-start s ws n e h w =
+    let q : n - 0 ≡ n = omega arith in
+    let l : 0 + length (rowsFrom s n 0) ≡ n = omega (arith, length-rows s n 0) in
+    let z = length-replicate {0} {A = ℕ} maxCommands 0 in
+    (λ i. sets (w i) 0 (rowsFrom s (q i) 0))
+    ∙ sets-eq (rowsFrom s n 0) (replicate maxCommands 0) 0 (omega arith)
+    ∙ ap (λ (k : ℕ). rowsFrom s n 0 ++ drop k (replicate maxCommands 0)) l
+    ∙ rows-filled s maxCommands n 0 h (omega arith)
+
+pub rows-more : (s ws : List ℕ) (n m : ℕ) {r : Set} → m < n → r ≡ conflictRow s m → sets ws m (rowsFrom s (n - m) m) ≡ conflictRows s
+    → sets (set ws m (r .bits)) (m + 1) (rowsFrom s (n - (m + 1)) (m + 1)) ≡ conflictRows s
+unfolding rowsFrom
+rows-more s ws n m {r} h e w =
+    let q : suc (n - (m + 1)) ≡ n - m = omega arith in
+    ap (λ (k : ℕ). sets (set ws m (r .bits)) k (rowsFrom s (n - (m + 1)) k)) (add-one m)
+    ∙ ap (λ (t : Set). sets (set ws m (t .bits)) (suc m) (rowsFrom s (n - (m + 1)) (suc m))) e
+    ∙ ap (λ (k : ℕ). sets ws m (rowsFrom s k m)) q
     ∙ w
 
-pub rows-end : (s ws : List ℕ) (m : ℕ) → maxCommands ≤ m → sets ws m (rowsFrom s (maxCommands - m) m) ≡ conflictRows s → ws ≡ conflictRows s
+pub rows-end : (s ws : List ℕ) (n m : ℕ) → n ≤ m → sets ws m (rowsFrom s (n - m) m) ≡ conflictRows s → ws ≡ conflictRows s
 unfolding rowsFrom
-rows-end s ws m h w =
-    let q : 0 ≡ maxCommands - m = omega arith in ap (λ (n : ℕ). sets ws m (rowsFrom s n m)) q ∙ w
+rows-end s ws n m h w =
+    let q : 0 ≡ n - m = omega arith in ap (λ (k : ℕ). sets ws m (rowsFrom s k m)) q ∙ w
 
 row-at : (s : List ℕ) (n j m : ℕ) → m < n → getD (rowsFrom s n j) m 0 ≡ conflictRow s (j + m) .bits
 unfolding rowsFrom

@@ -1,7 +1,7 @@
 // Which commands of a book conflict: for each command the set of those that conflict with it.
 ghost use mathlib.Core.Path.{_≡_};
 ghost use Prim.Native.Nat.{_+_, _-_, _^_, _<_};
-ghost use lib.ListN.{length, take};
+ghost use lib.ListN.{length, take, replicate};
 ghost use Rattle.theory.specs.Sets.{pick, one};
 ghost use Rattle.sets.specs.Sets.{emptyOf, withOf, capacity};
 ghost use Rattle.commands.specs.Book.{maxCommands, commandsOf, placesOf};
@@ -80,9 +80,9 @@ fn row(book: &[u8], places: &[u16], m: usize, sets: &[u64]) -> Set
     all.without(peaceful.with(m))
 }
 
-// The rows of all 64 command numbers, from the sets of each bike; those past the n commands are empty.
+// The rows of all 64 command numbers, from the sets of each bike; those past the n commands are empty, as they were.
 fn fill_rows(book: &[u8], places: &[u16], n: usize, sets: &[u64], rows: &mut [u64])
-    requires { ⌜ (length (now rows) ≡ maxCommands) × (n ≡ length (commandsOf (now book)))
+    requires { ⌜ (now rows ≡ replicate maxCommands 0) × (n ≡ length (commandsOf (now book)))
         × (take (length (commandsOf (now book))) (now places) ≡ placesOf (now book)) × Gathered (now book) n (now sets) ⌝ }
     ensures { λ _. ⌜ now (rows .exit) ≡ conflictRows (now (book .entry)) ⌝ }
 {
@@ -92,15 +92,11 @@ fn fill_rows(book: &[u8], places: &[u16], n: usize, sets: &[u64], rows: &mut [u6
         rows[m] = found.bits;
         m += 1;
     }
-    while m < commands::MAX_COMMANDS {
-        rows[m] = 0;
-        m += 1;
-    }
 }
 
-// The rows of all 64 command numbers, from the noted places of the n commands.
+// The rows of all 64 command numbers, from the noted places of the n commands. All rows are empty before.
 pub fn conflict_rows(book: &[u8], places: &[u16], n: usize, rows: &mut [u64])
-    requires { ⌜ (length (now rows) ≡ maxCommands) × (n ≡ length (commandsOf (now book))) × (take (length (commandsOf (now book))) (now places) ≡ placesOf (now book)) ⌝ }
+    requires { ⌜ (now rows ≡ replicate maxCommands 0) × (n ≡ length (commandsOf (now book))) × (take (length (commandsOf (now book))) (now places) ≡ placesOf (now book)) ⌝ }
     ensures { λ _. ⌜ now (rows .exit) ≡ conflictRows (now (book .entry)) ⌝ }
 {
     let mut sets = [0u64; 129];
