@@ -28,7 +28,7 @@ whole() { # CELLS
   grep -cE "( +([0-9]+(\.[0-9]+)?|-)){$1}\$"
 }
 
-BENCH_TURNS=1 BENCH_MILLISECONDS=0 sh bench/run.sh > "$out"
+BENCH_PROCESSES=2 BENCH_TURNS=1 BENCH_MILLISECONDS=0 sh bench/run.sh > "$out"
 check "the answer of bench/run.sh" 0 "$?"
 
 for group in a:2 b:2 c:4 d:4 e:10 f:11; do

@@ -3,6 +3,7 @@
 pub mod calls;
 pub mod measure;
 pub mod memory;
+pub mod processes;
 pub mod programs;
 #[cfg(feature = "archive")]
 pub mod proved;

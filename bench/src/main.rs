@@ -6,6 +6,7 @@ use bench::calls::engines::{self, Named, Nothing};
 use bench::calls::stack;
 use bench::measure::Effort;
 use bench::memory::{most_held, Counting};
+use bench::processes::{self, Choice, Times};
 use bench::programs::{self, Measured};
 use bench::table::Table;
 use bench::workloads::{self, Workload};
@@ -51,27 +52,62 @@ fn cells(times: &[f64]) -> Vec<String> {
     times.iter().map(|time| format!("{time:.1}")).chain(ratios).collect()
 }
 
-fn runs(programs: &mut Programs, workloads: &[Workload], effort: Effort) -> Table {
-    let names: Vec<&str> = programs.iter().map(|program| program.name()).collect();
-    let title = "Runs: nanoseconds a step, best of the turns; ratios of these";
-    let mut table = times_table(title, &["workload", "steps"], &names);
-    for workload in workloads {
-        measure::check(programs, workload);
-        let times = measure::nanoseconds(programs, workload, effort);
+/// What is measured: programs and engines, and the rows of both tables.
+struct Bench {
+    programs: Vec<Box<dyn Measured>>,
+    workloads: Vec<Workload>,
+    engines: Vec<Named>,
+    cases: Vec<Case>,
+}
+
+impl Bench {
+    /// All rows whose name has this text.
+    fn new(rows: &str) -> Bench {
+        let mut workloads = workloads::all(number("BEURILMA_SEED", 1));
+        workloads.retain(|workload| workload.name.contains(rows));
+        let mut cases = cases::all();
+        cases.retain(|case| case.name.contains(rows));
+        Bench { programs: programs::all(), workloads, engines: engines::all(), cases }
+    }
+
+    /// The times of all rows, those of runs first.
+    fn times(&mut self, effort: Effort) -> Times {
+        let mut times = Vec::new();
+        for workload in &self.workloads {
+            measure::check(&mut self.programs, workload);
+            times.push(measure::nanoseconds(&mut self.programs, workload, effort));
+        }
+        for case in &self.cases {
+            calls::measure::check(&mut self.engines, case);
+            times.push(calls::measure::nanoseconds(&mut self.engines, case, effort));
+        }
+        times
+    }
+
+    /// From every call the time of the loop around it is taken off.
+    fn choices(&self) -> Vec<Choice> {
+        let of_runs = |workload: &Workload| if workload.before.is_empty() { Choice::Best } else { Choice::Middle };
+        let runs = self.workloads.iter().map(of_runs);
+        runs.chain(self.cases.iter().map(|_| Choice::Middle)).collect()
+    }
+}
+
+fn runs_table(bench: &Bench, times: &[Vec<f64>]) -> Table {
+    let names: Vec<&str> = bench.programs.iter().map(|program| program.name()).collect();
+    let mut table = times_table("Runs: nanoseconds a step; ratios of these", &["workload", "steps"], &names);
+    for (workload, times) in bench.workloads.iter().zip(times) {
         let first = [workload.name.clone(), workload.steps.to_string()];
-        table.rows.push(first.into_iter().chain(cells(&times)).collect());
+        table.rows.push(first.into_iter().chain(cells(times)).collect());
     }
     table
 }
 
-fn single_calls(engines: &mut [Named], cases: &[Case], effort: Effort) -> Table {
-    let names: Vec<&str> = engines.iter().map(|named| named.name).collect();
-    let title = "Single calls of one site: nanoseconds a call, best of the turns; ratios of these";
+fn calls_table(bench: &Bench, times: &[Vec<f64>]) -> Table {
+    let names: Vec<&str> = bench.engines.iter().map(|named| named.name).collect();
+    let title = "Single calls of one site: nanoseconds a call; ratios of these";
     let mut table = times_table(title, &["call"], &names);
-    for case in cases {
-        calls::measure::check(engines, case);
-        let times = calls::measure::nanoseconds(engines, case, effort);
-        table.rows.push([case.name.clone()].into_iter().chain(cells(&times)).collect());
+    for (case, times) in bench.cases.iter().zip(times) {
+        table.rows.push([case.name.clone()].into_iter().chain(cells(times)).collect());
     }
     table
 }
@@ -122,14 +158,17 @@ fn main() {
     let milliseconds = number("BENCH_MILLISECONDS", 1);
     let turns = number("BENCH_TURNS", 31).max(1) as usize;
     let effort = Effort { turns, turn: Duration::from_millis(milliseconds) };
-    let rows = text("BENCH_ROWS");
-    let (mut programs, mut workloads) = (programs::all(), workloads::all(number("BEURILMA_SEED", 1)));
-    workloads.retain(|workload| workload.name.contains(&rows));
-    println!("{}", runs(&mut programs, &workloads, effort));
-    let (mut engines, mut cases) = (engines::all(), cases::all());
-    cases.retain(|case| case.name.contains(&rows));
-    println!("{}", single_calls(&mut engines, &cases, effort));
-    println!("{}", memory(&mut programs, &workloads));
-    println!("{}", memory_of_calls(&mut engines, &cases));
-    println!("{turns} turns of about {milliseconds} milliseconds; buffers are not cleared between calls.");
+    let mut bench = Bench::new(&text("BENCH_ROWS"));
+    if processes::takes_times() {
+        print!("{}", processes::to_text(&bench.times(effort)));
+        return;
+    }
+    let processes = number("BENCH_PROCESSES", 5).max(1) as usize;
+    let times = processes::combined(&processes::take_times(processes), &bench.choices());
+    let (of_runs, of_calls) = times.split_at(bench.workloads.len());
+    println!("{}", runs_table(&bench, of_runs));
+    println!("{}", calls_table(&bench, of_calls));
+    println!("{}", memory(&mut bench.programs, &bench.workloads));
+    println!("{}", memory_of_calls(&mut bench.engines, &bench.cases));
+    println!("{processes} processes, in each {turns} turns of about {milliseconds} milliseconds; buffers are not cleared between calls.");
 }

@@ -42,7 +42,10 @@ struct Turn {
 /// for a while slows both.
 const PARTS: usize = 8;
 
+/// The runs are played once before they are timed: what the program before has left in caches and in the processor's
+/// predictions is no time of this one.
 fn turn_of(program: &mut dyn Measured, workload: &Workload, times: usize) -> Turn {
+    time(program, &workload.runs, 1);
     let (parts, times) = if times < PARTS { (1, times) } else { (PARTS, times / PARTS) };
     let mut turn = Turn { whole: 0.0, before: 0.0 };
     for _ in 0..parts {
