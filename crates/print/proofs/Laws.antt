@@ -1,6 +1,6 @@
 -- Laws of printing: how long a number is, how texts written one after another are one text, and what is left of a text in a loop.
 -- Assumes nothing.
-use mathlib.Core.Bool.{true, false, cond}
+use mathlib.Core.Bool.{Bool, true, false, cond}
 use mathlib.Core.Path.{_≡_, refl, sym, ap, subst, _∙_}
 use mathlib.Core.List.{List, [], _∷_, _++_, append-assoc, append-nil}
 use Prim.Native.Nat.{ℕ, zero, suc, _+_, _-_, _*_, _/_, _%_, _^_, _≤_, _<_}
@@ -9,13 +9,13 @@ use native.Mathlib.Decide.{decLt}
 use native.Mathlib.Numerals.{add-one}
 use native.Mathlib.Omega.{arith}
 use borrow.Author.Tests.{le-leb, lt-leb, lt-ltb, le-ltb, ltb-true}
-use lib.Dec.{T, ltb}
+use lib.Dec.{T, leb, ltb}
 use lib.IntN.{ℤ, pos, negsuc, natAbs}
 use lib.Signed.{ltZ}
 use lib.ListN.{length, take, drop, getD, set, length-append}
 use lib.Seq.{set-split, drop-at, take-all, take-take, take-append-le, length-take-le, paste, paste-suc, take-set-le}
 use Rattle.wire.specs.Wire.{bytes, splice}
-use Rattle.wire.proofs.Laws.{splice-none, splice-two}
+use Rattle.wire.proofs.Laws.{splice-none, splice-two, part-before, drop-after}
 use Rattle.print.specs.Print.{digits, widthTo, width, decimal, signedDecimal, Wrote}
 
 -- ---- how long a number is
@@ -72,6 +72,20 @@ length-digits (suc n) x = length-append (digits n (x / 10)) ((48 + x % 10) ∷ [
 pub length-decimal : (x : ℕ) → length (decimal x) ≡ width x
 unfolding decimal
 length-decimal x = length-digits (width x) x
+
+some-digit : (b : Bool) (n : ℕ) → 1 ≤ cond b 1 (suc n)
+some-digit true n = omega arith
+some-digit false n = omega arith
+
+width-some : (n x : ℕ) → 1 ≤ widthTo n x
+unfolding widthTo
+width-some zero x = omega arith
+width-some (suc n) x = some-digit (leb x 9) (widthTo n (x / 10))
+
+-- Every number has a digit.
+pub decimal-some : (x : ℕ) → 1 ≤ length (decimal x)
+unfolding width
+decimal-some x = omega (arith, length-decimal x, width-some x x)
 
 -- A number below 10 ^ suc k has at most suc k digits.
 pub decimal-short : (k x : ℕ) → x < 10 ^ suc k → length (decimal x) ≤ suc k
@@ -198,6 +212,17 @@ written-over s at n z d t e h =
     let end : at + n + length (z ++ d) ≡ at + length (t ++ d) = omega (arith, length-append z d, length-append t d) in
     rw (front, back, end) (simp append-assoc)
 
+splice-parts : (s : List ℕ) (at : ℕ) (b : List ℕ) → splice s at b ≡ take at s ++ b ++ drop (at + length b) s
+unfolding splice
+splice-parts s at b = refl
+
+-- A text that is written over another, which is no longer, is all that is left.
+splice-over : (s : List ℕ) (at : ℕ) (a b : List ℕ) → length a ≤ length b → at + length a ≤ length s → splice (splice s at a) at b ≡ splice s at b
+splice-over s at a b h g =
+    splice-parts (splice s at a) at b
+    ∙ (λ i. part-before s at a at 0 (omega arith) (omega arith) i ++ b ++ drop-after s at a (at + length b) (omega arith) g i)
+    ∙ sym (splice-parts s at b)
+
 -- ---- the copy of a text
 
 pub copy-more : (d : List ℕ) (at : ℕ) (t : List ℕ) (i : ℕ) {s : List ℕ} → at + i < length d → i < length t → s ≡ paste d at t i
@@ -267,15 +292,24 @@ unfolding signedDecimal
 wrote-minus (pos n) h g e v w = absurd (let k = ltb-true n 0 h in omega arith)
 wrote-minus {s₁} {s₂} {s} {r₁} {r₂} {at} (negsuc n) h g e v w = both g v (subst (λ (m : ℕ). Wrote s₂ r₂ s₁ r₁ (decimal m)) e w)
 
-pub length-unsigned : (z : ℤ) → ltZ z (pos 0) ≡ false → length (signedDecimal z) ≡ length (decimal (natAbs z))
-unfolding signedDecimal
-length-unsigned (pos n) h = refl
-length-unsigned (negsuc n) h = absurd (subst T h tt)
+-- Where a sign is written always and the digits start after it only where it is meant.
+pub wrote-over-sign : {s s₁ s₂ : List ℕ} {r₁ r₂ at sign n : ℕ} (z : ℤ) (g : Bool) → ltZ z (pos 0) ≡ g → sign ≡ cond g 1 0 → at + 1 ≤ length s → n ≡ natAbs z
+    → Wrote s₁ r₁ s at (45 ∷ []) → Wrote s₂ r₂ s₁ (at + sign) (decimal n) → Wrote s₂ r₂ s at (signedDecimal z)
+wrote-over-sign {s} {s₁} {s₂} {r₁} {r₂} {at} {sign} {n} z true h e f m v w =
+    let q : at + sign ≡ r₁ = omega (arith, v .end) in
+    wrote-minus z h (omega arith) m v (subst (λ (p : ℕ). Wrote s₂ r₂ s₁ p (decimal n)) q w)
+wrote-over-sign {s} {s₁} {s₂} {r₁} {r₂} {at} {sign} {n} z false h e f m v w =
+    let q : at + sign ≡ at = omega arith in
+    let u : Wrote s₂ r₂ s₁ at (decimal n) = subst (λ (p : ℕ). Wrote s₂ r₂ s₁ p (decimal n)) q w in
+    let l = decimal-some n in
+    wrote-signed z h m (record { end = u .end; bytes = u .bytes ∙ (λ i. splice (v .bytes i) at (decimal n)) ∙ splice-over s at (45 ∷ []) (decimal n) (omega arith) (omega arith) })
 
-pub length-minus : (z : ℤ) → ltZ z (pos 0) ≡ true → length (signedDecimal z) ≡ suc (length (decimal (natAbs z)))
+pub length-signed : (z : ℤ) (g : Bool) → ltZ z (pos 0) ≡ g → length (signedDecimal z) ≡ cond g 1 0 + length (decimal (natAbs z))
 unfolding signedDecimal
-length-minus (pos n) h = absurd (let k = ltb-true n 0 h in omega arith)
-length-minus (negsuc n) h = refl
+length-signed (pos n) true h = absurd (let k = ltb-true n 0 h in omega arith)
+length-signed (pos n) false h = omega arith
+length-signed (negsuc n) true h = omega arith
+length-signed (negsuc n) false h = absurd (subst T h tt)
 
 -- In a loop: what is still to be written at a position gives what was to be written at the start.
 pub record Left (now : List ℕ) (at : ℕ) (rest : List ℕ) (first : List ℕ) (from : ℕ) (text : List ℕ) : Type 0 where

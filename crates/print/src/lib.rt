@@ -163,14 +163,13 @@ pub fn put_text(out: &mut [u8], at: usize, text: &[u8]) -> usize
 }
 
 // A signed number is written: a minus sign where it is below 0, no plus sign, no leading zeros.
+// The sign is written always, and the digits over it where there is none to be: signs come in no order, so they are no branch.
 pub fn put_signed(out: &mut [u8], at: usize, x: i32) -> usize
     requires { ⌜ at + length (signedDecimal x) ≤ length (now out) ⌝ }
     ensures { λ r. ⌜ Wrote (now (out .exit)) r (now (out .entry)) at (signedDecimal x) ⌝ }
 {
     let size = signed::magnitude(x) as usize;
-    if signed::is_negative(x) {
-        let start = put_text(out, at, b"-");
-        return put_decimal(out, start, size);
-    }
-    put_decimal(out, at, size)
+    let sign = one(signed::is_negative(x));
+    put_text(out, at, b"-");
+    put_decimal(out, at + sign, size)
 }

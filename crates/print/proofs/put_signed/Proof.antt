@@ -1,4 +1,4 @@
--- `print::put_signed`: a minus sign where the number is below 0, then its size.
+-- `print::put_signed`: a minus sign, and the size after it or over it.
 -- Assumes nothing.
 use borrow.Author.Needs.{needs}
 use native.Mathlib.Omega.{arith}
@@ -9,7 +9,7 @@ use lib.Signed.{ltZ}
 use mir.Facts.{toZ-ofZ}
 use lib.ListN.{length}
 use Rattle.print.specs.Print.{decimal}
-use Rattle.print.proofs.Laws.{wrote-signed, wrote-minus, length-unsigned, length-minus}
+use Rattle.print.proofs.Laws.{wrote-over-sign, length-signed, decimal-some}
 use Rattle.print.proofs.put_signed.Statement.{statement}
 use Rattle.print.proofs.put_signed.Tie as tie
 
@@ -22,6 +22,9 @@ cast-size c = search needs
 is-negative-requires : tie.Need-is-negative-requires
 is-negative-requires c κs = search needs
 
+one-requires : tie.Need-one-requires
+one-requires c κs = search needs
+
 slice-aggregate-put-text : tie.Need-slice-aggregate-put-text
 slice-aggregate-put-text c = search needs
 
@@ -29,46 +32,34 @@ put-text-requires : tie.Need-put-text-requires
 put-text-requires c κs =
     let z = c .before .before .before .before .before .before .args .x in
     let k = toZ-ofZ (c .before .before .before .before .before .before .fits .x) in
-    let t = ap (λ (y : ℤ). ltZ y (pos 0)) (sym k) ∙ sym (c .before .before .before .is-negative .ensures) ∙ c .before .before .if1 .taken in
-    omega (arith, length-minus z t)
+    let t = ap (λ (y : ℤ). ltZ y (pos 0)) (sym k) ∙ sym (c .before .before .before .is-negative .ensures) in
+    omega (arith, length-signed z _ t, decimal-some (natAbs z))
+
+add-put-decimal : tie.Need-add-put-decimal
+add-put-decimal c = search needs
 
 put-decimal-requires : tie.Need-put-decimal-requires
 put-decimal-requires c κs =
-    let z = c .before .before .before .before .before .before .before .before .before .before .args .x in
-    let k = toZ-ofZ (c .before .before .before .before .before .before .before .before .before .before .fits .x) in
-    let t = ap (λ (y : ℤ). ltZ y (pos 0)) (sym k) ∙ sym (c .before .before .before .before .before .before .before .is-negative .ensures) ∙ c .before .before .before .before .before .before .if1 .taken in
+    let o = c .before .before .before .before .before .before .before .before .before .before in
+    let z = o .args .x in
+    let k = toZ-ofZ (o .fits .x) in
+    let t = ap (λ (y : ℤ). ltZ y (pos 0)) (sym k) ∙ sym (c .before .before .before .before .before .before .before .is-negative .ensures) in
     let m = c .before .before .before .before .before .before .before .before .magnitude .ensures ∙ ap natAbs k in
-    omega (arith, length-minus z t, ap (λ (n : ℕ). length (decimal n)) m, c .before .before .before .put-text .ensures .end)
+    omega (arith, length-signed z _ t, c .before .before .before .before .before .before .one .ensures .0, ap (λ (n : ℕ). length (decimal n)) m)
 
 same-length : tie.Need-same-length
 same-length c = search needs
 
 returns : tie.Need-returns
 returns c =
-    let z = c .before .before .before .before .before .before .before .before .before .before .before .before .before .args .x in
-    let k = toZ-ofZ (c .before .before .before .before .before .before .before .before .before .before .before .before .before .fits .x) in
-    let t = ap (λ (y : ℤ). ltZ y (pos 0)) (sym k) ∙ sym (c .before .before .before .before .before .before .before .before .before .before .is-negative .ensures) ∙ c .before .before .before .before .before .before .before .before .before .if1 .taken in
+    let o = c .before .before .before .before .before .before .before .before .before .before .before .before .before in
+    let z = o .args .x in
+    let k = toZ-ofZ (o .fits .x) in
+    let t = ap (λ (y : ℤ). ltZ y (pos 0)) (sym k) ∙ sym (c .before .before .before .before .before .before .before .before .before .before .is-negative .ensures) in
     let m = c .before .before .before .before .before .before .before .before .before .before .before .magnitude .ensures ∙ ap natAbs k in
-    wrote-minus z t (omega (arith, c .before .before .before .before .before .before .before .before .before .before .before .before .before .pre)) m (c .before .before .before .before .before .before .put-text .ensures) (c .before .before .put-decimal .ensures)
-
-put-decimal-requires-2 : tie.Need-put-decimal-requires-2
-put-decimal-requires-2 c κs =
-    let z = c .before .before .before .before .before .args .x in
-    let k = toZ-ofZ (c .before .before .before .before .before .fits .x) in
-    let t = ap (λ (y : ℤ). ltZ y (pos 0)) (sym k) ∙ sym (c .before .before .is-negative .ensures) ∙ c .before .if1 .left in
-    let m = c .before .before .before .magnitude .ensures ∙ ap natAbs k in
-    omega (arith, length-unsigned z t, ap (λ (n : ℕ). length (decimal n)) m)
-
-same-length-2 : tie.Need-same-length-2
-same-length-2 c = search needs
-
-returns-2 : tie.Need-returns-2
-returns-2 c =
-    let z = c .before .before .before .before .before .before .before .before .args .x in
-    let k = toZ-ofZ (c .before .before .before .before .before .before .before .before .fits .x) in
-    let t = ap (λ (y : ℤ). ltZ y (pos 0)) (sym k) ∙ sym (c .before .before .before .before .before .is-negative .ensures) ∙ c .before .before .before .before .if1 .left in
-    let m = c .before .before .before .before .before .before .magnitude .ensures ∙ ap natAbs k in
-    wrote-signed z t m (c .before .before .put-decimal2 .ensures)
+    wrote-over-sign z _ t (c .before .before .before .before .before .before .before .before .before .one .ensures .0)
+    (omega (arith, length-signed z _ t, decimal-some (natAbs z), o .pre)) m
+    (c .before .before .before .before .before .before .put-text .ensures) (c .before .before .put-decimal .ensures)
 
 pub put-signed-spec : {M : Type 1} → statement M
 put-signed-spec =
@@ -77,11 +68,10 @@ put-signed-spec =
     magnitude-requires
     cast-size
     is-negative-requires
+    one-requires
     slice-aggregate-put-text
     put-text-requires
+    add-put-decimal
     put-decimal-requires
     same-length
-    returns
-    put-decimal-requires-2
-    same-length-2
-    returns-2)
+    returns)
