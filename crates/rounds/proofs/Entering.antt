@@ -1,6 +1,6 @@
 -- The round of an entry that is taken in: one law for each answer of the code.
 -- Assumes nothing.
-use mathlib.Core.Path.{_≡_, refl, sym, ap, _∙_, subst}
+use mathlib.Core.Path.{_≡_, refl, sym, ap, subst}
 use mathlib.Core.Bool.{Bool, true, false, not}
 use mathlib.Core.List.{List}
 use Prim.Native.Nat.{ℕ, _+_, _<_}
@@ -60,15 +60,12 @@ module _ (t : SiteTable) (rows log : List ℕ) (k r : ℕ) (x : Round) (good : i
     pub first-decided : (x .decided ≡ 0 → ⊥) → Decides log (k + 1) r t rows (notedOf x site (k + 1))
     first-decided d = decided-stays t rows log k r x hd (omega arith) (withOf (x .once) site) (x .twice) (notedOf x site (k + 1) .first)
 
-    -- A round that waits, with the entry whose NC was tested.
-    module _ (z : x .decided ≡ 0) {nc : Set} (en : nc ≡ entryOf log k .nc) {f : Bool} (ef : f ≡ freeBy rows (inSet nc)) where
-      tested : f ≡ freeBy rows (inSet (entryOf log k .nc))
-      tested = ef ∙ ap (λ (y : Set). freeBy rows (inSet y)) en
-
+    -- A round that waits, with an entry of which it is known whether its NC is free.
+    module _ (z : x .decided ≡ 0) {f : Bool} (ef : f ≡ freeBy rows (inSet (entryOf log k .nc))) where
       pub first-unfree : not f ≡ true → Decides log (k + 1) r t rows (notedOf x site (k + 1))
       first-unfree g =
           still-waits t rows log k r x hd good z
-          (stands z (first-conflicting rows site (entryOf log k .nc) waiting refl n tested g))
+          (stands z (first-conflicting rows site (entryOf log k .nc) waiting refl n ef g))
           (ap not (ne-eqb (sizeOf (x .valid)) (nChkOf t) (λ q. omega (arith, few-valid z))))
           (x .twice) (notedOf x site (k + 1) .first)
 
@@ -76,7 +73,7 @@ module _ (t : SiteTable) (rows log : List ℕ) (k r : ℕ) (x : Round) (good : i
       module _ (g : not f ≡ false) {v : Set} (ev : v ≡ withOf (x .valid) site) where
         more : after v ≡ standingOf t rows r log (k + 1)
         more =
-            stands z (first-valid rows site (entryOf log k .nc) waiting refl n tested g ev)
+            stands z (first-valid rows site (entryOf log k .nc) waiting refl n ef g ev)
 
         pub first-waiting : (sizeOf v ≡ nChkOf t → ⊥) → Decides log (k + 1) r t rows (withValid (notedOf x site (k + 1)) v)
         first-waiting d =

@@ -170,13 +170,13 @@ module _ (t : SiteTable) (rows log : List ℕ) (k r : ℕ) (kept : List ℕ) (si
         kept-more t rows log k r kept (notedOf x site (k + 1)) good l (sym er) h more
         (first-decided t rows log k r x good (sym er) (h .counts r l) (h .decides r l) site ls es n d) ea
 
-    module _ (z : getD kept (r * roundWords + 3) 0 ≡ 0) {nc : Set} (en : nc ≡ entryOf log k .nc) {f : Bool} (ef : f ≡ freeBy rows (inSet nc)) where
+    module _ (z : getD kept (r * roundWords + 3) 0 ≡ 0) {f : Bool} (ef : f ≡ freeBy rows (inSet (entryOf log k .nc))) where
       pub taken-unfree : not f ≡ true → Kept t rows log (k + 1) a
       unfolding roundIn
       taken-unfree g =
           let x = roundIn kept r in
           kept-more t rows log k r kept (notedOf x site (k + 1)) good l (sym er) h more
-          (first-unfree t rows log k r x good (sym er) (h .counts r l) (h .decides r l) site ls es n z en ef g) ea
+          (first-unfree t rows log k r x good (sym er) (h .counts r l) (h .decides r l) site ls es n z ef g) ea
 
       module _ (g : not f ≡ false) {old v : Set} (eo : old ≡ loadSet kept (r * roundWords + 2)) (ev : v ≡ withOf old site)
           {b : List ℕ} (eb : b ≡ storeSet a (r * roundWords + 2) v) where
@@ -196,7 +196,7 @@ module _ (t : SiteTable) (rows log : List ℕ) (k r : ℕ) (kept : List ℕ) (si
         taken-waiting e1 e2 d =
             let x = roundIn kept r in
             kept-more t rows log k r kept (withValid (notedOf x site (k + 1)) v) good l (sym er) h counts-stored
-            (first-waiting t rows log k r x good (sym er) (h .counts r l) (h .decides r l) site ls es n z en ef g own (λ q. d (e1 ∙ q ∙ sym e2)))
+            (first-waiting t rows log k r x good (sym er) (h .counts r l) (h .decides r l) site ls es n z ef g own (λ q. d (e1 ∙ q ∙ sym e2)))
             valid-stored
 
         stored-round : roundIn b r ≡ withValid (notedOf (roundIn kept r) site (k + 1)) v
@@ -216,6 +216,6 @@ module _ (t : SiteTable) (rows log : List ℕ) (k r : ℕ) (kept : List ℕ) (si
             let y = decidedOf (withValid (notedOf x site (k + 1)) v) (k + 1) found in
             kept-more t rows log k r kept y good l (sym er) h
             (record { once = more .once; twice = more .twice; first = more .first; within = more .within })
-            (first-deciding t rows log k r x good (sym er) (h .counts r l) (h .decides r l) site ls es n z en ef g own (sym e1 ∙ d ∙ e2))
+            (first-deciding t rows log k r x good (sym er) (h .counts r l) (h .decides r l) site ls es n z ef g own (sym e1 ∙ d ∙ e2))
             (ec ∙ (λ i. writeRound (valid-stored i) r (decidedOf (stored-round i) (k + 1) found))
             ∙ written-over kept r (withValid (notedOf x site (k + 1)) v) y)

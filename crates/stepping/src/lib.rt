@@ -1,13 +1,14 @@
 // One step of a run on lent buffers: each kind is carried out by its function.
 ghost use mathlib.Core.Path.{_≡_};
-ghost use mathlib.Core.Bool.{true};
+ghost use mathlib.Core.Bool.{true, false};
 ghost use Prim.Native.Nat.{_+_, _*_, _≤_, _<_};
 ghost use lib.ListN.{length};
-ghost use Rattle.sets.specs.Sets.{capacity};
+ghost use Rattle.sets.specs.Sets.{capacity, inSet};
 ghost use Rattle.refusals.specs.Refusals.{codeOf};
-ghost use Rattle.table.specs.Table.{isGood};
+ghost use Rattle.table.specs.Table.{isGood, faultyOf};
 ghost use Rattle.roles.specs.Roles.{Roles};
 ghost use Rattle.commands.specs.Book.{commandsOf};
+ghost use Rattle.calm.specs.Rows.{freeBy};
 ghost use Rattle.steps.specs.Meaning.{meaning};
 ghost use Rattle.layout.specs.Layout.{siteSize};
 ghost use Rattle.deliver.specs.Delivering.{Noted};
@@ -159,7 +160,8 @@ fn act(
 fn follow(kept: &mut [u64], log: &[u8], before: usize, after: usize, table: SiteTable, rows: &[u64])
     requires { ⌜ (isGood table ≡ true) × Kept table (now rows) (now log) before (now kept) × (length (now rows) ≡ capacity)
         × ((after ≡ before → ⊥) → after ≡ before + 1)
-        × (after ≡ before + 1 → (before * entrySize + entrySize ≤ length (now log)) × (entryOf (now log) before .site < table .sites) × (entryOf (now log) before .round < keptRounds)) ⌝ }
+        × (after ≡ before + 1 → (before * entrySize + entrySize ≤ length (now log)) × (entryOf (now log) before .site < table .sites) × (entryOf (now log) before .round < keptRounds)
+        × (faultyOf table (entryOf (now log) before .site) ≡ false → freeBy (now rows) (inSet (entryOf (now log) before .nc)) ≡ true)) ⌝ }
     ensures { λ _. ⌜ Kept table (now (rows .entry)) (now (log .entry)) after (now (kept .exit)) ⌝ }
 {
     if after != before {
