@@ -13,7 +13,7 @@ use borrow.Author.Tests.{eq-eqb, ne-eqb, eqb-true}
 use Rattle.theory.specs.Sets.{pick}
 use Rattle.theory.specs.Counting.{left, right, either, true-or, not-true, not-false, known, never}
 use Rattle.sets.specs.declared.Set.{Set}
-use Rattle.sets.specs.Sets.{capacity, inSet, emptyOf, withOf, withoutOf, isEmptyOf, withinOf, firstOf}
+use Rattle.sets.specs.Sets.{capacity, inSet, emptyOf, withOf, withoutOf, isEmptyOf, withinOf, firstOf, restOf}
 use Rattle.sets.proofs.Laws.{in-empty, in-with, in-without, empty-at, within-at}
 use Rattle.register.specs.declared.Command.{Command}
 use Rattle.register.specs.declared.Command.the-variants.{Add, Fit, Read, Trim}
@@ -24,7 +24,7 @@ use Rattle.conflicts.specs.Conflicts.{anyKind, conflictIn, conflictRows, unoppo
 use Rattle.conflicts.proofs.Gathering.{bike-below}
 use Rattle.conflicts.proofs.Laws.{and-false, in-book, conflict-in-sym, conflict-in-same}
 use Rattle.calm.specs.Rows.{freeBy}
-use Rattle.calm.proofs.Laws.{less-same, less-other, between-pair, between-of, member-in}
+use Rattle.calm.proofs.Laws.{less-same, less-other, rest-told, between-pair, between-of, member-in}
 use Rattle.calm.proofs.Same.{conflict-by-rows}
 
 -- ---- tests of kinds
@@ -332,11 +332,11 @@ module _ (s : List ℕ) (set : Set) where
       pub turn-found : {b : Bool} → b ≡ inSet opposed (c .bike) → b ≡ true → false ≡ freeBy (conflictRows s) (inSet set)
       turn-found eb h = looking-found rest on adds reads m g (member .0) (member .1) w (sym test-told ∙ sym eb ∙ h)
 
-      pub turn-more : {b : Bool} {on′ adds′ reads′ none alone next : Set} → b ≡ inSet opposed (c .bike) → b ≡ false → on′ ≡ withOf on (c .bike)
+      pub turn-more : {b : Bool} {on′ adds′ reads′ next : Set} → b ≡ inSet opposed (c .bike) → b ≡ false → on′ ≡ withOf on (c .bike)
           → adds′ ≡ pick (c .add) (withOf adds (c .bike)) adds → reads′ ≡ pick (c .read) (withOf reads (c .bike)) reads
-          → none ≡ emptyOf → alone ≡ withOf none m → next ≡ withoutOf rest alone → Looking s set next on′ adds′ reads′
-      turn-more eb h eon ea er en eal ex =
-          rw (ex, eal, en, eon, ea, er, ec)
+          → next ≡ restOf rest → Looking s set next on′ adds′ reads′
+      turn-more eb h eon ea er ex =
+          rw (rest-told rest hm ex, eon, ea, er, ec)
           (looking-more rest on adds reads m g (member .0) (member .1) w (sym test-told ∙ sym eb ∙ h))
 
   -- None is left.

@@ -12,7 +12,7 @@ use Rattle.theory.specs.Sets as theory
 use Rattle.theory.specs.Sets.{one, all}
 use Rattle.theory.specs.Counting.{left, right, not-true, not-false, never, all-at, all-of}
 use Rattle.sets.specs.declared.Set.{Set}
-use Rattle.sets.specs.Sets.{capacity, inSet, emptyOf, withOf, withoutOf, commonOf, loadSet, isEmptyOf, sizeOf, firstOf}
+use Rattle.sets.specs.Sets.{capacity, inSet, emptyOf, withOf, withoutOf, commonOf, loadSet, isEmptyOf, sizeOf, firstOf, restOf}
 use Rattle.sets.proofs.Laws.{in-empty, in-with, in-without, in-common, empty-at, first-in}
 use Rattle.calm.specs.Rows.{conflictBy, freeBetween}
 use Rattle.calm.proofs.Change.{count-change}
@@ -43,6 +43,10 @@ pub less-size : (s : Set) (m : ℕ) → m < capacity → inSet s m ≡ true → 
 less-size s m l h =
     count-change capacity (inSet (withoutOf s (withOf emptyOf m))) (inSet s) m l (λ j n. less-other s m j n) (less-same s m)
     ∙ ap (λ (b : Bool). sizeOf (withoutOf s (withOf emptyOf m)) + one b) h
+
+-- The set that the code goes on with.
+pub rest-told : (s : Set) {m : ℕ} {next : Set} → m ≡ firstOf s → next ≡ restOf s → next ≡ withoutOf s (withOf emptyOf m)
+rest-told s hm hx = hx ∙ ap (λ (m : ℕ). withoutOf s (withOf emptyOf m)) (sym hm)
 
 module _ (rows : List ℕ) (x y : theory.Set) where
   -- Where one set is free beside another, two of their members do not conflict.
@@ -118,14 +122,13 @@ module _ (rows : List ℕ) (new set : Set) where
   pub member-in : (s : Set) {m : ℕ} {e : Bool} → e ≡ isEmptyOf s → not e ≡ true → m ≡ firstOf s → (m < capacity) × (inSet s m ≡ true)
   member-in s he t hm = rw hm (first-in s (sym he ∙ not-true _ t))
 
-  pub looked-turn : (s : Set) (m : ℕ) {row shared alone next none : Set} {e : Bool} → row ≡ loadSet rows m → shared ≡ commonOf row set
-      → e ≡ isEmptyOf shared → not e ≡ false → none ≡ emptyOf → alone ≡ withOf none m → next ≡ withoutOf s alone → Looked s → Looked next
-  looked-turn s m hr hs he t hn ha hx h =
-      rw (hx, ha, hn) (looked-more s m (ap isEmptyOf (sym (hs ∙ ap (λ (x : Set). commonOf x set) hr)) ∙ sym he ∙ not-false _ t) h)
+  pub looked-turn : (s : Set) (m : ℕ) {row shared next : Set} {e : Bool} → m ≡ firstOf s → row ≡ loadSet rows m → shared ≡ commonOf row set
+      → e ≡ isEmptyOf shared → not e ≡ false → next ≡ restOf s → Looked s → Looked next
+  looked-turn s m hm hr hs he t hx h =
+      rw (rest-told s hm hx) (looked-more s m (ap isEmptyOf (sym (hs ∙ ap (λ (x : Set). commonOf x set) hr)) ∙ sym he ∙ not-false _ t) h)
 
-  pub looked-less : (s : Set) {m : ℕ} {alone next none : Set} → none ≡ emptyOf → alone ≡ withOf none m → next ≡ withoutOf s alone
-      → (m < capacity) × (inSet s m ≡ true) → sizeOf next < sizeOf s
-  looked-less s {m} hn ha hx w = rw (hx, ha, hn) (omega (arith, less-size s m (w .0) (w .1)))
+  pub looked-less : (s : Set) {m : ℕ} {next : Set} → m ≡ firstOf s → next ≡ restOf s → (m < capacity) × (inSet s m ≡ true) → sizeOf next < sizeOf s
+  looked-less s {m} hm hx w = rw (rest-told s hm hx) (omega (arith, less-size s m (w .0) (w .1)))
 
   pub looked-found : (s : Set) {m : ℕ} {row shared : Set} {e : Bool} → row ≡ loadSet rows m → shared ≡ commonOf row set → e ≡ isEmptyOf shared
       → not e ≡ true → (m < capacity) × (inSet s m ≡ true) → Looked s → false ≡ freeBetween rows (inSet new) (inSet set)

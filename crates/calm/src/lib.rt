@@ -21,8 +21,7 @@ pub fn is_free_between(rows: &[u64], new: Set, set: Set) -> bool
         if !conflicting.is_empty() {
             return false;
         }
-        let looked_at = Set::empty().with(member);
-        left = left.without(looked_at);
+        left = left.rest();
     }
     true
 }
@@ -55,8 +54,7 @@ pub fn is_free_in(book: &[u8], places: &[u16], set: Set) -> bool
         on = on.with(bike);
         adds = conflicts::with_if(adds, bike, head.add);
         reads = conflicts::with_if(reads, bike, head.read);
-        let looked_at = Set::empty().with(member);
-        left = left.without(looked_at);
+        left = left.rest();
     }
     true
 }

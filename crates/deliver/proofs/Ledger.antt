@@ -13,7 +13,7 @@ use mir.Val.{SFits}
 use Rattle.wire.specs.Wire.{splice}
 use Rattle.wire.proofs.Laws.{length-splice, part-before, drop-after}
 use Rattle.sets.specs.declared.Set.{Set}
-use Rattle.sets.specs.Sets.{capacity, isEmptyOf, firstOf}
+use Rattle.sets.specs.Sets.{capacity, isEmptyOf, firstOf, restOf}
 use Rattle.register.specs.declared.Command.{Command}
 use Rattle.register.specs.Register.{Within, Valid, answer, execute}
 use Rattle.register.specs.Lent.{registerOf, Executed}
@@ -28,7 +28,7 @@ use Rattle.layout.proofs.Agree.{Agree, agree-before, agree-part, register-agree
 use Rattle.layout.proofs.Deliveries.{length-delivery, deliveries-more}
 use Rattle.layout.proofs.Tables.{executed-apart, tables-executed, tables-recorded}
 use Rattle.deliver.specs.Delivering.{Delivered, inOrder}
-use Rattle.deliver.proofs.Order.{restOf, order-none, order-first}
+use Rattle.deliver.proofs.Order.{order-none, order-first}
 
 -- What the code of deliver does, in one step.
 pub delivered-one : (book : List Command) (k m : ℕ) (b : List ℕ) {b₁ b₂ : List ℕ} {z y : ℤ} {c : Command} → length b ≡ siteSize → Within (registerOf b registerPlace)

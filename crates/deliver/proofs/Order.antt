@@ -1,7 +1,7 @@
 -- The commands of a set in number order: the least first, and then those of the rest.
 -- Assumes nothing.
 use mathlib.Core.Path.{_≡_, refl, sym, ap, _∙_}
-use mathlib.Core.Bool.{Bool, true, false, _&&_, _||_, not}
+use mathlib.Core.Bool.{Bool, true, false, _&&_, not}
 use mathlib.Core.List.{List, [], _∷_, _++_, append-nil}
 use mathlib.Core.Logic.{_⊎_, inl, inr}
 use Prim.Native.Nat.{ℕ, zero, suc, _+_, _-_, _^_, _≤_, _<_}
@@ -13,8 +13,9 @@ use Rattle.theory.specs.Sets.{pick, members}
 use Rattle.theory.specs.Counting.{known, last-or-below, lt-or-le, never}
 use Rattle.theory.specs.Members.{members-none, members-ext}
 use Rattle.sets.specs.declared.Set.{Set}
-use Rattle.sets.specs.Sets.{inSet, emptyOf, withOf, withoutOf, isEmptyOf, firstOf, withinOf}
-use Rattle.sets.proofs.Laws.{in-empty, in-with, in-without, in-above, empty-at, first-in, first-before, within-at}
+use Rattle.sets.specs.Sets.{inSet, emptyOf, withOf, isEmptyOf, firstOf, restOf, withinOf}
+use Rattle.sets.proofs.Laws.{in-above, empty-at, first-in, first-before, within-at}
+use Rattle.sets.proofs.Rest.{in-rest}
 use Rattle.layout.proofs.Tables.{within-without}
 use Rattle.deliver.specs.Delivering.{inOrder}
 
@@ -67,15 +68,6 @@ order-within x n l f w =
     outside m h (inl e) (inl k) = absurd (let q = within-at x n w m k e in omega arith)
     outside m h (inl e) (inr k) = in-above x m f k
 
--- What is left of a set without its first command.
-abbrev pub restOf : Set → Set
-restOf x = withoutOf x (withOf emptyOf (firstOf x))
-
-in-rest : (x : Set) (m j : ℕ) → inSet (withoutOf x (withOf emptyOf m)) j ≡ (inSet x j && not (eqb j m))
-in-rest x m j =
-    in-without x (withOf emptyOf m) j
-    ∙ ap (λ (b : Bool). inSet x j && not b) (in-with emptyOf m j ∙ ap (λ (b : Bool). b || eqb j m) (in-empty j))
-
 pub order-none : (x : Set) → isEmptyOf x ≡ true → inOrder x ≡ []
 order-none x e = members-none 64 (inSet x) (λ m l. empty-at x e m l)
 
@@ -83,15 +75,12 @@ pub order-first : (x : Set) → isEmptyOf x ≡ false → inOrder x ≡ firstOf 
 order-first x e =
     let f = first-in x e in
     members-first 64 (inSet x) (firstOf x) (f .0) (f .1) (λ j l. first-before x j l)
-    ∙ ap (λ (l : List ℕ). firstOf x ∷ l) (members-ext 64 (λ j. inSet x j && not (eqb j (firstOf x))) (inSet (restOf x)) (λ j l. sym (in-rest x (firstOf x) j)))
+    ∙ ap (λ (l : List ℕ). firstOf x ∷ l) (members-ext 64 (λ j. inSet x j && not (eqb j (firstOf x))) (inSet (restOf x)) (λ j l. sym (in-rest x j)))
 
 pub first-within : (x : Set) (n : ℕ) → isEmptyOf x ≡ false → withinOf x n ≡ true → firstOf x < n
 first-within x n e w = let f = first-in x e in within-at x n w (firstOf x) (f .0) (f .1)
 
--- What the code makes of the rest.
-pub rest-is : (x : Set) {e w y : Set} {m : ℕ} → e ≡ emptyOf → w ≡ withOf e m → m ≡ firstOf x → y ≡ withoutOf x w → y ≡ restOf x
-rest-is x ee ew em ey = ey ∙ ap (withoutOf x) (ew ∙ (λ i. withOf (ee i) (em i)))
-
+-- What is left of a set without its first command.
 pub rest-within : (x : Set) (n : ℕ) {y : Set} → withinOf x n ≡ true → y ≡ restOf x → withinOf y n ≡ true
 rest-within x n w e = ap (λ (y : Set). withinOf y n) e ∙ within-without x (withOf emptyOf (firstOf x)) n w
 

@@ -30,12 +30,12 @@ pub fn deliver_all(site: &mut [u8], book: &[u8], places: &[u16], k: usize, set: 
         × (withinOf set (length (commandsOf (now book))) ≡ true) × (k + length (inOrder set) ≤ capacity) ⌝ }
     ensures { λ r. ⌜ (r ≡ k + length (inOrder set)) × Delivered (commandsOf (now (book .entry))) k (inOrder set) (now (site .entry)) (now (site .exit)) ⌝ }
 {
-    let mut rest = set;
+    let mut left = set;
     let mut n = k;
-    while !rest.is_empty() {
-        let m = rest.first();
+    while !left.is_empty() {
+        let m = left.first();
         deliver(site, book, places, n, m);
-        rest = rest.without(Set::empty().with(m));
+        left = left.rest();
         n += 1;
     }
     n

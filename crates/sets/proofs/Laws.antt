@@ -29,7 +29,7 @@ use Rattle.wire.proofs.Laws.{length-bytes, length-splice, read-same, read-befor
 
 -- ---- the digits of a word
 
-has-zero : (n : ℕ) → has n 0 ≡ eqb (n % 2) 1
+pub has-zero : (n : ℕ) → has n 0 ≡ eqb (n % 2) 1
 unfolding has
 has-zero n = ap (λ (x : ℕ). eqb (x % 2) 1) (div-one n)
 
@@ -37,7 +37,7 @@ pub has-shr : (n k m : ℕ) → has (n / 2 ^ k) m ≡ has n (k + m)
 unfolding has
 has-shr n k m = ap (λ (x : ℕ). eqb (x % 2) 1) (shr-shr n k m)
 
-has-suc : (n m : ℕ) → has n (suc m) ≡ has (n / 2) m
+pub has-suc : (n m : ℕ) → has n (suc m) ≡ has (n / 2) m
 has-suc n m = sym (has-shr n 1 m ∙ ap (λ (x : ℕ). has n x) (one-add m))
 
 or-digit : (x y : ℕ) → x < 2 → y < 2 → eqb (max x y) 1 ≡ (eqb x 1 || eqb y 1)
@@ -126,7 +126,7 @@ has-single (suc m) (suc j) =
     has-suc (2 ^ suc m) j ∙ ap (λ (x : ℕ). has (x / 2) j) (pow-suc 2 m)
     ∙ ap (λ (x : ℕ). has x j) (mul-div-cancel (2 ^ m) (lit< tt)) ∙ has-single m j ∙ sym (eqb·suc-suc j m)
 
-half-lt : (k n : ℕ) → n < 2 ^ suc k → n / 2 < 2 ^ k
+pub half-lt : (k n : ℕ) → n < 2 ^ suc k → n / 2 < 2 ^ k
 half-lt k n h = shr-lt k 1 (rw add-one h)
 
 low-digit : (a b : ℕ) → a < 2 → b < 2 → eqb a 1 ≡ eqb b 1 → a ≡ b

@@ -80,6 +80,10 @@ sizeOf s = count capacity (inSet s)
 abbrev pub firstOf : Set → ℕ
 firstOf s = least capacity (inSet s)
 
+-- The set without its least command.
+abbrev pub restOf : Set → Set
+restOf s = withoutOf s (withOf emptyOf (firstOf s))
+
 -- The bytes of a set.
 abbrev pub setBytes : ℕ
 setBytes = 8

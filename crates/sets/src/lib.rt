@@ -1,9 +1,10 @@
 // Sets of command numbers: command m is in a set where bit m of its word is set.
+ghost use mathlib.Core.Bool.{false};
 ghost use mathlib.Core.Path.{_≡_};
 ghost use Prim.Native.Nat.{_+_, _≤_, _<_};
 ghost use lib.ListN.{length};
 ghost use Rattle.sets.specs.Sets.{capacity, inSet, emptyOf, withOf, unionOf, withoutOf, commonOf};
-ghost use Rattle.sets.specs.Sets.{beyondOf, isEmptyOf, withinOf, equalOf, sizeOf, firstOf, setBytes, readSet, writeSet, loadSet, storeSet};
+ghost use Rattle.sets.specs.Sets.{beyondOf, isEmptyOf, withinOf, equalOf, sizeOf, firstOf, restOf, setBytes, readSet, writeSet, loadSet, storeSet};
 
 // A set of command numbers below 64.
 pub struct Set {
@@ -127,6 +128,16 @@ impl Set {
     {
         let zeros = u64::trailing_zeros(self.bits);
         zeros as usize
+    }
+
+    // The set without its least command. A word and the word before it differ in the word's lowest bit and those below, where they have none in common.
+    pub fn rest(self) -> Set
+        requires { ⌜ isEmptyOf self ≡ false ⌝ }
+        ensures { λ r. ⌜ r ≡ restOf self ⌝ }
+    {
+        Set {
+            bits: self.bits & (self.bits - 1),
+        }
     }
 
     // The set that stands in 8 bytes at a position, least significant byte first.

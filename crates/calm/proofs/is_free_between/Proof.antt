@@ -1,8 +1,10 @@
 -- `is_free_between` meets its contract: the members that are no longer left have none of the other set in their rows; one fewer is left at each turn.
 -- Assumes nothing.
 use borrow.Author.Needs.{needs}
+use mathlib.Core.Path.{sym, _∙_}
 use denote.Ref.{now}
 use native.Mathlib.Omega.{arith}
+use Rattle.theory.specs.Counting.{not-true}
 use Rattle.sets.specs.Sets.{sizeOf}
 use Rattle.calm.proofs.Laws.{Looked, looked-none, member-in, looked-found, looked-less, looked-turn, looked-end}
 use Rattle.calm.proofs.is_free_between.Statement.{statement}
@@ -39,28 +41,22 @@ returns c =
     looked-found (now (a .rows)) (a .new) (a .set) (s .left) (c .before .before .before .load .ensures) (c .before .before .common .ensures) (c .before .is-empty2 .ensures) (c .if2 .taken)
     (member-in (now (a .rows)) (a .new) (a .set) (s .left) (c .before .before .before .before .before .before .is-empty .ensures) (c .before .before .before .before .before .if1 .taken) (c .before .before .before .before .first .ensures)) (s .inv)
 
-empty-requires : tie.Need-empty-requires Inv-loop μ-loop
-empty-requires c κs = search needs
-
-with-requires : tie.Need-with-requires Inv-loop μ-loop
-with-requires c κs = omega (arith, member-in (now (c .before .before .before .before .before .before .before .before .before .before .args .rows)) (c .before .before .before .before .before .before .before .before .before .before .args .new) (c .before .before .before .before .before .before .before .before .before .before .args .set) (c .before .before .before .before .before .before .before .before .loop .left) (c .before .before .before .before .before .before .before .is-empty .ensures) (c .before .before .before .before .before .before .if1 .taken) (c .before .before .before .before .before .first .ensures))
-
-without-requires : tie.Need-without-requires Inv-loop μ-loop
-without-requires c κs = search needs
+rest-requires : tie.Need-rest-requires Inv-loop μ-loop
+rest-requires c κs = sym (c .before .before .before .before .before .before .is-empty .ensures) ∙ not-true _ (c .before .before .before .before .before .if1 .taken)
 
 loop-less : tie.Need-loop-less Inv-loop μ-loop
 loop-less c =
-    let a = c .before .before .before .before .before .before .before .before .before .before .before .before .args in
-    let s = c .before .before .before .before .before .before .before .before .before .before .loop in
-    looked-less (now (a .rows)) (a .new) (a .set) (s .left) (c .before .before .empty .ensures) (c .before .with .ensures) (c .without .ensures)
-    (member-in (now (a .rows)) (a .new) (a .set) (s .left) (c .before .before .before .before .before .before .before .before .before .is-empty .ensures) (c .before .before .before .before .before .before .before .before .if1 .taken) (c .before .before .before .before .before .before .before .first .ensures))
+    let a = c .before .before .before .before .before .before .before .before .before .before .args in
+    let s = c .before .before .before .before .before .before .before .before .loop in
+    looked-less (now (a .rows)) (a .new) (a .set) (s .left) (c .before .before .before .before .before .first .ensures) (c .rest .ensures)
+    (member-in (now (a .rows)) (a .new) (a .set) (s .left) (c .before .before .before .before .before .before .before .is-empty .ensures) (c .before .before .before .before .before .before .if1 .taken) (c .before .before .before .before .before .first .ensures))
 
 loop-again : tie.Need-loop-again Inv-loop μ-loop
 loop-again c =
-    let a = c .before .before .before .before .before .before .before .before .before .before .before .before .args in
-    let s = c .before .before .before .before .before .before .before .before .before .before .loop in
-    looked-turn (now (a .rows)) (a .new) (a .set) (s .left) (c .before .before .before .before .before .before .before .first .result) (c .before .before .before .before .before .before .load .ensures) (c .before .before .before .before .before .common .ensures) (c .before .before .before .before .is-empty2 .ensures) (c .before .before .before .if2 .left)
-    (c .before .before .empty .ensures) (c .before .with .ensures) (c .without .ensures) (s .inv)
+    let a = c .before .before .before .before .before .before .before .before .before .before .args in
+    let s = c .before .before .before .before .before .before .before .before .loop in
+    looked-turn (now (a .rows)) (a .new) (a .set) (s .left) (c .before .before .before .before .before .first .result) (c .before .before .before .before .before .first .ensures) (c .before .before .before .before .load .ensures) (c .before .before .before .common .ensures) (c .before .before .is-empty2 .ensures) (c .before .if2 .left)
+    (c .rest .ensures) (s .inv)
 
 returns-2 : tie.Need-returns-2 Inv-loop μ-loop
 returns-2 c = let a = c .before .before .before .before .args in let s = c .before .before .loop in looked-end (now (a .rows)) (a .new) (a .set) (s .left) (c .before .is-empty .ensures) (c .if1 .left) (s .inv)
@@ -78,9 +74,7 @@ is-free-between-spec =
     common-requires
     is-empty-requires-2
     returns
-    empty-requires
-    with-requires
-    without-requires
+    rest-requires
     loop-less
     loop-again
     returns-2)

@@ -1,7 +1,9 @@
 -- `is_free_in` meets its contract: no two of the members passed conflict, and their bikes are known; one fewer is left at each turn.
 -- Assumes nothing.
+use mathlib.Core.Path.{sym, _∙_}
 use borrow.Author.Needs.{needs}
 use denote.Ref.{now}
+use Rattle.theory.specs.Counting.{not-true}
 use Rattle.sets.specs.Sets.{sizeOf}
 use Rattle.calm.proofs.Laws.{looked-less}
 use Rattle.calm.proofs.Bikes.{Looking, looking-none, bike-wide, member, turn-below, turn-found, turn-more, looking-end}
@@ -74,31 +76,22 @@ with-if-requires-2 c κs =
     let l = c .before .before .before .before .before .before .before .before .before .before .before .loop in
     bike-wide (now (a .book)) (turn-below (now (a .book)) (a .set) (l .left) (l .on) (l .adds) (l .reads) (l .inv) (c .before .before .before .before .before .before .before .before .before .before .before .before .before .before .before .before .before .pre .1) (c .before .before .before .before .before .before .before .before .before .before .is-empty .ensures) (c .before .before .before .before .before .before .before .before .before .if1 .taken) (c .before .before .before .before .before .before .before .before .first .ensures)) (c .before .before .before .before .before .before .before .head-at .ensures)
 
-empty-requires-4 : tie.Need-empty-requires-4 Inv-loop μ-loop
-empty-requires-4 c κs = search needs
-
-with-requires-2 : tie.Need-with-requires-2 Inv-loop μ-loop
-with-requires-2 c κs =
-    let a = c .before .before .before .before .before .before .before .before .before .before .before .before .before .before .before .before .before .before .before .args in
-    let l = c .before .before .before .before .before .before .before .before .before .before .before .before .before .loop in
-    (member (now (a .book)) (a .set) (l .left) (l .on) (l .adds) (l .reads) (l .inv) (c .before .before .before .before .before .before .before .before .before .before .before .before .before .before .before .before .before .before .before .pre .1) (c .before .before .before .before .before .before .before .before .before .before .before .before .is-empty .ensures) (c .before .before .before .before .before .before .before .before .before .before .before .if1 .taken) (c .before .before .before .before .before .before .before .before .before .before .first .ensures)) .0
-
-without-requires-2 : tie.Need-without-requires-2 Inv-loop μ-loop
-without-requires-2 c κs = search needs
+rest-requires : tie.Need-rest-requires Inv-loop μ-loop
+rest-requires c κs = sym (c .before .before .before .before .before .before .before .before .before .before .before .is-empty .ensures) ∙ not-true _ (c .before .before .before .before .before .before .before .before .before .before .if1 .taken)
 
 loop-less : tie.Need-loop-less Inv-loop μ-loop
 loop-less c =
-    let a = c .before .before .before .before .before .before .before .before .before .before .before .before .before .before .before .before .before .before .before .before .before .args in
-    let l = c .before .before .before .before .before .before .before .before .before .before .before .before .before .before .before .loop in
-    looked-less (now (a .places)) (a .set) (a .set) (l .left) (c .before .before .empty4 .ensures) (c .before .with2 .ensures) (c .without2 .ensures)
-    (member (now (a .book)) (a .set) (l .left) (l .on) (l .adds) (l .reads) (l .inv) (c .before .before .before .before .before .before .before .before .before .before .before .before .before .before .before .before .before .before .before .before .before .pre .1) (c .before .before .before .before .before .before .before .before .before .before .before .before .before .before .is-empty .ensures) (c .before .before .before .before .before .before .before .before .before .before .before .before .before .if1 .taken) (c .before .before .before .before .before .before .before .before .before .before .before .before .first .ensures))
+    let a = c .before .before .before .before .before .before .before .before .before .before .before .before .before .before .before .before .before .before .before .args in
+    let l = c .before .before .before .before .before .before .before .before .before .before .before .before .before .loop in
+    looked-less (now (a .places)) (a .set) (a .set) (l .left) (c .before .before .before .before .before .before .before .before .before .before .first .ensures) (c .rest .ensures)
+    (member (now (a .book)) (a .set) (l .left) (l .on) (l .adds) (l .reads) (l .inv) (c .before .before .before .before .before .before .before .before .before .before .before .before .before .before .before .before .before .before .before .pre .1) (c .before .before .before .before .before .before .before .before .before .before .before .before .is-empty .ensures) (c .before .before .before .before .before .before .before .before .before .before .before .if1 .taken) (c .before .before .before .before .before .before .before .before .before .before .first .ensures))
 
 loop-again : tie.Need-loop-again Inv-loop μ-loop
 loop-again c =
-    let a = c .before .before .before .before .before .before .before .before .before .before .before .before .before .before .before .before .before .before .before .before .before .args in
-    let l = c .before .before .before .before .before .before .before .before .before .before .before .before .before .before .before .loop in
-    turn-more (now (a .book)) (a .set) (l .left) (l .on) (l .adds) (l .reads) (l .inv) (c .before .before .before .before .before .before .before .before .before .before .before .before .before .before .before .before .before .before .before .before .before .pre .1) (c .before .before .before .before .before .before .before .before .before .before .before .before .before .before .is-empty .ensures) (c .before .before .before .before .before .before .before .before .before .before .before .before .before .if1 .taken) (c .before .before .before .before .before .before .before .before .before .before .before .before .first .ensures) (c .before .before .before .before .before .before .before .before .before .before .before .head-at .ensures) (c .before .before .before .before .before .before .before .before .before .unopposed .ensures) (c .before .before .before .before .before .before .before .before .without .ensures) (c .before .before .before .before .before .before .before .has .ensures) (c .before .before .before .before .before .before .if2 .left)
-    (c .before .before .before .before .before .with .ensures) (c .before .before .before .before .with-if .ensures) (c .before .before .before .with-if2 .ensures) (c .before .before .empty4 .ensures) (c .before .with2 .ensures) (c .without2 .ensures)
+    let a = c .before .before .before .before .before .before .before .before .before .before .before .before .before .before .before .before .before .before .before .args in
+    let l = c .before .before .before .before .before .before .before .before .before .before .before .before .before .loop in
+    turn-more (now (a .book)) (a .set) (l .left) (l .on) (l .adds) (l .reads) (l .inv) (c .before .before .before .before .before .before .before .before .before .before .before .before .before .before .before .before .before .before .before .pre .1) (c .before .before .before .before .before .before .before .before .before .before .before .before .is-empty .ensures) (c .before .before .before .before .before .before .before .before .before .before .before .if1 .taken) (c .before .before .before .before .before .before .before .before .before .before .first .ensures) (c .before .before .before .before .before .before .before .before .before .head-at .ensures) (c .before .before .before .before .before .before .before .unopposed .ensures) (c .before .before .before .before .before .before .without .ensures) (c .before .before .before .before .before .has .ensures) (c .before .before .before .before .if2 .left)
+    (c .before .before .before .with .ensures) (c .before .before .with-if .ensures) (c .before .with-if2 .ensures) (c .rest .ensures)
 
 returns-2 : tie.Need-returns-2 Inv-loop μ-loop
 returns-2 c = let a = c .before .before .before .before .before .before .before .before .args in let l = c .before .before .loop in looking-end (now (a .book)) (a .set) (l .left) (c .before .is-empty .ensures) (c .if1 .left) (l .inv)
@@ -124,9 +117,7 @@ is-free-in-spec =
     with-requires
     with-if-requires
     with-if-requires-2
-    empty-requires-4
-    with-requires-2
-    without-requires-2
+    rest-requires
     loop-less
     loop-again
     returns-2)

@@ -4,30 +4,27 @@ use mathlib.Core.Path.{_≡_, refl, sym, ap, subst, _∙_}
 use mathlib.Core.List.{List}
 use mathlib.Core.Bool.{true}
 use Prim.Native.Nat.{ℕ, _+_, _<_}
-use Prim.Native.Nat.{ℕ, _+_}
 use native.Mathlib.Omega.{arith}
 use borrow.Author.Needs.{needs}
 use borrow.Author.Tests.{not-true, not-false}
 use denote.Ref.{now}
 use lib.ListN.{length}
-use Rattle.sets.specs.Sets.{withinOf}
-use Rattle.sets.proofs.Laws.{first-in}
+use Rattle.sets.specs.Sets.{restOf, withinOf}
 use Rattle.register.specs.Register.{Within}
 use Rattle.register.specs.Lent.{registerOf}
 use Rattle.commands.specs.Book.{commandsOf}
 use Rattle.layout.specs.Layout.{siteSize, registerPlace}
-use Rattle.deliver.proofs.Order.{rest-is, rest-within, rest-shorter, first-within, restOf, order-none}
+use Rattle.deliver.proofs.Order.{order-none, first-within, rest-within, rest-shorter}
 use Rattle.deliver.proofs.Ledger.{all-more, all-done}
-use Rattle.deliver.proofs.Order.{rest-is, rest-within, rest-shorter, first-within, restOf}
 use Rattle.deliver.specs.Delivering.{Delivered, inOrder}
 use Rattle.deliver.proofs.deliver_all.Statement.{statement}
 use Rattle.deliver.proofs.deliver_all.Tie as tie
 
 abbrev Inv-loop : tie.InvT-loop
-Inv-loop site₀ book places k rest₀ n₀ site rest n = (length site ≡ siteSize) × Within (registerOf site registerPlace) × (withinOf rest (length (commandsOf book)) ≡ true) × (n + length (inOrder rest) ≡ k + length (inOrder rest₀)) × ((b : List ℕ) → Delivered (commandsOf book) n (inOrder rest) site b → Delivered (commandsOf book) k (inOrder rest₀) site₀ b)
+Inv-loop site₀ book places k left₀ n₀ site left n = (length site ≡ siteSize) × Within (registerOf site registerPlace) × (withinOf left (length (commandsOf book)) ≡ true) × (n + length (inOrder left) ≡ k + length (inOrder left₀)) × ((b : List ℕ) → Delivered (commandsOf book) n (inOrder left) site b → Delivered (commandsOf book) k (inOrder left₀) site₀ b)
 
 abbrev μ-loop : tie.MeasureT-loop
-μ-loop site₀ book places k rest₀ n₀ site rest n = length (inOrder rest)
+μ-loop site₀ book places k left₀ n₀ site left n = length (inOrder left)
 
 loop-holds : tie.Need-loop-holds Inv-loop μ-loop
 loop-holds c = let s = c .before .before .before in (s .pre .0, s .pre .1, s .pre .3, refl, λ b d. d)
@@ -40,7 +37,7 @@ first-requires c κs = search needs
 
 deliver-requires : tie.Need-deliver-requires Inv-loop μ-loop
 deliver-requires c κs =
-    let x = c .before .before .before .before .loop .rest in
+    let x = c .before .before .before .before .loop .left in
     let e = sym (c .before .before .before .is-empty .ensures) ∙ not-true _ (c .before .before .if1 .taken) in
     let l = c .before .before .before .before .loop in
     let s = c .before .before .before .before .before .before .before .before in
@@ -54,55 +51,42 @@ deliver-requires c κs =
       omega arith,
     )
 
-empty-requires : tie.Need-empty-requires Inv-loop μ-loop
-empty-requires c κs = search needs
-
-with-requires : tie.Need-with-requires Inv-loop μ-loop
-with-requires c κs =
-    let x = c .before .before .before .before .before .before .before .before .loop .rest in
-    let e = sym (c .before .before .before .before .before .before .before .is-empty .ensures) ∙ not-true _
-    (c .before .before .before .before .before .before .if1 .taken) in
-    subst (λ (m : ℕ). m < 64) (sym (c .before .before .before .before .before .first .ensures)) (first-in x e .0)
-
-without-requires : tie.Need-without-requires Inv-loop μ-loop
-without-requires c κs = search needs
+rest-requires : tie.Need-rest-requires Inv-loop μ-loop
+rest-requires c κs = sym (c .before .before .before .before .before .before .is-empty .ensures) ∙ not-true _ (c .before .before .before .before .before .if1 .taken)
 
 add-n : tie.Need-add-n Inv-loop μ-loop
 add-n c =
-    let x = c .before .before .before .before .before .before .before .before .before .before .loop .rest in
-    let e = sym (c .before .before .before .before .before .before .before .before .before .is-empty .ensures) ∙ not-true _
-    (c .before .before .before .before .before .before .before .before .if1 .taken) in
+    let x = c .before .before .before .before .before .before .before .before .loop .left in
+    let e = sym (c .before .before .before .before .before .before .before .is-empty .ensures) ∙ not-true _
+    (c .before .before .before .before .before .before .if1 .taken) in
     let q = rest-shorter x {y = restOf x} e refl in
-    let i = c .before .before .before .before .before .before .before .before .before .before .loop .inv .3 in
-    let p = c .before .before .before .before .before .before .before .before .before .before .before .before .before .before .pre .4 in
+    let i = c .before .before .before .before .before .before .before .before .loop .inv .3 in
+    let p = c .before .before .before .before .before .before .before .before .before .before .before .before .pre .4 in
     record { fits = omega arith }
 
 loop-less : tie.Need-loop-less Inv-loop μ-loop
 loop-less c =
-    let x = c .before .before .before .before .before .before .before .before .before .before .loop .rest in
-    let e = sym (c .before .before .before .before .before .before .before .before .before .is-empty .ensures) ∙ not-true _
-    (c .before .before .before .before .before .before .before .before .if1 .taken) in
-    let q = rest-shorter x e
-    (rest-is x (c .before .before .empty .ensures) (c .before .with .ensures) (c .before .before .before .before .before .before .before .first .ensures) (c .without .ensures))
-    in
+    let x = c .before .before .before .before .before .before .before .before .loop .left in
+    let e = sym (c .before .before .before .before .before .before .before .is-empty .ensures) ∙ not-true _
+    (c .before .before .before .before .before .before .if1 .taken) in
+    let q = rest-shorter x e (c .rest .ensures) in
     omega arith
 
 loop-again : tie.Need-loop-again Inv-loop μ-loop
 loop-again c =
-    let x = c .before .before .before .before .before .before .before .before .before .before .loop .rest in
-    let e = sym (c .before .before .before .before .before .before .before .before .before .is-empty .ensures) ∙ not-true _
-    (c .before .before .before .before .before .before .before .before .if1 .taken) in
-    let l = c .before .before .before .before .before .before .before .before .before .before .loop in
-    let y = rest-is x (c .before .before .empty .ensures) (c .before .with .ensures) (c .before .before .before .before .before .before .before .first .ensures)
-    (c .without .ensures) in
+    let x = c .before .before .before .before .before .before .before .before .loop .left in
+    let e = sym (c .before .before .before .before .before .before .before .is-empty .ensures) ∙ not-true _
+    (c .before .before .before .before .before .before .if1 .taken) in
+    let l = c .before .before .before .before .before .before .before .before .loop in
+    let y = c .rest .ensures in
     let q = rest-shorter x e y in
     let i = l .inv .3 in
-    let d = c .before .before .before .before .before .deliver .ensures in (
+    let d = c .before .before .before .deliver .ensures in (
       d .size,
       d .readings,
       rest-within x _ (l .inv .2) y,
       omega arith,
-      λ b r. l .inv .4 b (all-more _ (l .n) x e (c .before .before .before .before .before .before .before .first .ensures) y d r),
+      λ b r. l .inv .4 b (all-more _ (l .n) x e (c .before .before .before .before .before .first .ensures) y d r),
     )
 
 same-length : tie.Need-same-length Inv-loop μ-loop
@@ -112,9 +96,9 @@ returns : tie.Need-returns Inv-loop μ-loop
 returns c =
     let l = c .before .before .loop in
     let e = sym (c .before .is-empty .ensures) ∙ not-false _ (c .if1 .left) in
-    let z : length (inOrder (l .rest)) ≡ 0 = ap length (order-none (l .rest) e) in
+    let z : length (inOrder (l .left)) ≡ 0 = ap length (order-none (l .left) e) in
     let i = l .inv .3 in
-    (omega arith, l .inv .4 _ (all-done _ (l .n) (l .rest) e (l .inv .0) (l .inv .1)))
+    (omega arith, l .inv .4 _ (all-done _ (l .n) (l .left) e (l .inv .0) (l .inv .1)))
 
 pub deliver-all-spec : {M : Type 1} → statement M
 deliver-all-spec =
@@ -126,9 +110,7 @@ deliver-all-spec =
     is-empty-requires
     first-requires
     deliver-requires
-    empty-requires
-    with-requires
-    without-requires
+    rest-requires
     add-n
     loop-less
     loop-again
