@@ -53,13 +53,16 @@ trim-of (suc (suc (suc (suc (suc n))))) s x y z w = absurd (not-whole w)
 
 -- ---- at the place of the k-th command
 
-read-drop : (n : ℕ) (s : List ℕ) (at k : ℕ) → readLe n (drop at s) k ≡ readLe n s (at + k)
+pub first-drop : (s : List ℕ) (at : ℕ) → getD (drop at s) 0 0 ≡ getD s at 0
+first-drop s at = let z : at + 0 ≡ at = omega arith in getD-drop at s 0 0 ∙ ap (λ (n : ℕ). getD s n 0) z
+
+pub read-drop : (n : ℕ) (s : List ℕ) (at k : ℕ) → readLe n (drop at s) k ≡ readLe n s (at + k)
 unfolding readLe
 read-drop n s at k = ap (λ (l : List ℕ). value (take n l)) (drop-drop k at s)
 
 module _ (s p : List ℕ) (k : ℕ) (h : k < length (commandsOf s)) (e : take (length (commandsOf s)) p ≡ placesOf s) {at : ℕ} (q : at ≡ getD p k 0) where
   first : getD (drop at s) 0 0 ≡ getD s at 0
-  first = let z : at + 0 ≡ at = omega arith in getD-drop at s 0 0 ∙ ap (λ (n : ℕ). getD s n 0) z
+  first = first-drop s at
 
   second : getD (drop at s) 1 0 ≡ getD s (at + 1) 0
   second = getD-drop at s 1 0

@@ -1,7 +1,7 @@
 -- Laws of a walk that judges a book: it goes by sizes, and looks at all bikes together and at the count at its end.
 -- Assumes nothing.
 use mathlib.Core.Bool.{Bool, true, false, _&&_, _||_}
-use mathlib.Core.Path.{_≡_, refl, sym, ap, _∙_}
+use mathlib.Core.Path.{_≡_, refl, sym, ap, subst, _∙_}
 use mathlib.Core.List.{List}
 use mathlib.Core.Logic.{⊎-elim}
 use Prim.Native.Nat.{ℕ, zero, suc, _+_, _-_, _≤_, _<_}
@@ -21,6 +21,7 @@ use Rattle.commands.specs.declared.Reading.the-variants.{Whole, Bad}
 use Rattle.commands.specs.declared.Measured.{Measured}
 use Rattle.commands.specs.declared.Measured.the-variants.{Commands, Unreadable}
 use Rattle.commands.specs.Book.{maxCommands, sizeOf, given, readKind, readCommand, readUpTo, countFrom, measureBook, shortSize, sizeRead, walkSize}
+use Rattle.commands.proofs.Decoding.{first-drop, read-drop}
 use Rattle.commands.proofs.Walk.{size-small, measure-all, measure-end, measure-full, measure-bad, measure-more}
 
 given-bad : (t : Bool) → given t Bad ≡ Bad
@@ -114,6 +115,28 @@ module _ (s : List ℕ) where
   unfolding walkSize
   last-whole h l = last-whole-of (getD s 0 0) s h l
 
+-- The code's ways to the position after a command, where there are bytes enough for any.
+module _ (s : List ℕ) (at : ℕ) (h : at + 10 ≤ length s) where
+  room : 10 ≤ length (drop at s)
+  room = omega (arith, length-drop at s)
+
+  pub after-short : {z : ℕ} → z ≡ shortSize (getD s at 0) → (z ≡ 0 → ⊥) → at + z ≡ at + walkSize (drop at s)
+  after-short e n =
+      let q = e ∙ ap shortSize (sym (first-drop s at)) in
+      ap (λ (m : ℕ). at + m) (q ∙ long-short (drop at s) room (λ w. n (q ∙ w)))
+
+  module _ {start : ℕ} (e : start ≡ readLe 4 s (at + 6)) {t : Bool} (w : (eqb (getD s at 0) 2 && leb start maxReading) ≡ t) where
+    fit-here : (eqb (getD (drop at s) 0 0) 2 && leb (readLe 4 (drop at s) 6) maxReading) ≡ t
+    fit-here = (λ i. eqb (first-drop s at i) 2 && leb ((read-drop 4 s at 6 ∙ sym e) i) maxReading) ∙ w
+
+    pub after-fit : t ≡ true → at + 10 ≡ at + walkSize (drop at s)
+    after-fit g = ap (λ (m : ℕ). at + m) (long-fit (drop at s) room (fit-here ∙ g))
+
+    pub after-none : (eqb (getD s at 0) 1 || eqb (getD s at 0) 4) ≡ false → (getD s at 0 ≡ 3 → ⊥) → t ≡ false → at ≡ at + walkSize (drop at s)
+    after-none a b g =
+        let z = short-none (getD s at 0) a b ∙ ap shortSize (sym (first-drop s at)) ∙ long-other (drop at s) room (fit-here ∙ g) in
+        omega (arith, z)
+
 -- The code asks for the size at the front of the part from a position on.
 pub size-at : (s : List ℕ) (at : ℕ) {z : ℕ} → z ≡ walkSize (take (length s - at) (drop at s)) → z ≡ walkSize (drop at s)
 size-at s at e = e ∙ ap walkSize (part-all s at)
@@ -145,6 +168,10 @@ unfolding walkSize
 walk-inside s at h e n =
     let b = read-small (given (leb 2 (length (drop at s))) (readKind (getD (drop at s) 0 0) (drop at s))) (omega arith) in
     (omega (arith, walk-fits (drop at s), length-drop at s), omega (arith, b .0), omega (arith, b .1))
+
+-- The same of the position after a command.
+pub next-inside : (s : List ℕ) (at : ℕ) {next : ℕ} → at < length s → next ≡ at + walkSize (drop at s) → (next ≡ at → ⊥) → (next ≤ length s) × (at + 2 ≤ next)
+next-inside s at h e n = let i = walk-inside s at h refl (λ z. n (omega arith)) in (omega (arith, i .0), omega (arith, i .1))
 
 -- What a size and the bike tell of the reading.
 record Sized (s : List ℕ) (z : ℕ) : Type 0 where
@@ -256,3 +283,11 @@ module _ (s : List ℕ) (k at b : ℕ) (w : Measuring s k at b) where
             let c = sized (drop at s) e n (omega (arith, y)) in
             rw (lt-ltb (bitOr b x) bikes (or-lt 5 b x i j), le-leb (k + 1) maxCommands (omega arith))
             (measure-more s k at h g (c .read) (c .size) (told true (rw p (le-leb k maxCommands (omega arith)))))
+
+  -- The code's position after the next command.
+  module _ {next : ℕ} (h : at < length s) (e : next ≡ at + walkSize (drop at s)) where
+    pub measured-none : next ≡ at → Unreadable ≡ measureBook s
+    measured-none n = measured-bad h refl (omega arith)
+
+    pub measured-next : (next ≡ at → ⊥) → Measuring s (k + 1) next (bitOr b (getD s (at + 1) 0))
+    measured-next n = subst (λ (p : ℕ). Measuring s (k + 1) p (bitOr b (getD s (at + 1) 0))) (sym e) (measured-more h refl (λ z. n (omega arith)))

@@ -1,10 +1,13 @@
 // Bytes to commands and back: the book of document 01, judged, read, found again by place, and written.
+ghost use mathlib.Core.Bool.{_&&_};
 ghost use mathlib.Core.Path.{_≡_};
 ghost use Prim.Native.Nat.{_+_, _-_, _≤_, _<_};
 ghost use mathlib.Core.List.{_∷_, []};
-ghost use lib.ListN.{length, take};
+ghost use lib.Dec.{eqb, leb};
+ghost use lib.ListN.{length, take, drop};
 ghost use lib.Seq.{sets};
 ghost use Rattle.wire.specs.Wire.{splice};
+ghost use Rattle.register.specs.Register.{maxReading};
 ghost use Rattle.commands.specs.Book.{sizeOf, readCommand, shortSize, walkSize, measureBook, commandsOf, commandOf, placesOf, walkedPlaces, kindOf, headOf, encodeCommand, encodeBook};
 use register::Bike;
 use register::Command;
@@ -104,8 +107,14 @@ fn short_size(kind: u8) -> usize
     0
 }
 
+// Whether a command of a kind is a FIT, with a start in range: a test of both at once, which keeps the kinds from becoming a table of jumps.
+fn is_fit(kind: u8, start: u32) -> bool
+    ensures { λ r. ⌜ r ≡ (eqb kind 2 && leb start maxReading) ⌝ }
+{
+    (kind == 2) & (start <= Bike::MAX_READING)
+}
+
 // The bytes of the command at the front of bytes enough for any, whatever its bike; 0 where there is none.
-// The start is read for every kind: a test of both at once keeps the kinds from becoming a table of jumps.
 // The kinds without a start are told first: one jump taken for each command of a walk.
 fn long_size(bytes: &[u8]) -> usize
     requires { ⌜ 10 ≤ length (now bytes) ⌝ }
@@ -117,7 +126,7 @@ fn long_size(bytes: &[u8]) -> usize
     if size != 0 {
         return size;
     }
-    if (kind == 2) & (start <= Bike::MAX_READING) {
+    if is_fit(kind, start) {
         return LONGEST;
     }
     0
@@ -188,6 +197,26 @@ pub fn note(book: &[u8], places: &mut [u16]) -> Measured
     Measured::Commands(k)
 }
 
+// The position after a command with bytes enough for any, whatever its bike; its own position where there is none.
+// A position is answered and no size, so that each kind has its own way on: a walk takes a sixth less time.
+fn after(book: &[u8], at: usize) -> usize
+    requires { ⌜ at + 10 ≤ length (now book) ⌝ }
+    ensures { λ r. ⌜ r ≡ at + walkSize (drop at (now (book .entry))) ⌝ }
+{
+    let kind = book[at];
+    let start = wire::get4(book, at + 6);
+    if (kind == 1) | (kind == 4) {
+        return at + 4;
+    }
+    if kind == 3 {
+        return at + 2;
+    }
+    if is_fit(kind, start) {
+        return at + LONGEST;
+    }
+    at
+}
+
 // How many commands a book has; Unreadable where it is refused. Nothing is noted.
 // The walk goes to the end of so few bytes, and the count is looked at there, not at each command.
 pub fn measure(book: &[u8]) -> Measured
@@ -202,12 +231,12 @@ pub fn measure(book: &[u8]) -> Measured
     let mut k: usize = 0;
     let mut bikes: u8 = 0;
     while at < long {
-        let size = long_size(&book[at..]);
-        if size == 0 {
+        let next = after(book, at);
+        if next == at {
             return Measured::Unreadable;
         }
         bikes = bikes | book[at + 1];
-        at += size;
+        at = next;
         k += 1;
     }
     while at < n {

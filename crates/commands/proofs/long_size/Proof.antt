@@ -17,14 +17,17 @@ short-size-requires c κs = search needs
 returns : tie.Need-returns
 returns c = c .before .short-size .ensures ∙ long-short _ (omega arith) (λ z. c .if1 .taken (c .before .short-size .ensures ∙ z))
 
+is-fit-requires : tie.Need-is-fit-requires
+is-fit-requires c κs = search needs
+
 returns-2 : tie.Need-returns-2
-returns-2 c = long-fit _ (omega arith) (rw (c .before .before .before .get4 .ensures) at (c .if2 .taken))
+returns-2 c = long-fit _ (omega arith) (rw (c .before .before .before .before .get4 .ensures) at (sym (c .before .is-fit .ensures) ∙ c .if2 .taken))
 
 returns-3 : tie.Need-returns-3
 returns-3 c =
-    let e = c .before .before .short-size .ensures in
-    sym (c .before .if1 .left) ∙ e ∙ long-other _ (omega arith) (rw (c .before .before .before .get4 .ensures) at (c .if2 .left))
+    let e = c .before .before .before .short-size .ensures in
+    sym (c .before .before .if1 .left) ∙ e ∙ long-other _ (omega arith) (rw (c .before .before .before .before .get4 .ensures) at (sym (c .before .is-fit .ensures) ∙ c .if2 .left))
 
 pub long-size-spec : {M : Type 1} → statement M
 long-size-spec =
-    tie.close (tie.spec shared-slice-read-kind get4-requires short-size-requires returns returns-2 returns-3)
+    tie.close (tie.spec shared-slice-read-kind get4-requires short-size-requires returns is-fit-requires returns-2 returns-3)

@@ -7,7 +7,7 @@ use native.Mathlib.Omega.{arith}
 use mathlib.Core.Path.{_≡_, refl}
 use lib.ListN.{length}
 use Rattle.commands.proofs.Walk.{measure-long}
-use Rattle.commands.proofs.Measuring.{Measuring, size-at, walk-inside, measured-all, measured-bad, measured-more, measured-taken, measured-refused}
+use Rattle.commands.proofs.Measuring.{Measuring, size-at, walk-inside, next-inside, measured-all, measured-bad, measured-none, measured-more, measured-next, measured-taken, measured-refused}
 use Rattle.commands.proofs.measure.Statement.{statement}
 use Rattle.commands.proofs.measure.Tie as tie
 
@@ -32,61 +32,39 @@ long-positions-requires c κs = search needs
 loop-holds : tie.Need-loop-holds Inv-loop μ-loop Inv-loop2 μ-loop2
 loop-holds c = (refl, c .long-positions .ensures, omega arith, omega arith, measured-all _)
 
-sub-long-size : tie.Need-sub-long-size Inv-loop μ-loop Inv-loop2 μ-loop2
-sub-long-size c = omega arith
-
-part-long-size-start : tie.Need-part-long-size-start Inv-loop μ-loop Inv-loop2 μ-loop2
-part-long-size-start c = omega arith
-
-part-long-size-end : tie.Need-part-long-size-end Inv-loop μ-loop Inv-loop2 μ-loop2
-part-long-size-end c = omega arith
-
-long-size-requires : tie.Need-long-size-requires Inv-loop μ-loop Inv-loop2 μ-loop2
-long-size-requires c κs = omega arith
+after-requires : tie.Need-after-requires Inv-loop μ-loop Inv-loop2 μ-loop2
+after-requires c κs = omega arith
 
 returns-2 : tie.Need-returns-2 Inv-loop μ-loop Inv-loop2 μ-loop2
 returns-2 c =
-    let s = now (c .before .before .before .before .before .before .before .before .args .book) in
-    let l = c .before .before .before .before .loop in
-    measured-bad s (l .k) (l .at) (l .bikes) (l .inv .4) (omega arith) (size-at s (l .at) (c .before .long-size .ensures)) (c .if2 .taken)
+    let s = now (c .before .before .before .before .before .before .before .args .book) in
+    let l = c .before .before .before .loop in
+    measured-none s (l .k) (l .at) (l .bikes) (l .inv .4) (omega arith) (c .before .after .ensures) (c .if2 .taken)
 
 add-bikes : tie.Need-add-bikes Inv-loop μ-loop Inv-loop2 μ-loop2
 add-bikes c = omega arith
 
 shared-slice-read-bikes : tie.Need-shared-slice-read-bikes Inv-loop μ-loop Inv-loop2 μ-loop2
-shared-slice-read-bikes c =
-    let s = now (c .before .before .before .before .before .before .before .before .before .args .book) in
-    let l = c .before .before .before .before .before .loop in
-    let e = size-at s (l .at) (c .before .before .long-size .ensures) in
-    let i = walk-inside s (l .at) (omega arith) e (c .before .if2 .left) in
-    omega arith
-
-add-at : tie.Need-add-at Inv-loop μ-loop Inv-loop2 μ-loop2
-add-at c =
-    let s = now (c .before .before .before .before .before .before .before .before .before .args .book) in
-    let l = c .before .before .before .before .before .loop in
-    let e = size-at s (l .at) (c .before .before .long-size .ensures) in
-    let i = walk-inside s (l .at) (omega arith) e (c .before .if2 .left) in
-    omega arith
+shared-slice-read-bikes c = omega arith
 
 add-k : tie.Need-add-k Inv-loop μ-loop Inv-loop2 μ-loop2
 add-k c = omega arith
 
 loop-less : tie.Need-loop-less Inv-loop μ-loop Inv-loop2 μ-loop2
 loop-less c =
-    let s = now (c .before .before .before .before .before .before .before .before .before .args .book) in
-    let l = c .before .before .before .before .before .loop in
-    let e = size-at s (l .at) (c .before .before .long-size .ensures) in
-    let i = walk-inside s (l .at) (omega arith) e (c .before .if2 .left) in
+    let s = now (c .before .before .before .before .before .before .before .before .args .book) in
+    let l = c .before .before .before .before .loop in
+    let i = next-inside s (l .at) (omega arith) (c .before .before .after .ensures) (c .before .if2 .left) in
     omega arith
 
 loop-again : tie.Need-loop-again Inv-loop μ-loop Inv-loop2 μ-loop2
 loop-again c =
-    let s = now (c .before .before .before .before .before .before .before .before .before .args .book) in
-    let l = c .before .before .before .before .before .loop in
-    let e = size-at s (l .at) (c .before .before .long-size .ensures) in
-    let i = walk-inside s (l .at) (omega arith) e (c .before .if2 .left) in
-    (refl, l .inv .1, omega arith, omega arith, measured-more s (l .k) (l .at) (l .bikes) (l .inv .4) (omega arith) e (c .before .if2 .left))
+    let s = now (c .before .before .before .before .before .before .before .before .args .book) in
+    let l = c .before .before .before .before .loop in
+    let e = c .before .before .after .ensures in
+    let n = c .before .if2 .left in
+    let i = next-inside s (l .at) (omega arith) e n in
+    (refl, l .inv .1, omega arith, omega arith, measured-next s (l .k) (l .at) (l .bikes) (l .inv .4) (omega arith) e n)
 
 loop2-holds : tie.Need-loop2-holds Inv-loop μ-loop Inv-loop2 μ-loop2
 loop2-holds c = let l = c .before .loop in (refl, omega arith, l .inv .2, l .inv .3, l .inv .4)
@@ -120,8 +98,8 @@ shared-slice-read-bikes-2 c =
     let i = walk-inside s (l .at) (omega arith) e (c .before .if3 .left) in
     omega arith
 
-add-at-2 : tie.Need-add-at-2 Inv-loop μ-loop Inv-loop2 μ-loop2
-add-at-2 c =
+add-at : tie.Need-add-at Inv-loop μ-loop Inv-loop2 μ-loop2
+add-at c =
     let s = now (c .before .before .before .before .before .before .before .before .before .before .before .args .book) in
     let l = c .before .before .before .before .before .loop2 in
     let e = size-at s (l .at) (c .before .before .last-size .ensures) in
@@ -173,14 +151,10 @@ measure-spec =
     returns
     long-positions-requires
     loop-holds
-    sub-long-size
-    part-long-size-start
-    part-long-size-end
-    long-size-requires
+    after-requires
     returns-2
     add-bikes
     shared-slice-read-bikes
-    add-at
     add-k
     loop-less
     loop-again
@@ -192,7 +166,7 @@ measure-spec =
     returns-3
     add-bikes-2
     shared-slice-read-bikes-2
-    add-at-2
+    add-at
     add-k-2
     loop2-less
     loop2-again
