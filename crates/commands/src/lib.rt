@@ -198,7 +198,7 @@ pub fn note(book: &[u8], places: &mut [u16]) -> Measured
 }
 
 // The position after a command with bytes enough for any, whatever its bike; its own position where there is none.
-// A position is answered and no size, so that each kind has its own way on: a walk takes a sixth less time.
+// A position is answered and no size, so that each kind has its own way on in a walk.
 fn after(book: &[u8], at: usize) -> usize
     requires { ⌜ at + 10 ≤ length (now book) ⌝ }
     ensures { λ r. ⌜ r ≡ at + walkSize (drop at (now (book .entry))) ⌝ }
