@@ -1,4 +1,4 @@
-// Steps 01 to 06: a command or a message reaches a site, and a faulty site's entry reaches the log.
+// Steps 01 to 06: a command or a message reaches a site, and a faulty site's entry reaches the log. What answers a step is the number of its verdict.
 ghost use mathlib.Core.Path.{_≡_};
 ghost use mathlib.Core.Bool.{true};
 ghost use mathlib.Core.List.{List};
@@ -14,7 +14,7 @@ ghost use Rattle.site.specs.Steps.{Received, Heard};
 ghost use Rattle.entries.specs.Entries.{entrySize};
 ghost use Rattle.rounds.specs.Rounds.{Kept};
 ghost use Rattle.sent.specs.Sent.{GoodSent};
-ghost use Rattle.world.specs.Parts.{AtSite, Arrived, Entered};
+ghost use Rattle.world.specs.Parts.{AtSite, Arrived, Coded, Entered};
 ghost use Rattle.arrivals.specs.Messages.{messageVerdict, unheardOf};
 use entries::Entry;
 use layout::Site;
@@ -72,21 +72,21 @@ pub fn command(
     commands: usize,
     site: u8,
     command: u8,
-) -> Verdict
+) -> u32
     requires { ⌜ (length (now sites) ≡ table .sites * siteSize) × Roles table (now roles) × (commands ≤ capacity) ⌝ }
-    ensures { λ v. ⌜ ((sent : List ℕ) → Arrived table commands (protocol.command site command) sent (now (sites .entry)) v (now (sites .exit))) ⌝ }
+    ensures { λ r. ⌜ Coded (λ v. (sent : List ℕ) → Arrived table commands (protocol.command site command) sent (now (sites .entry)) v (now (sites .exit))) r ⌝ }
 {
     let m = command as usize;
     if m >= commands {
-        return Verdict::Refused(Refusal::Range);
+        return refusals::number(Refusal::Range);
     }
     if !roles::is_correct(roles, site) {
-        return Verdict::Refused(roles::refusal(roles, site, true));
+        return refusals::number(roles::refusal(roles, site, true));
     }
     let from = site as usize * Site::SIZE;
     let to = from + Site::SIZE;
     site::receive_command(&mut sites[from..to], m);
-    Verdict::Taken
+    0
 }
 
 // What refuses an acknowledgment that a site does not hear, of a round in range: a site or the number out of range, and otherwise what is given.
@@ -112,25 +112,25 @@ pub fn acknowledgment(
     from: u8,
     round: u8,
     number: u8,
-) -> Verdict
+) -> u32
     requires { ⌜ (length (now sites) ≡ table .sites * siteSize) × (isGood table ≡ true) × Roles table (now roles) × GoodSent (now sent) ⌝ }
-    ensures { λ v. ⌜ ((commands : ℕ) → Arrived table commands (protocol.acknowledgment site from round number) (now (sent .entry)) (now (sites .entry)) v (now (sites .exit))) ⌝ }
+    ensures { λ r. ⌜ Coded (λ v. (commands : ℕ) → Arrived table commands (protocol.acknowledgment site from round number) (now (sent .entry)) (now (sites .entry)) v (now (sites .exit))) r ⌝ }
 {
     let r = round as usize;
     if !((1 <= r) & (r <= Site::ROUNDS)) {
-        return Verdict::Refused(Refusal::Range);
+        return refusals::number(Refusal::Range);
     }
     if !(roles::is_correct(roles, site) & roles::is_correct(roles, from)) {
-        return Verdict::Refused(unheard(roles, site, from, number, Refusal::Role));
+        return refusals::number(unheard(roles, site, from, number, Refusal::Role));
     }
     let i = site as usize;
     let j = from as usize;
     let message = sent::acknowledgment(sent, j, r, number);
     let Message::Sent(set) = message else {
-        return Verdict::Refused(unheard(roles, site, from, number, Refusal::Disabled));
+        return refusals::number(unheard(roles, site, from, number, Refusal::Disabled));
     };
     hear(sites, i, j, r, set);
-    Verdict::Taken
+    0
 }
 
 // 03: the check message that a correct site sent in a round reaches a site.
@@ -142,9 +142,9 @@ pub fn check(
     site: u8,
     from: u8,
     round: u8,
-) -> Verdict
+) -> u32
     requires { ⌜ (length (now sites) ≡ table .sites * siteSize) × (isGood table ≡ true) × Roles table (now roles) × GoodSent (now sent) ⌝ }
-    ensures { λ v. ⌜ ((commands : ℕ) → Arrived table commands (protocol.check site from round) (now (sent .entry)) (now (sites .entry)) v (now (sites .exit))) ⌝ }
+    ensures { λ r. ⌜ Coded (λ v. (commands : ℕ) → Arrived table commands (protocol.check site from round) (now (sent .entry)) (now (sites .entry)) v (now (sites .exit))) r ⌝ }
 {
     let i = site as usize;
     let j = from as usize;
@@ -152,14 +152,14 @@ pub fn check(
     let correct = roles::is_correct(roles, from);
     let verdict = judge_message(roles, site, from, round, true, correct);
     if let Verdict::Refused(refusal) = verdict {
-        return Verdict::Refused(refusal);
+        return refusals::number(refusal);
     }
     let message = sent::check(sent, j, r);
     let Message::Sent(set) = message else {
-        return Verdict::Refused(Refusal::Disabled);
+        return refusals::number(Refusal::Disabled);
     };
     receive(sites, i, set);
-    Verdict::Taken
+    0
 }
 
 // 04: an acknowledgment of a faulty site reaches a site.
@@ -172,9 +172,9 @@ pub fn false_acknowledgment(
     from: u8,
     round: u8,
     set: Set,
-) -> Verdict
+) -> u32
     requires { ⌜ (length (now sites) ≡ table .sites * siteSize) × (isGood table ≡ true) × Roles table (now roles) ⌝ }
-    ensures { λ v. ⌜ ((sent : List ℕ) → Arrived table commands (protocol.falseAcknowledgment site from round (inSet set)) sent (now (sites .entry)) v (now (sites .exit))) ⌝ }
+    ensures { λ r. ⌜ Coded (λ v. (sent : List ℕ) → Arrived table commands (protocol.falseAcknowledgment site from round (inSet set)) sent (now (sites .entry)) v (now (sites .exit))) r ⌝ }
 {
     let i = site as usize;
     let j = from as usize;
@@ -183,10 +183,10 @@ pub fn false_acknowledgment(
     let faulty = roles::is_faulty(roles, from);
     let verdict = judge_message(roles, site, from, round, within, faulty);
     if let Verdict::Refused(refusal) = verdict {
-        return Verdict::Refused(refusal);
+        return refusals::number(refusal);
     }
     hear(sites, i, j, r, set);
-    Verdict::Taken
+    0
 }
 
 // 05: a check message of a faulty site reaches a site.
@@ -199,9 +199,9 @@ pub fn false_check(
     from: u8,
     round: u8,
     set: Set,
-) -> Verdict
+) -> u32
     requires { ⌜ (length (now sites) ≡ table .sites * siteSize) × Roles table (now roles) ⌝ }
-    ensures { λ v. ⌜ ((sent : List ℕ) → Arrived table commands (protocol.falseCheck site from round (inSet set)) sent (now (sites .entry)) v (now (sites .exit))) ⌝ }
+    ensures { λ r. ⌜ Coded (λ v. (sent : List ℕ) → Arrived table commands (protocol.falseCheck site from round (inSet set)) sent (now (sites .entry)) v (now (sites .exit))) r ⌝ }
 {
     let i = site as usize;
     let j = from as usize;
@@ -210,10 +210,10 @@ pub fn false_check(
     let faulty = roles::is_faulty(roles, from);
     let verdict = judge_message(roles, site, from, round, within, faulty);
     if let Verdict::Refused(refusal) = verdict {
-        return Verdict::Refused(refusal);
+        return refusals::number(refusal);
     }
     receive(sites, i, set);
-    Verdict::Taken
+    0
 }
 
 // 06: an entry of a faulty site reaches the log.

@@ -1,4 +1,4 @@
-// Steps 07 and 09: a correct site takes a turn, or reads the next entry of the log.
+// Steps 07 and 09: a correct site takes a turn, or reads the next entry of the log. What answers a step is the number of its verdict.
 ghost use mathlib.Core.Path.{_≡_};
 ghost use mathlib.Core.Bool.{true, false};
 ghost use mathlib.Core.List.{List};
@@ -11,7 +11,7 @@ ghost use Rattle.protocol.specs.World as protocol;
 ghost use Rattle.layout.specs.Layout.{siteSize, headOf};
 ghost use Rattle.site.specs.Steps.{ReadEntry};
 ghost use Rattle.world.specs.World.{siteAt, Answered};
-ghost use Rattle.world.specs.Parts.{lent, AtSite};
+ghost use Rattle.world.specs.Parts.{lent, AtSite, Coded};
 ghost use Rattle.moves.specs.Moves.{Ready, TurnedBy, LogRead};
 use entries::Entry;
 use layout::Site;
@@ -114,20 +114,14 @@ fn read_at(sites: &mut [u8], i: usize, left: bool) -> Verdict
 }
 
 // 09: site i reads the next entry of the log. Every entry that a run appends is in range, and none is a third of its site and round.
-pub fn log_read(
-    sites: &mut [u8],
-    entries: usize,
-    table: SiteTable,
-    roles: &[u8],
-    site: u8,
-) -> Verdict
+pub fn log_read(sites: &mut [u8], entries: usize, table: SiteTable, roles: &[u8], site: u8) -> u32
     requires { ⌜ (length (now sites) ≡ table .sites * siteSize) × Roles table (now roles) × (entries ≤ 65535) ⌝ }
-    ensures { λ v. ⌜ LogRead table site entries (now (sites .entry)) v (now (sites .exit)) ⌝ }
+    ensures { λ r. ⌜ Coded (λ v. LogRead table site entries (now (sites .entry)) v (now (sites .exit))) r ⌝ }
 {
     if !roles::is_correct(roles, site) {
-        return Verdict::Refused(roles::refusal(roles, site, true));
+        return refusals::number(roles::refusal(roles, site, true));
     }
     let i = site as usize;
     let position = world::position_of(&sites[..], i);
-    read_at(sites, i, position < entries)
+    refusals::code(read_at(sites, i, position < entries))
 }

@@ -2,33 +2,38 @@
 -- Assumes nothing.
 use mathlib.Core.Path.{_≡_, refl, sym, ap, subst, _∙_}
 use mathlib.Core.List.{List, _++_}
-use Prim.Native.Nat.{ℕ, zero, suc, _+_, _≤_, _<_}
+use Prim.Native.Nat.{ℕ, zero, suc, _+_, _*_, _≤_, _<_}
 use native.Mathlib.Numerals.{add-one}
 use native.Mathlib.Omega.{arith}
 use lib.ListN.{length, drop}
 use Rattle.refusals.specs.Refusals.{codeOf}
+use Rattle.refusals.specs.declared.Refusal.the-variants.{Form}
 use Rattle.refusals.specs.declared.Verdict.{Verdict}
+use Rattle.refusals.specs.declared.Verdict.the-variants.{Refused}
 use Rattle.table.specs.declared.SiteTable.{SiteTable}
 use Rattle.register.specs.declared.Command.{Command}
 use Rattle.protocol.specs.Recovery as recovery
 use Rattle.protocol.specs.World as protocol
 use Rattle.steps.specs.declared.Step.{Step}
 use Rattle.steps.specs.declared.Step.the-variants.{Acknowledgment, Check, LogRead}
-use Rattle.steps.specs.declared.Reading.the-variants.{Whole}
+use Rattle.steps.specs.declared.Reading.{Reading}
+use Rattle.steps.specs.declared.Reading.the-variants.{Whole, Unreadable}
 use Rattle.steps.specs.Steps.{sizeOf, byte, readAs, readStep, encodeStep}
 use Rattle.steps.specs.Meaning.{meaning}
 use Rattle.steps.proofs.Front.{front}
 use Rattle.steps.proofs.Laws.{byte-at, whole-at, of-code}
 use Rattle.steps.proofs.Walk.{inside}
 use Rattle.entries.specs.Entries.{logTo}
-use Rattle.world.specs.World.{Buffers, GoodWorld, Outcome}
+use Rattle.print.specs.Print.{Wrote}
+use Rattle.runs.specs.Run.{report}
+use Rattle.world.specs.World.{Buffers, GoodWorld, Outcome, Answered}
 use Rattle.world.specs.Parts.{lent}
 use Rattle.play.specs.declared.Batch.{Batch}
 use Rattle.play.specs.declared.Told.{Told}
 use Rattle.play.specs.declared.Start.{Start}
 use Rattle.play.specs.declared.Start.the-variants.{Many, One}
-use Rattle.play.specs.Batches.{StepAt, Taken, InBatch, BatchOf, ToldOf, PlayedBatch, startOf}
-use Rattle.play.proofs.Laws.{silent, Playing, playing-more}
+use Rattle.play.specs.Batches.{StepAt, Taken, InBatch, BatchOf, Ends, ToldOf, PlayedBatch, nextOf, PlayedNext, startOf}
+use Rattle.play.proofs.Laws.{silent, Playing, playing-more, playing-last}
 
 -- ---- the step that stands at a position, by its code
 
@@ -128,9 +133,68 @@ module _ (t : SiteTable) (steps : List ℕ) (at entries : ℕ) (sent sites : Lis
   pub many : {r : Batch} → x ≡ Many r → PlayedBatch t steps at entries sent sites r after
   many e = subst (λ (y : Start). startOf t steps at entries sent sites y after) e h
 
-  -- Where nothing was done yet, the run stands where it stood.
-  pub playing-one : (book : List Command) (before : List ℕ) (from : ℕ) {earlier : List ℕ} (log out : List ℕ) (end number : ℕ) → x ≡ One
-      → Playing t book steps before from earlier (lent sites log entries sent) out end at number → Playing t book steps before from earlier (lent after log entries sent) out end at number
-  playing-one book before from {earlier} log out end number e p =
-      let o : after ≡ sites = subst (λ (y : Start). startOf t steps at entries sent sites y after) e h in
-      subst (λ (y : List ℕ). Playing t book steps before from earlier (lent y log entries sent) out end at number) (sym o) p
+  -- Where only the step itself is started, nothing was done yet.
+  pub one : x ≡ One → after ≡ sites
+  one e = subst (λ (y : Start). startOf t steps at entries sent sites y after) e h
+
+-- ---- what stands at a position
+
+-- What was played goes on: its number is that of a verdict, and each of its steps has 2 bytes at least, but for one that is the last to be read.
+pub record Onward (steps : List ℕ) (at : ℕ) (r : Batch) : Type 0 where
+  pub verdict : Verdict
+  pub number : r .code ≡ codeOf verdict
+  pub further : at + 2 * r .past + 1 ≤ r .next
+  pub far : r .next < length steps → at + 2 * r .past + 2 ≤ r .next
+  pub inside : r .next ≤ length steps
+
+module _ (t : SiteTable) (book : List Command) (steps : List ℕ) (at : ℕ) where
+  pub next-unread : (b : Buffers) {code : ℕ} → readStep (drop at steps) ≡ Unreadable → code ≡ codeOf (Refused Form)
+      → PlayedNext t book steps at b (record { past = 0; next = length steps; code = code }) b
+  next-unread b {code} e c =
+      let r : Batch = record { past = 0; next = length steps; code = code } in
+      subst (λ (x : Reading). nextOf t book steps at b r b x) (sym e) (ap (λ (k : ℕ). record { past = 0; next = length steps; code = k }) c, refl)
+
+  pub next-many : (b after : Buffers) {r : Batch} {u : Step} → readStep (drop at steps) ≡ Whole u → Ends steps at r → InBatch t book steps b at r after → PlayedNext t book steps at b r after
+  next-many b after {r} e x h = subst (λ (y : Reading). nextOf t book steps at b r after y) (sym e) (x, h)
+
+  pub next-one : (b b′ after : Buffers) {code next : ℕ} {u : Step} → b′ ≡ b → at ≤ length steps → readStep (drop at steps) ≡ Whole u → next ≡ at + sizeOf u
+      → Answered t book (meaning u) b′ code after → PlayedNext t book steps at b (record { past = 0; next = next; code = code }) after
+  next-one b b′ after {code} {next} {u} o g e q d =
+      let same : sizeOf u ≡ sizeOf u = refl in
+      let i = inside steps at g e same in
+      next-many b after e (record { verdict = d .verdict; number = d .number; far = omega (arith, i .0, q); inside = omega (arith, i .1, q) })
+      (record {
+        before = b;
+        last = at;
+        taken = (refl, refl);
+        ends = record { step = u; read = e; past = q; did = subst (λ (x : Buffers). Answered t book (meaning u) x code after) o d };
+      })
+
+  module _ (b after : Buffers) (r : Batch) (g : at < length steps) where
+    onward-by : (x : Reading) → nextOf t book steps at b r after x → Onward steps at r
+    onward-by (Whole u) h =
+        let x = h .0 in
+        record { verdict = x .verdict; number = x .number; further = omega (arith, x .far); far = λ l. x .far; inside = x .inside }
+    onward-by Unreadable h =
+        let p : r .past ≡ 0 = ap (λ (x : Batch). x .past) (h .0) in
+        let n : r .next ≡ length steps = ap (λ (x : Batch). x .next) (h .0) in
+        record { verdict = Refused Form; number = ap (λ (x : Batch). x .code) (h .0); further = omega (arith, p, n, g); far = λ l. absurd (omega (arith, l, n)); inside = omega (arith, n) }
+
+    pub onward : PlayedNext t book steps at b r after → Onward steps at r
+    onward h = onward-by (readStep (drop at steps)) h
+
+    -- The run stands after what was played, once its line is told.
+    module _ (before : List ℕ) (from : ℕ) {earlier out out′ : List ℕ} {end number : ℕ} {told : Told} (p : Playing t book steps before from earlier b out end at number) (l : end ≤ length out)
+        (w : ToldOf r number end out told out′) where
+      playing-by : (x : Reading) → readStep (drop at steps) ≡ x → nextOf t book steps at b r after x → Playing t book steps before from earlier after out′ (told .end) (told .next) (told .number)
+      playing-by (Whole u) e h = playing-batch t book steps b at before from p l (h .1) w
+      playing-by Unreadable e h =
+          let z : number + r .past ≡ number = let p : r .past ≡ 0 = ap (λ (x : Batch). x .past) (h .0) in omega (arith, p) in
+          let k : number + 1 ≡ told .number = omega (arith, z, w .counted) in
+          subst (λ (n : ℕ). Playing t book steps before from earlier after out′ (told .end) (told .next) n) k
+          (subst (λ (y : Buffers). Playing t book steps before from earlier y out′ (told .end) (told .next) (number + 1)) (sym (h .1))
+          (playing-last t book steps before from p l g e (w .onward ∙ ap (λ (x : Batch). x .next) (h .0))
+          (subst (λ (n : ℕ). Wrote out′ (told .end) out end (report n (Refused Form))) z (w .line (Refused Form) (ap (λ (x : Batch). x .code) (h .0))))))
+
+      pub playing-next : PlayedNext t book steps at b r after → Playing t book steps before from earlier after out′ (told .end) (told .next) (told .number)
+      playing-next h = playing-by (readStep (drop at steps)) refl h

@@ -5,13 +5,16 @@ use mathlib.Core.List.{List}
 use Prim.Native.Nat.{ℕ, zero, suc, _+_, _*_, _≤_}
 use lib.ListN.{length, drop}
 use Rattle.refusals.specs.Refusals.{codeOf}
+use Rattle.refusals.specs.declared.Refusal.the-variants.{Form}
 use Rattle.refusals.specs.declared.Verdict.{Verdict}
+use Rattle.refusals.specs.declared.Verdict.the-variants.{Refused}
 use Rattle.table.specs.declared.SiteTable.{SiteTable}
 use Rattle.register.specs.declared.Command.{Command}
 use Rattle.protocol.specs.Recovery as recovery
 use Rattle.print.specs.Print.{Wrote}
 use Rattle.steps.specs.declared.Step.{Step}
-use Rattle.steps.specs.declared.Reading.the-variants.{Whole}
+use Rattle.steps.specs.declared.Reading.{Reading}
+use Rattle.steps.specs.declared.Reading.the-variants.{Whole, Unreadable}
 use Rattle.steps.specs.Steps.{sizeOf, readStep}
 use Rattle.steps.specs.Meaning.{meaning}
 use Rattle.runs.specs.Run.{report}
@@ -63,6 +66,15 @@ pub record ToldOf (x : Batch) (number end : ℕ) (before : List ℕ) (r : Told) 
   pub room : r .end ≤ end + lineRoom
   pub onward : r .next ≡ x .next
   pub counted : r .number ≡ number + x .past + 1
+
+-- What stands at a position was played: a batch of steps; or what cannot be read, which changes nothing, is refused as 3 and is the last to be read.
+module _ (t : SiteTable) (book : List Command) (steps : List ℕ) (at : ℕ) (b : Buffers) (r : Batch) (after : Buffers) where
+  abbrev pub nextOf : Reading → Type 0
+  nextOf (Whole u) = Ends steps at r × InBatch t book steps b at r after
+  nextOf Unreadable = (r ≡ record { past = 0; next = length steps; code = codeOf (Refused Form) }) × (after ≡ b)
+
+  abbrev pub PlayedNext : Type 0
+  PlayedNext = nextOf (readStep (drop at steps))
 
 module _ (t : SiteTable) (steps : List ℕ) (at entries : ℕ) (sent sites : List ℕ) where
   -- A batch that was played; its last step has no line yet.

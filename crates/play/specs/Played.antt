@@ -10,7 +10,7 @@ use Rattle.table.specs.Table.{maxSites, isGood}
 use Rattle.register.specs.declared.Command.{Command}
 use Rattle.commands.specs.Book.{commandsOf}
 use Rattle.conflicts.specs.Conflicts.{conflictRows}
-use Rattle.protocol.specs.World.{start}
+use Rattle.protocol.specs.World.{Step, start, play}
 use Rattle.system.specs.Dash.{dash, lastRound}
 use Rattle.print.specs.Print.{Wrote}
 use Rattle.steps.specs.Steps.{stepsOf}
@@ -41,6 +41,17 @@ pub record Playable (t : SiteTable) (book places rows : List ℕ) (commands : �
   pub conflicts : rows ≡ conflictRows book
   pub counted : length (commandsOf book) ≡ commands
   pub world : HoldsWorld t (commandsOf book) b (start (dash t (commandsOf book)))
+
+-- Buffers in the middle of a run: some steps led to the world that they hold.
+pub record Midway (t : SiteTable) (book places rows : List ℕ) (commands : ℕ) (steps : List ℕ) (b : Buffers) : Type 0 where
+  pub good : isGood t ≡ true
+  pub short : length steps < maxRun
+  pub log : logRoom * entrySize ≤ length (b .log)
+  pub noted : Noted book places
+  pub conflicts : rows ≡ conflictRows book
+  pub counted : length (commandsOf book) ≡ commands
+  pub past : List Step
+  pub world : HoldsWorld t (commandsOf book) b (play (dash t (commandsOf book)) (start (dash t (commandsOf book))) past)
 
 -- Steps played from the start of a run: `before` became `after` by the lines of the refused ones, written from `from` to `end`.
 -- What is past the rows of the sites is as it was in `earlier`.

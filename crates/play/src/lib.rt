@@ -18,8 +18,8 @@ ghost use Rattle.sent.specs.Sent.{GoodSent};
 ghost use Rattle.world.specs.Parts.{lent};
 ghost use Rattle.roles.specs.Roles.{Roles};
 ghost use Rattle.rounds.specs.Rounds.{Kept};
-ghost use Rattle.play.specs.Played.{lineRoom, Playable, PlayedAll};
-ghost use Rattle.play.specs.Batches.{BatchOf, Ends, ToldOf, startOf};
+ghost use Rattle.play.specs.Played.{lineRoom, Playable, Midway, PlayedAll};
+ghost use Rattle.play.specs.Batches.{BatchOf, Ends, ToldOf, PlayedNext, startOf};
 use refusals::Refusal;
 use steps::Reading;
 use steps::Step;
@@ -43,6 +43,12 @@ pub struct Told {
     pub end: usize,
     pub next: usize,
     pub number: usize,
+}
+
+// What stood at a position was played: the batch, and how many entries of the log are meant.
+pub struct Next {
+    pub entries: usize,
+    pub batch: Batch,
 }
 
 // What a step starts: many steps that were played, or only itself, which is still to be carried out.
@@ -99,17 +105,7 @@ fn acknowledgments(
         let sender = steps[at + 2];
         let round = steps[at + 3];
         let number = steps[at + 4];
-        let verdict = arrivals::acknowledgment(
-            sites,
-            sent,
-            table,
-            roles,
-            site,
-            sender,
-            round,
-            number,
-        );
-        let code = refusals::code(verdict);
+        let code = arrivals::acknowledgment(sites, sent, table, roles, site, sender, round, number);
         let next = at + 5;
         if code != 0 || next + 5 > n || steps[next] != 2 {
             return Batch {
@@ -142,8 +138,7 @@ fn checks(
         let site = steps[at + 1];
         let sender = steps[at + 2];
         let round = steps[at + 3];
-        let verdict = arrivals::check(sites, sent, table, roles, site, sender, round);
-        let code = refusals::code(verdict);
+        let code = arrivals::check(sites, sent, table, roles, site, sender, round);
         let next = at + 4;
         if code != 0 || next + 4 > n || steps[next] != 3 {
             return Batch {
@@ -174,8 +169,7 @@ fn log_reads(
     let mut at = from;
     loop {
         let site = steps[at + 1];
-        let verdict = moves::log_read(sites, entries, table, roles, site);
-        let code = refusals::code(verdict);
+        let code = moves::log_read(sites, entries, table, roles, site);
         let next = at + 2;
         if code != 0 || next + 2 > n || steps[next] != 9 {
             return Batch {
@@ -213,7 +207,69 @@ fn play_batch(
     }
 }
 
-// The steps are played from the start of a run, with words to keep what the log says. Nothing is read after a step that cannot be read.
+// What stands at a position is played. What cannot be read is refused as 3, and nothing is read after it.
+fn play_next(
+    sites: &mut [u8],
+    log: &mut [u8],
+    sent: &mut [u8],
+    entries: usize,
+    kept: &mut [u64],
+    table: SiteTable,
+    roles: &[u8],
+    book: &[u8],
+    places: &[u16],
+    rows: &[u64],
+    commands: usize,
+    steps: &[u8],
+    at: usize,
+) -> Next
+    requires { ⌜ Midway table (now book) (now places) (now rows) commands (now steps) (lent (now sites) (now log) entries (now sent))
+        × Roles table (now roles) × Kept table (now rows) (now log) entries (now kept) × (at < length (now steps)) ⌝ }
+    ensures { λ r. ⌜ PlayedNext table (commandsOf (now (book .entry))) (now (steps .entry)) at (lent (now (sites .entry)) (now (log .entry)) entries (now (sent .entry)))
+        (r .batch) (lent (now (sites .exit)) (now (log .exit)) (r .entries) (now (sent .exit)))
+        × Kept table (now (rows .entry)) (now (log .exit)) (r .entries) (now (kept .exit)) ⌝ }
+{
+    let reading = steps::read_step(steps, at);
+    let Reading::Whole(step) = reading else {
+        return Next {
+            entries: entries,
+            batch: Batch {
+                past: 0,
+                next: steps.len(),
+                code: refusals::number(Refusal::Form),
+            },
+        };
+    };
+    let start = play_batch(sites, &sent[..], entries, table, roles, steps, at, step);
+    if let Start::Many(batch) = start {
+        return Next { entries, batch };
+    }
+    let next = at + steps::size(step);
+    let stepped = stepping::step(
+        sites,
+        log,
+        sent,
+        entries,
+        kept,
+        table,
+        roles,
+        book,
+        places,
+        rows,
+        commands,
+        step,
+    );
+    Next {
+        entries: stepped.entries,
+        batch: Batch {
+            past: 0,
+            next: next,
+            code: stepped.code,
+        },
+    }
+}
+
+// The steps are played from the start of a run, with words to keep what the log says.
 fn play_on(
     sites: &mut [u8],
     log: &mut [u8],
@@ -240,45 +296,26 @@ fn play_on(
     let mut at: usize = 0;
     let mut number: usize = 1;
     while at < n {
-        let reading = steps::read_step(steps, at);
-        let Reading::Whole(step) = reading else {
-            let last = report(out, end, number, refusals::number(Refusal::Form));
-            return Played {
-                end: last,
-                entries: entries,
-            };
-        };
-        let start = play_batch(sites, &sent[..], entries, table, roles, steps, at, step);
-        match start {
-            Start::Many(batch) => {
-                let told = tell(out, end, number, batch);
-                end = told.end;
-                at = told.next;
-                number = told.number;
-            }
-            Start::One => {
-                let next = at + steps::size(step);
-                let stepped = stepping::step(
-                    sites,
-                    log,
-                    sent,
-                    entries,
-                    kept,
-                    table,
-                    roles,
-                    book,
-                    places,
-                    rows,
-                    commands,
-                    step,
-                );
-                let code = stepped.code;
-                end = report(out, end, number, code);
-                entries = stepped.entries;
-                at = next;
-                number += 1;
-            }
-        }
+        let next = play_next(
+            sites,
+            log,
+            sent,
+            entries,
+            kept,
+            table,
+            roles,
+            book,
+            places,
+            rows,
+            commands,
+            steps,
+            at,
+        );
+        entries = next.entries;
+        let told = tell(out, end, number, next.batch);
+        end = told.end;
+        at = told.next;
+        number = told.number;
     }
     Played {
         end: end,

@@ -24,7 +24,7 @@ use Rattle.steps.specs.Meaning.{meaning}
 use Rattle.steps.proofs.Step as declared
 use Rattle.protocol.specs.World as protocol
 use Rattle.world.specs.World.{Buffers, GoodWorld, Outcome, Answered}
-use Rattle.world.specs.Parts.{lent, Arrived}
+use Rattle.world.specs.Parts.{lent, Arrived, Coded}
 use Rattle.moves.specs.Moves.{Ready}
 use Rattle.closings.specs.Closings.{GoodSites, KeptLog}
 use Rattle.stepping.specs.Kinds.{arrives}
@@ -58,9 +58,9 @@ no-arrival (kinds.RoundEnd i) h e = never false e refl
 -- ---- the arms
 
 -- The step is of this kind.
-pub arrived : (t : SiteTable) (commands : ℕ) (sent sites after : List ℕ) {u v : Step} {r : Verdict} → u ≡ v → Arrived t commands (meaning v) sent sites r after
-    → arrives u ≡ true → Arrived t commands (meaning u) sent sites r after
-arrived t commands sent sites after {r = r} e h k = subst (λ (x : Step). Arrived t commands (meaning x) sent sites r after) (sym e) h
+pub arrived : (t : SiteTable) (commands : ℕ) (sent sites after : List ℕ) {u v : Step} {n : ℕ} → u ≡ v → Coded (λ r. Arrived t commands (meaning v) sent sites r after) n
+    → arrives u ≡ true → Coded (λ r. Arrived t commands (meaning u) sent sites r after) n
+arrived t commands sent sites after {n = n} e h k = subst (λ (x : Step). Coded (λ r. Arrived t commands (meaning x) sent sites r after) n) (sym e) h
 
 pub arm : (t : SiteTable) (book : List Command) (b after : Buffers) {u v : Step} {n : ℕ} → u ≡ v → Answered t book (meaning v) b n after → Answered t book (meaning u) b n after
 arm t book b after {n = n} e h = subst (λ (x : Step). Answered t book (meaning x) b n after) (sym e) h

@@ -16,7 +16,7 @@ ghost use Rattle.entries.specs.Entries.{entrySize, entryOf};
 ghost use Rattle.rounds.specs.Rounds.{keptRounds, Kept};
 ghost use Rattle.sent.specs.Sent.{GoodSent};
 ghost use Rattle.world.specs.World.{Answered};
-ghost use Rattle.world.specs.Parts.{lent, Arrived};
+ghost use Rattle.world.specs.Parts.{lent, Arrived, Coded};
 ghost use Rattle.moves.specs.Moves.{Ready};
 ghost use Rattle.stepping.specs.Kinds.{arrives};
 use refusals::Refusal;
@@ -25,7 +25,7 @@ use steps::Step;
 use table::SiteTable;
 use world::Stepped;
 
-// Steps 01 to 05: a command or a message reaches a site. Any other step is none of these.
+// Steps 01 to 05: a command or a message reaches a site, and the number of the verdict answers. Any other step is none of these.
 fn arrive(
     sites: &mut [u8],
     sent: &[u8],
@@ -33,9 +33,9 @@ fn arrive(
     roles: &[u8],
     commands: usize,
     step: Step,
-) -> Verdict
+) -> u32
     requires { ⌜ (length (now sites) ≡ table .sites * siteSize) × (isGood table ≡ true) × Roles table (now roles) × GoodSent (now sent) × (commands ≤ capacity) ⌝ }
-    ensures { λ v. ⌜ (arrives step ≡ true → Arrived table commands (meaning step) (now (sent .entry)) (now (sites .entry)) v (now (sites .exit))) ⌝ }
+    ensures { λ r. ⌜ (arrives step ≡ true → Coded (λ v. Arrived table commands (meaning step) (now (sent .entry)) (now (sites .entry)) v (now (sites .exit))) r) ⌝ }
 {
     match step {
         Step::Command { site, command } => arrivals::command(
@@ -73,11 +73,11 @@ fn arrive(
             round,
             set,
         } => arrivals::false_check(sites, table, roles, commands, site, from, round, set),
-        _ => Verdict::Refused(Refusal::Form),
+        _ => refusals::number(Refusal::Form),
     }
 }
 
-// What a step answers that appends nothing to the log.
+// What a step answers that is given a verdict and appends nothing to the log.
 fn answered(verdict: Verdict, entries: usize) -> Stepped
     ensures { λ r. ⌜ (r .code ≡ codeOf verdict) × (r .entries ≡ entries) ⌝ }
 {
@@ -133,8 +133,8 @@ fn act(
             answered(verdict, entries)
         }
         Step::LogRead { site } => {
-            let verdict = moves::log_read(sites, entries, table, roles, site);
-            answered(verdict, entries)
+            let code = moves::log_read(sites, entries, table, roles, site);
+            Stepped { code, entries }
         }
         Step::RoundEnd { site } => {
             let verdict = closings::round_end(
@@ -150,8 +150,8 @@ fn act(
             answered(verdict, entries)
         }
         _ => {
-            let verdict = arrive(sites, &sent[..], table, roles, commands, step);
-            answered(verdict, entries)
+            let code = arrive(sites, &sent[..], table, roles, commands, step);
+            Stepped { code, entries }
         }
     }
 }

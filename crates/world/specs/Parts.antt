@@ -4,6 +4,7 @@ use mathlib.Core.Path.{_≡_}
 use mathlib.Core.List.{List}
 use Prim.Native.Nat.{ℕ, _*_, _<_}
 use lib.ListN.{length, getD}
+use Rattle.refusals.specs.Refusals.{codeOf}
 use Rattle.refusals.specs.declared.Verdict.{Verdict}
 use Rattle.wire.specs.Wire.{splice}
 use Rattle.table.specs.declared.SiteTable.{SiteTable}
@@ -28,6 +29,10 @@ abbrev pub Arrived : SiteTable → ℕ → Step → List ℕ → List ℕ → Ve
 Arrived t commands u sent sites v after =
     (book : List Command) (log : List ℕ) (entries : ℕ) → commands ≡ length book → GoodWorld t (length book) (lent sites log entries sent)
     → Outcome t book u (lent sites log entries sent) v (lent after log entries sent)
+
+-- A number that answers a step: that of a verdict of which something is promised.
+abbrev pub Coded : (Verdict → Type 0) → ℕ → Type 0
+Coded promise code = (v : Verdict) × ((code ≡ codeOf v) × promise v)
 
 -- A step that changes the log only.
 abbrev pub Entered : SiteTable → ℕ → Step → List ℕ → ℕ → Stepped → List ℕ → Type 0

@@ -2,7 +2,9 @@
 -- Assumes nothing.
 use borrow.Author.Needs.{needs}
 use denote.Ref.{now}
+use mathlib.Core.Path.{refl}
 use native.Mathlib.Omega.{arith}
+use Rattle.refusals.specs.declared.Verdict.the-variants.{Taken, Refused}
 use Rattle.table.proofs.Laws.{good-limits}
 use Rattle.roles.proofs.Laws.{sent-by-faulty}
 use Rattle.arrivals.proofs.Arriving.{false-acknowledgment-refused, false-acknowledged}
@@ -22,10 +24,13 @@ judge-message-requires c κs = search needs
 enum-known-verdict : tie.Need-enum-known-verdict
 enum-known-verdict c = search needs
 
+number-requires : tie.Need-number-requires
+number-requires c κs = search needs
+
 returns : tie.Need-returns
 returns c =
-    let o = c .before .before .before .before .before .before .before .before in
-    λ sent. false-acknowledgment-refused (o .args .table) (o .args .commands) sent (now (o .args .sites)) (λ k. c .before .before .before .before .before .before .before .slice-known .given k .fits) (o .args .site) (o .args .from) (o .args .round) (o .args .set) (c .before .before .before .before .before .within .ensures) (c .before .before .before .before .is-faulty .ensures (o .args .table) (o .pre .2)) (c .before .before .before .judge-message .ensures (o .args .table) (o .pre .2) (sent-by-faulty (o .args .table) (o .args .from) (c .before .before .before .before .is-faulty .ensures (o .args .table) (o .pre .2)))) _ (c .before .verdict .given .1)
+    let o = c .before .before .before .before .before .before .before .before .before in
+    (Refused _, (c .number .ensures, λ sent. false-acknowledgment-refused (o .args .table) (o .args .commands) sent (now (o .args .sites)) (λ k. c .before .before .before .before .before .before .before .before .slice-known .given k .fits) (o .args .site) (o .args .from) (o .args .round) (o .args .set) (c .before .before .before .before .before .before .within .ensures) (c .before .before .before .before .before .is-faulty .ensures (o .args .table) (o .pre .2)) (c .before .before .before .before .judge-message .ensures (o .args .table) (o .pre .2) (sent-by-faulty (o .args .table) (o .args .from) (c .before .before .before .before .before .is-faulty .ensures (o .args .table) (o .pre .2)))) _ (c .before .before .verdict .given .1)))
 
 enum-told : tie.Need-enum-told
 enum-told c = search needs
@@ -44,9 +49,14 @@ same-length c = search needs
 
 returns-2 : tie.Need-returns-2
 returns-2 c =
-    let o = c .before .before .before .before .before .before .before .before .before .before .before in
-    λ sent. false-acknowledged (o .args .table) (o .args .commands) sent (now (o .args .sites)) (λ k. c .before .before .before .before .before .before .before .before .before .before .slice-known .given k .fits) (o .args .site) (o .args .from) (o .args .round) (o .args .set) (c .before .before .before .before .before .before .before .before .within .ensures) (c .before .before .before .before .before .before .before .is-faulty .ensures (o .args .table) (o .pre .2)) (c .before .before .before .before .before .before .judge-message .ensures (o .args .table) (o .pre .2) (sent-by-faulty (o .args .table) (o .args .from) (c .before .before .before .before .before .before .before .is-faulty .ensures (o .args .table) (o .pre .2)))) (c .before .before .before .before .enum-told .given .1)
-    (passed (o .args .table) (o .args .site) (o .args .from) (o .args .round) (c .before .before .before .before .before .before .before .before .within .result) (c .before .before .before .before .before .before .before .is-faulty .result) (c .before .before .before .before .before .before .judge-message .ensures (o .args .table) (o .pre .2) (sent-by-faulty (o .args .table) (o .args .from) (c .before .before .before .before .before .before .before .is-faulty .ensures (o .args .table) (o .pre .2)))) (c .before .before .before .before .enum-told .given .1)) (c .before .before .hear .ensures)
+    let o = c .before .before .before .before .before .before .before .before .before .before .before in (
+      Taken,
+      (
+        refl,
+        λ sent. false-acknowledged (o .args .table) (o .args .commands) sent (now (o .args .sites)) (λ k. c .before .before .before .before .before .before .before .before .before .before .slice-known .given k .fits) (o .args .site) (o .args .from) (o .args .round) (o .args .set) (c .before .before .before .before .before .before .before .before .within .ensures) (c .before .before .before .before .before .before .before .is-faulty .ensures (o .args .table) (o .pre .2)) (c .before .before .before .before .before .before .judge-message .ensures (o .args .table) (o .pre .2) (sent-by-faulty (o .args .table) (o .args .from) (c .before .before .before .before .before .before .before .is-faulty .ensures (o .args .table) (o .pre .2)))) (c .before .before .before .before .enum-told .given .1)
+            (passed (o .args .table) (o .args .site) (o .args .from) (o .args .round) (c .before .before .before .before .before .before .before .before .within .result) (c .before .before .before .before .before .before .before .is-faulty .result) (c .before .before .before .before .before .before .judge-message .ensures (o .args .table) (o .pre .2) (sent-by-faulty (o .args .table) (o .args .from) (c .before .before .before .before .before .before .before .is-faulty .ensures (o .args .table) (o .pre .2)))) (c .before .before .before .before .enum-told .given .1)) (c .before .before .hear .ensures),
+      ),
+    )
 
 pub false-acknowledgment-spec : {M : Type 1} → statement M
 false-acknowledgment-spec =
@@ -56,6 +66,7 @@ false-acknowledgment-spec =
     is-faulty-requires
     judge-message-requires
     enum-known-verdict
+    number-requires
     returns
     enum-told
     hear-requires

@@ -59,9 +59,6 @@ shared-slice-read-number c = search needs
 acknowledgment-requires : tie.Need-acknowledgment-requires Inv-loop μ-loop
 acknowledgment-requires c κs = search needs
 
-code-requires : tie.Need-code-requires Inv-loop μ-loop
-code-requires c κs = search needs
-
 add-next : tie.Need-add-next Inv-loop μ-loop
 add-next c = search needs
 
@@ -70,25 +67,25 @@ add-if2 c = search needs
 
 shared-slice-read-if3 : tie.Need-shared-slice-read-if3 Inv-loop μ-loop
 shared-slice-read-if3 c =
-    let s = now (c .before .before .before .before .before .before .before .before .before .before .before .before .before .before .before .before .before .args .steps) in
-    let l = c .before .before .before .before .before .before .before .before .before .before .before .before .loop in
+    let s = now (c .before .before .before .before .before .before .before .before .before .before .before .before .before .before .before .before .args .steps) in
+    let l = c .before .before .before .before .before .before .before .before .before .before .before .loop in
     omega (arith, ltb-false (length s) (l .at + 5 + 5) (c .before .if2 .left))
 
-sub-t30 : tie.Need-sub-t30 Inv-loop μ-loop
-sub-t30 c = search needs
+sub-t29 : tie.Need-sub-t29 Inv-loop μ-loop
+sub-t29 c = search needs
 
 same-length : tie.Need-same-length Inv-loop μ-loop
 same-length c = search needs
 
 returns : tie.Need-returns Inv-loop μ-loop
 returns c =
-    let a = c .before .before .before .before .before .before .before .before .before .before .before .before .before .before .before in
+    let a = c .before .before .before .before .before .before .before .before .before .before .before .before .before .before in
     let s = now (a .args .steps) in
-    let l = c .before .before .before .before .before .before .before .before .before .before .loop in
-    let k = c .before .before .before .before .acknowledgment in (
-      record { verdict = k .result; number = c .before .code .ensures; far = omega arith; inside = l .inv .2 },
+    let l = c .before .before .before .before .before .before .before .before .before .loop in
+    let k = c .before .before .before .acknowledgment in (
+      record { verdict = k .ensures .0; number = k .ensures .1 .0; far = omega arith; inside = l .inv .2 },
       (λ entries. batch-ends (a .args .table) entries (now (a .args .sent)) s (a .args .from) (now (a .args .sites)) ((l .at - a .args .from) / 5) (l .at) (l .sites) (l .inv .4 entries)
-          (reads-acknowledgment s (l .at) (l .inv .3) (l .inv .2)) (k .result) _ (λ book log g w. k .ensures (length book) book log entries refl g) (c .before .code .ensures) refl),
+          (reads-acknowledgment s (l .at) (l .inv .3) (l .inv .2)) (k .ensures .0) _ (λ book log g w. k .ensures .1 .1 (length book) book log entries refl g) (k .ensures .1 .0) refl),
     )
 
 loop-less : tie.Need-loop-less Inv-loop μ-loop
@@ -96,18 +93,18 @@ loop-less c = search needs
 
 loop-again : tie.Need-loop-again Inv-loop μ-loop
 loop-again c =
-    let a = c .before .before .before .before .before .before .before .before .before .before .before .before .before .before .before .before .before .before in
+    let a = c .before .before .before .before .before .before .before .before .before .before .before .before .before .before .before .before .before in
     let s = now (a .args .steps) in
-    let l = c .before .before .before .before .before .before .before .before .before .before .before .before .before .loop in
-    let k = c .before .before .before .before .before .before .before .acknowledgment in
+    let l = c .before .before .before .before .before .before .before .before .before .before .before .before .loop in
+    let k = c .before .before .before .before .before .before .acknowledgment in
     let h = ltb-false (length s) (l .at + 5 + 5) (c .before .before .if2 .left) in (
       k .kept .0 ∙ l .inv .0,
       omega arith,
       omega arith,
       eqb-true _ _ (not-false _ (c .if3 .left)),
       (λ entries. taken-more (a .args .table) entries (now (a .args .sent)) s (a .args .from) (now (a .args .sites)) ((l .at - a .args .from) / 5) (l .at) (l .sites) (l .inv .4 entries)
-          (reads-acknowledgment s (l .at) (l .inv .3) (l .inv .2)) (k .result) _ (λ book log g w. k .ensures (length book) book log entries refl g) ((l .at + 5 - a .args .from) / 5) (omega arith)
-          (c .before .before .before .before .code .ensures) (c .before .before .before .if1 .left) refl),
+          (reads-acknowledgment s (l .at) (l .inv .3) (l .inv .2)) (k .ensures .0) _ (λ book log g w. k .ensures .1 .1 (length book) book log entries refl g) ((l .at + 5 - a .args .from) / 5) (omega arith)
+          (k .ensures .1 .0) (c .before .before .before .if1 .left) refl),
     )
 
 pub acknowledgments-spec : {M : Type 1} → statement M
@@ -126,11 +123,10 @@ acknowledgments-spec =
     add-number
     shared-slice-read-number
     acknowledgment-requires
-    code-requires
     add-next
     add-if2
     shared-slice-read-if3
-    sub-t30
+    sub-t29
     same-length
     returns
     loop-less

@@ -53,9 +53,6 @@ shared-slice-read-round c = search needs
 check-requires : tie.Need-check-requires Inv-loop μ-loop
 check-requires c κs = search needs
 
-code-requires : tie.Need-code-requires Inv-loop μ-loop
-code-requires c κs = search needs
-
 add-next : tie.Need-add-next Inv-loop μ-loop
 add-next c = search needs
 
@@ -64,25 +61,25 @@ add-if2 c = search needs
 
 shared-slice-read-if3 : tie.Need-shared-slice-read-if3 Inv-loop μ-loop
 shared-slice-read-if3 c =
-    let s = now (c .before .before .before .before .before .before .before .before .before .before .before .before .before .before .before .before .args .steps) in
-    let l = c .before .before .before .before .before .before .before .before .before .before .before .loop in
+    let s = now (c .before .before .before .before .before .before .before .before .before .before .before .before .before .before .before .args .steps) in
+    let l = c .before .before .before .before .before .before .before .before .before .before .loop in
     omega (arith, ltb-false (length s) (l .at + 4 + 4) (c .before .if2 .left))
 
-sub-t28 : tie.Need-sub-t28 Inv-loop μ-loop
-sub-t28 c = search needs
+sub-t27 : tie.Need-sub-t27 Inv-loop μ-loop
+sub-t27 c = search needs
 
 same-length : tie.Need-same-length Inv-loop μ-loop
 same-length c = search needs
 
 returns : tie.Need-returns Inv-loop μ-loop
 returns c =
-    let a = c .before .before .before .before .before .before .before .before .before .before .before .before .before .before in
+    let a = c .before .before .before .before .before .before .before .before .before .before .before .before .before in
     let s = now (a .args .steps) in
-    let l = c .before .before .before .before .before .before .before .before .before .loop in
-    let k = c .before .before .before .before .check in (
-      record { verdict = k .result; number = c .before .code .ensures; far = omega arith; inside = l .inv .2 },
+    let l = c .before .before .before .before .before .before .before .before .loop in
+    let k = c .before .before .before .check in (
+      record { verdict = k .ensures .0; number = k .ensures .1 .0; far = omega arith; inside = l .inv .2 },
       (λ entries. batch-ends (a .args .table) entries (now (a .args .sent)) s (a .args .from) (now (a .args .sites)) ((l .at - a .args .from) / 4) (l .at) (l .sites) (l .inv .4 entries)
-          (reads-check s (l .at) (l .inv .3) (l .inv .2)) (k .result) _ (λ book log g w. k .ensures (length book) book log entries refl g) (c .before .code .ensures) refl),
+          (reads-check s (l .at) (l .inv .3) (l .inv .2)) (k .ensures .0) _ (λ book log g w. k .ensures .1 .1 (length book) book log entries refl g) (k .ensures .1 .0) refl),
     )
 
 loop-less : tie.Need-loop-less Inv-loop μ-loop
@@ -90,18 +87,18 @@ loop-less c = search needs
 
 loop-again : tie.Need-loop-again Inv-loop μ-loop
 loop-again c =
-    let a = c .before .before .before .before .before .before .before .before .before .before .before .before .before .before .before .before .before in
+    let a = c .before .before .before .before .before .before .before .before .before .before .before .before .before .before .before .before in
     let s = now (a .args .steps) in
-    let l = c .before .before .before .before .before .before .before .before .before .before .before .before .loop in
-    let k = c .before .before .before .before .before .before .before .check in
+    let l = c .before .before .before .before .before .before .before .before .before .before .before .loop in
+    let k = c .before .before .before .before .before .before .check in
     let h = ltb-false (length s) (l .at + 4 + 4) (c .before .before .if2 .left) in (
       k .kept .0 ∙ l .inv .0,
       omega arith,
       omega arith,
       eqb-true _ _ (not-false _ (c .if3 .left)),
       (λ entries. taken-more (a .args .table) entries (now (a .args .sent)) s (a .args .from) (now (a .args .sites)) ((l .at - a .args .from) / 4) (l .at) (l .sites) (l .inv .4 entries)
-          (reads-check s (l .at) (l .inv .3) (l .inv .2)) (k .result) _ (λ book log g w. k .ensures (length book) book log entries refl g) ((l .at + 4 - a .args .from) / 4) (omega arith)
-          (c .before .before .before .before .code .ensures) (c .before .before .before .if1 .left) refl),
+          (reads-check s (l .at) (l .inv .3) (l .inv .2)) (k .ensures .0) _ (λ book log g w. k .ensures .1 .1 (length book) book log entries refl g) ((l .at + 4 - a .args .from) / 4) (omega arith)
+          (k .ensures .1 .0) (c .before .before .before .if1 .left) refl),
     )
 
 pub checks-spec : {M : Type 1} → statement M
@@ -118,11 +115,10 @@ checks-spec =
     add-round
     shared-slice-read-round
     check-requires
-    code-requires
     add-next
     add-if2
     shared-slice-read-if3
-    sub-t28
+    sub-t27
     same-length
     returns
     loop-less

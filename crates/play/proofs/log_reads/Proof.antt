@@ -42,9 +42,6 @@ shared-slice-read-site c = search needs
 log-read-requires : tie.Need-log-read-requires Inv-loop μ-loop
 log-read-requires c κs = search needs
 
-code-requires : tie.Need-code-requires Inv-loop μ-loop
-code-requires c κs = search needs
-
 add-next : tie.Need-add-next Inv-loop μ-loop
 add-next c = search needs
 
@@ -53,25 +50,25 @@ add-if2 c = search needs
 
 shared-slice-read-if3 : tie.Need-shared-slice-read-if3 Inv-loop μ-loop
 shared-slice-read-if3 c =
-    let s = now (c .before .before .before .before .before .before .before .before .before .before .before .before .before .args .steps) in
-    let l = c .before .before .before .before .before .before .before .before .before .loop in
+    let s = now (c .before .before .before .before .before .before .before .before .before .before .before .before .args .steps) in
+    let l = c .before .before .before .before .before .before .before .before .loop in
     omega (arith, ltb-false (length s) (l .at + 2 + 2) (c .before .if2 .left))
 
-sub-t24 : tie.Need-sub-t24 Inv-loop μ-loop
-sub-t24 c = search needs
+sub-t23 : tie.Need-sub-t23 Inv-loop μ-loop
+sub-t23 c = search needs
 
 same-length : tie.Need-same-length Inv-loop μ-loop
 same-length c = search needs
 
 returns : tie.Need-returns Inv-loop μ-loop
 returns c =
-    let a = c .before .before .before .before .before .before .before .before .before .before .before in
+    let a = c .before .before .before .before .before .before .before .before .before .before in
     let s = now (a .args .steps) in
-    let l = c .before .before .before .before .before .before .before .loop in
-    let k = c .before .before .before .before .log-read in (
-      record { verdict = k .result; number = c .before .code .ensures; far = omega arith; inside = l .inv .2 },
+    let l = c .before .before .before .before .before .before .loop in
+    let k = c .before .before .before .log-read in (
+      record { verdict = k .ensures .0; number = k .ensures .1 .0; far = omega arith; inside = l .inv .2 },
       (λ sent. batch-ends (a .args .table) (a .args .entries) sent s (a .args .from) (now (a .args .sites)) ((l .at - a .args .from) / 2) (l .at) (l .sites) (l .inv .4 sent)
-          (reads-log-read s (l .at) (l .inv .3) (l .inv .2)) (k .result) _ (λ book log. k .ensures book log sent) (c .before .code .ensures) refl),
+          (reads-log-read s (l .at) (l .inv .3) (l .inv .2)) (k .ensures .0) _ (λ book log. k .ensures .1 .1 book log sent) (k .ensures .1 .0) refl),
     )
 
 loop-less : tie.Need-loop-less Inv-loop μ-loop
@@ -79,18 +76,18 @@ loop-less c = search needs
 
 loop-again : tie.Need-loop-again Inv-loop μ-loop
 loop-again c =
-    let a = c .before .before .before .before .before .before .before .before .before .before .before .before .before .before in
+    let a = c .before .before .before .before .before .before .before .before .before .before .before .before .before in
     let s = now (a .args .steps) in
-    let l = c .before .before .before .before .before .before .before .before .before .before .loop in
-    let k = c .before .before .before .before .before .before .before .log-read in
+    let l = c .before .before .before .before .before .before .before .before .before .loop in
+    let k = c .before .before .before .before .before .before .log-read in
     let h = ltb-false (length s) (l .at + 2 + 2) (c .before .before .if2 .left) in (
       k .kept .0 ∙ l .inv .0,
       omega arith,
       omega arith,
       eqb-true _ _ (not-false _ (c .if3 .left)),
       (λ sent. taken-more (a .args .table) (a .args .entries) sent s (a .args .from) (now (a .args .sites)) ((l .at - a .args .from) / 2) (l .at) (l .sites) (l .inv .4 sent)
-          (reads-log-read s (l .at) (l .inv .3) (l .inv .2)) (k .result) _ (λ book log. k .ensures book log sent) ((l .at + 2 - a .args .from) / 2) (omega arith)
-          (c .before .before .before .before .code .ensures) (c .before .before .before .if1 .left) refl),
+          (reads-log-read s (l .at) (l .inv .3) (l .inv .2)) (k .ensures .0) _ (λ book log. k .ensures .1 .1 book log sent) ((l .at + 2 - a .args .from) / 2) (omega arith)
+          (k .ensures .1 .0) (c .before .before .before .if1 .left) refl),
     )
 
 pub log-reads-spec : {M : Type 1} → statement M
@@ -103,11 +100,10 @@ log-reads-spec =
     add-site
     shared-slice-read-site
     log-read-requires
-    code-requires
     add-next
     add-if2
     shared-slice-read-if3
-    sub-t24
+    sub-t23
     same-length
     returns
     loop-less
