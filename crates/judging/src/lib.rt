@@ -112,7 +112,8 @@ fn walk(book: &[u8], places: &mut [u16]) -> Measured
 }
 
 // The book, the log's form and the site, for so many log entries: a judgement with 0, 1, 3 or 4, as one number. The places that a walk
-// through the book comes to are noted where there is room.
+// through the book comes to are noted where there is room. The book is lent to it anew (`&book[..]`), so that nothing is stored for it
+// in memory by a call that is refused before.
 fn note_lent(
     sites: usize,
     book: &[u8],
@@ -156,7 +157,14 @@ pub fn note_site(
     if first != 0 {
         return refused(first);
     }
-    let number = note_lent(sites, book, &site[..Site::SIZE], true, ANY_POSITION, places);
+    let number = note_lent(
+        sites,
+        &book[..],
+        &site[..Site::SIZE],
+        true,
+        ANY_POSITION,
+        places,
+    );
     unpack(number)
 }
 
@@ -192,7 +200,14 @@ pub fn note_and_count(
     }
     let whole = log.len() % Entry::BYTES == 0;
     let entries = log.len() / Entry::BYTES;
-    let number = note_lent(sites, book, &site[..Site::SIZE], whole, entries, places);
+    let number = note_lent(
+        sites,
+        &book[..],
+        &site[..Site::SIZE],
+        whole,
+        entries,
+        places,
+    );
     let judged = unpack(number);
     if judged.code != 0 {
         return judged;
