@@ -157,7 +157,8 @@ fn memory_of_calls(engines: &mut [Named], cases: &[Case]) -> Table {
 fn main() {
     let milliseconds = number("BENCH_MILLISECONDS", 1);
     let turns = number("BENCH_TURNS", 31).max(1) as usize;
-    let effort = Effort { turns, turn: Duration::from_millis(milliseconds) };
+    let overlap = number("BENCH_OVERLAP", 0) != 0;
+    let effort = Effort { turns, turn: Duration::from_millis(milliseconds), overlap };
     let mut bench = Bench::new(&text("BENCH_ROWS"));
     if processes::takes_times() {
         print!("{}", processes::to_text(&bench.times(effort)));
