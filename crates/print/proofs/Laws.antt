@@ -3,7 +3,7 @@
 use mathlib.Core.Bool.{Bool, true, false, cond}
 use mathlib.Core.Path.{_≡_, refl, sym, ap, subst, _∙_}
 use mathlib.Core.List.{List, [], _∷_, _++_, append-assoc, append-nil}
-use Prim.Native.Nat.{ℕ, zero, suc, _+_, _-_, _*_, _/_, _%_, _^_, _≤_, _<_}
+use Prim.Native.Nat.{ℕ, zero, suc, _+_, _-_, _/_, _%_, _^_, _≤_, _<_}
 use native.Mathlib.Nat.{pow-suc, div-lt-iff-lt-mul, le-div-iff-mul-le}
 use native.Mathlib.Decide.{decLt}
 use native.Mathlib.Numerals.{add-one}
@@ -14,7 +14,7 @@ use lib.IntN.{ℤ, pos, negsuc, natAbs}
 use lib.Signed.{ltZ}
 use lib.ListN.{length, take, drop, getD, set, length-append}
 use lib.Seq.{set-split, drop-at, take-all, take-take, take-append-le, length-take-le, paste, paste-suc, take-set-le}
-use Rattle.wire.specs.Wire.{bytes, splice}
+use Rattle.wire.specs.Wire.{splice}
 use Rattle.wire.proofs.Laws.{splice-none, splice-two, part-before, drop-after}
 use Rattle.print.specs.Print.{digits, widthTo, width, decimal, signedDecimal, Wrote}
 
@@ -152,7 +152,7 @@ four-parted n x =
     ∙ digits-parted (n + 2) x
     ∙ ap (λ (k : ℕ). digits k x) e
 
--- ---- a number of up to five digits, and a text before it
+-- ---- a number of up to four digits, and a text before it
 
 reaches : {a : ℕ} (k x : ℕ) → a ≡ cond (ltb k x) 1 0 → k < x → a ≡ 1
 reaches k x e h = e ∙ ap (λ b. cond b 1 0) (lt-ltb k x h)
@@ -160,25 +160,18 @@ reaches k x e h = e ∙ ap (λ b. cond b 1 0) (lt-ltb k x h)
 misses : {a : ℕ} (k x : ℕ) → a ≡ cond (ltb k x) 1 0 → x ≤ k → a ≡ 0
 misses k x e h = e ∙ ap (λ b. cond b 1 0) (le-ltb k x h)
 
--- A number below 100000 has a digit more for each of these that it is above.
-pub width-sum : (x : ℕ) → x < 100000 → {a b c d : ℕ} → a ≡ cond (ltb 9 x) 1 0 → b ≡ cond (ltb 99 x) 1 0 → c ≡ cond (ltb 999 x) 1 0 → d ≡ cond (ltb 9999 x) 1 0
-    → 1 + a + b + c + d ≡ width x
-width-sum x h ea eb ec ed =
+-- A number below 10000 has a digit more for each of these that it is above.
+pub width-sum : (x : ℕ) → x < 10000 → {a b c : ℕ} → a ≡ cond (ltb 9 x) 1 0 → b ≡ cond (ltb 99 x) 1 0 → c ≡ cond (ltb 999 x) 1 0 → 1 + a + b + c ≡ width x
+width-sum x h ea eb ec =
     elim (decLt 9 x) [
-      | no l ↦ omega (arith, width-one x (omega arith), misses 9 x ea (omega arith), misses 99 x eb (omega arith), misses 999 x ec (omega arith), misses 9999 x ed (omega arith))
+      | no l ↦ omega (arith, width-one x (omega arith), misses 9 x ea (omega arith), misses 99 x eb (omega arith), misses 999 x ec (omega arith))
       | yes k ↦
           elim (decLt 99 x) [
-            | no l ↦
-                omega (arith, width-between 1 x (omega arith) (omega arith), reaches 9 x ea k, misses 99 x eb (omega arith), misses 999 x ec (omega arith), misses 9999 x ed (omega arith))
+            | no l ↦ omega (arith, width-between 1 x (omega arith) (omega arith), reaches 9 x ea k, misses 99 x eb (omega arith), misses 999 x ec (omega arith))
             | yes k₁ ↦
                 elim (decLt 999 x) [
-                  | no l ↦
-                      omega (arith, width-between 2 x (omega arith) (omega arith), reaches 9 x ea k, reaches 99 x eb k₁, misses 999 x ec (omega arith), misses 9999 x ed (omega arith))
-                  | yes k₂ ↦
-                      elim (decLt 9999 x) [
-                        | no l ↦ omega (arith, width-between 3 x (omega arith) (omega arith), reaches 9 x ea k, reaches 99 x eb k₁, reaches 999 x ec k₂, misses 9999 x ed (omega arith))
-                        | yes k₃ ↦ omega (arith, width-between 4 x (omega arith) (omega arith), reaches 9 x ea k, reaches 99 x eb k₁, reaches 999 x ec k₂, reaches 9999 x ed k₃)
-                      ]
+                  | no l ↦ omega (arith, width-between 2 x (omega arith) (omega arith), reaches 9 x ea k, reaches 99 x eb k₁, misses 999 x ec (omega arith))
+                  | yes k₂ ↦ omega (arith, width-between 3 x (omega arith) (omega arith), reaches 9 x ea k, reaches 99 x eb k₁, reaches 999 x ec k₂)
                 ]
           ]
     ]
@@ -246,17 +239,6 @@ both {s} {s₁} {s₂} {at} {r₁} {r₂} {a} {b} h p q =
 pub wrote-parted : {s₁ s₂ s : List ℕ} {r₁ r₂ at : ℕ} (n x : ℕ) → at ≤ length s → Wrote s₁ r₁ s at (digits n (x / 10000)) → Wrote s₂ r₂ s₁ r₁ (digits 4 (x % 10000))
     → Wrote s₂ r₂ s at (digits (n + 4) x)
 wrote-parted {s₁} {s₂} {s} {r₁} {r₂} {at} n x h v w = subst (Wrote s₂ r₂ s at) (four-parted n x) (both h v w)
-
--- A number of five digits: the first as one byte, and the last four.
-pub wrote-five : {s s₁ s₂ : List ℕ} {r at : ℕ} (x : ℕ) → x < 100000 → at ≤ length s → s₁ ≡ splice s at (bytes 1 (48 + x / 10000))
-    → Wrote s₂ r s₁ (at + 1) (digits 4 (x - 10000 * (x / 10000))) → Wrote s₂ r s at (digits 5 x)
-unfolding digits bytes
-wrote-five {s} {s₁} {s₂} {r} {at} x l h e w =
-    let q : (48 + x / 10000) % 256 ≡ 48 + x / 10000 % 10 = omega arith in
-    let m : x - 10000 * (x / 10000) ≡ x % 10000 = omega arith in
-    wrote-parted {r₁ = at + 1} 1 x h
-    (record { end = refl; bytes = e ∙ ap (λ (b : ℕ). splice s at (b ∷ [])) q })
-    (subst (λ (y : ℕ). Wrote s₂ r s₁ (at + 1) (digits 4 y)) m w)
 
 -- A number of n digits written as k, leading zeros included, and a text over these.
 pub wrote-short : {s s₁ s₂ : List ℕ} {at from r₁ r₂ n : ℕ} (k x : ℕ) (t : List ℕ) → n ≡ width x → n ≤ k → k ≤ length t → from + k ≡ at + length t + n → at + length t + n ≤ length s

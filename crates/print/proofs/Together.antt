@@ -2,17 +2,20 @@
 -- Assumes nothing.
 use mathlib.Core.Path.{_≡_, refl, sym, ap, subst, _∙_}
 use mathlib.Core.List.{List, [], _∷_, _++_}
-use Prim.Native.Nat.{ℕ, suc, _+_, _-_, _*_, _/_, _%_, _≤_, _<_}
+use Prim.Native.Nat.{ℕ, suc, _+_, _-_, _*_, _/_, _%_, _<_}
 use native.Mathlib.Omega.{arith}
-use lib.ListN.{length}
 use Rattle.wire.specs.Wire.{bytes, splice}
 use Rattle.print.specs.Ascii.{ascii}
 use Rattle.print.specs.Print.{digits, decimal, Wrote}
 use Rattle.print.proofs.Laws.{width-one, length-digits}
 
+-- The hundreds of x, which is below 10000.
+abbrev pub headOf : ℕ → ℕ
+headOf x = x * 5243 / 524288
+
 -- The two pairs of digits of x, 16 bits apart.
 abbrev pub pairsOf : ℕ → ℕ
-pairsOf x = x / 100 + 65536 * (x % 100)
+pairsOf x = headOf x + 65536 * (x - 100 * headOf x)
 
 -- The tens of two pairs, 16 bits apart.
 abbrev pub tensOf : ℕ → ℕ
@@ -20,7 +23,7 @@ tensOf p = p * 103 / 1024 % 16 + 65536 * (p * 103 / 1024 / 65536)
 
 -- Each digit in a byte of its own, 48 more.
 abbrev pub fourOf : ℕ → ℕ
-fourOf x = 808464432 + tensOf (pairsOf x) + 256 * (pairsOf x - 10 * tensOf (pairsOf x))
+fourOf x = 808464432 + 256 * pairsOf x - 2559 * tensOf (pairsOf x)
 
 low-byte : (n b x : ℕ) → b < 256 → bytes (suc n) (b + 256 * x) ≡ b ∷ bytes n x
 unfolding bytes
@@ -61,10 +64,10 @@ module _ (a b c d : ℕ) (la : a < 10) (lb : b < 10) (lc : c < 10) (ld : d < 10)
       let high : (a + 6592 * (10 * c + d)) / 65536 ≡ c = omega arith in
       (λ i. t i % 16 + 65536 * (t i / 65536)) ∙ (λ i. low i + 65536 * high i)
 
-  word-parted : (w : ℕ) → w ≡ 808464432 + (a + 65536 * c) + 256 * (b + 65536 * d) → bytes 4 w ≡ (48 + a) ∷ (48 + b) ∷ (48 + c) ∷ (48 + d) ∷ []
+  word-parted : (p t : ℕ) → p ≡ 10 * a + b + 65536 * (10 * c + d) → t ≡ a + 65536 * c → bytes 4 (808464432 + 256 * p - 2559 * t) ≡ (48 + a) ∷ (48 + b) ∷ (48 + c) ∷ (48 + d) ∷ []
   unfolding bytes
-  word-parted w e =
-      let q : w ≡ 48 + a + 256 * (48 + b + 256 * (48 + c + 256 * (48 + d + 256 * 0))) = omega arith in
+  word-parted p t ep et =
+      let q : 808464432 + 256 * p - 2559 * t ≡ 48 + a + 256 * (48 + b + 256 * (48 + c + 256 * (48 + d + 256 * 0))) = omega arith in
       ap (bytes 4) q
       ∙ low-byte 3 (48 + a) (48 + b + 256 * (48 + c + 256 * (48 + d + 256 * 0))) (omega arith)
       ∙ ap (λ (l : List ℕ). (48 + a) ∷ l) (low-byte 2 (48 + b) (48 + c + 256 * (48 + d + 256 * 0)) (omega arith))
@@ -87,17 +90,17 @@ module _ (x : ℕ) (h : x < 10000) where
   small : (a < 10) × (b < 10) × (c < 10) × (d < 10)
   small = (omega arith, omega arith, omega arith, omega arith)
 
+  hundredths : headOf x ≡ x / 100
+  hundredths = omega arith
+
   pairs-parted : pairsOf x ≡ 10 * a + b + 65536 * (10 * c + d)
   pairs-parted =
       let high : x / 100 ≡ 10 * a + b = omega arith in
-      let low : x % 100 ≡ 10 * c + d = omega arith in
-      λ i. high i + 65536 * low i
+      let low : x - 100 * (x / 100) ≡ 10 * c + d = omega arith in
+      (λ i. hundredths i + 65536 * (x - 100 * hundredths i)) ∙ (λ i. high i + 65536 * low i)
 
   tens-told : tensOf (pairsOf x) ≡ a + 65536 * c
   tens-told = ap tensOf pairs-parted ∙ tens-parted a b c d (small .0) (small .1) (small .2) (small .3)
-
-  pub tens-below : 10 * tensOf (pairsOf x) ≤ pairsOf x
-  tens-below = omega (arith, tens-told, pairs-parted)
 
   hundreds : x / 100 ≡ x / 10 / 10
   hundreds = omega arith
@@ -107,16 +110,13 @@ module _ (x : ℕ) (h : x < 10000) where
       let one : x / 100 / 10 ≡ x / 100 / 10 % 10 = omega arith in
       one ∙ ap (λ (y : ℕ). y / 10 % 10) hundreds
 
-  ones-told : pairsOf x - 10 * tensOf (pairsOf x) ≡ b + 65536 * d
-  ones-told = omega (arith, tens-told, pairs-parted)
-
   last-two : (c ≡ x / 10 % 10) × (d ≡ x % 10)
   last-two = (omega arith, omega arith)
 
   four-digits : bytes 4 (fourOf x) ≡ digits 4 x
   unfolding digits
   four-digits =
-      word-parted a b c d (small .0) (small .1) (small .2) (small .3) (fourOf x) (λ i. 808464432 + tens-told i + 256 * ones-told i)
+      word-parted a b c d (small .0) (small .1) (small .2) (small .3) (pairsOf x) (tensOf (pairsOf x)) pairs-parted tens-told
       ∙ (λ i. (48 + thousands i) ∷ (48 + hundreds i % 10) ∷ (48 + last-two .0 i) ∷ (48 + last-two .1 i) ∷ [])
 
 pub wrote-four : {s₁ s : List ℕ} {at : ℕ} (x : ℕ) → x < 10000 → s₁ ≡ splice s at (bytes 4 (fourOf x)) → Wrote s₁ (at + 4) s at (digits 4 x)

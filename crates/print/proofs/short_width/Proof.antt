@@ -24,16 +24,10 @@ one-requires-3 c κs = search needs
 add-result-3 : tie.Need-add-result-3
 add-result-3 c = omega (arith, c .before .before .one .ensures .1, c .before .one2 .ensures .1, c .one3 .ensures .1)
 
-one-requires-4 : tie.Need-one-requires-4
-one-requires-4 c κs = search needs
-
-add-result-4 : tie.Need-add-result-4
-add-result-4 c = omega (arith, c .before .before .before .one .ensures .1, c .before .before .one2 .ensures .1, c .before .one3 .ensures .1, c .one4 .ensures .1)
-
 returns : tie.Need-returns
 returns c =
-    let o = c .before .before .before .before in
-    width-sum (o .args .x) (o .pre) (c .before .before .before .one .ensures .0) (c .before .before .one2 .ensures .0) (c .before .one3 .ensures .0) (c .one4 .ensures .0)
+    let o = c .before .before .before in
+    width-sum (o .args .x) (o .pre) (c .before .before .one .ensures .0) (c .before .one2 .ensures .0) (c .one3 .ensures .0)
 
 pub short-width-spec : {M : Type 1} → statement M
 short-width-spec =
@@ -45,6 +39,4 @@ short-width-spec =
     add-result-2
     one-requires-3
     add-result-3
-    one-requires-4
-    add-result-4
     returns)
