@@ -1,4 +1,4 @@
-// Steps 08 and 0A: a correct site delivers a command fast, or ends its round.
+// Steps 08 and 0A: a correct site delivers a command fast, or ends its round. What answers a step is the number of its verdict.
 ghost use mathlib.Core.Path.{_≡_};
 ghost use mathlib.Core.Bool.{true};
 ghost use mathlib.Core.List.{List};
@@ -15,7 +15,7 @@ ghost use Rattle.entries.specs.Entries.{logTo};
 ghost use Rattle.deliver.specs.Delivering.{Noted};
 ghost use Rattle.ending.specs.Ending.{HasRoom, RoundEnded};
 ghost use Rattle.world.specs.World.{siteAt};
-ghost use Rattle.world.specs.Parts.{AtSite};
+ghost use Rattle.world.specs.Parts.{AtSite, Coded};
 ghost use Rattle.closings.specs.Closings.{GoodSites, KeptLog, RoomToEnd, FastAt, Closed};
 use layout::Site;
 use recovery::Decision;
@@ -53,18 +53,18 @@ pub fn fast_delivery(
     commands: usize,
     site: u8,
     command: u8,
-) -> Verdict
+) -> u32
     requires { ⌜ GoodSites table commands (now sites) × (isGood table ≡ true) × Roles table (now roles) × Noted (now book) (now places) × (length (commandsOf (now book)) ≡ commands) ⌝ }
-    ensures { λ v. ⌜ ((log : List ℕ) (entries : ℕ) → Closed table (commandsOf (now (book .entry))) (protocol.fastDelivery site command) log entries (now (sites .entry)) v (now (sites .exit))) ⌝ }
+    ensures { λ r. ⌜ Coded (λ v. ((log : List ℕ) (entries : ℕ) → Closed table (commandsOf (now (book .entry))) (protocol.fastDelivery site command) log entries (now (sites .entry)) v (now (sites .exit)))) r ⌝ }
 {
     let m = command as usize;
     if m >= commands {
-        return Verdict::Refused(Refusal::Range);
+        return refusals::number(Refusal::Range);
     }
     if !roles::is_correct(roles, site) {
-        return Verdict::Refused(roles::refusal(roles, site, true));
+        return refusals::number(roles::refusal(roles, site, true));
     }
-    fast_at(sites, table, book, places, commands, site as usize, m)
+    refusals::code(fast_at(sites, table, book, places, commands, site as usize, m))
 }
 
 // The round of site i ends with the decided sets, or the step is refused. In a run there is room for them.
@@ -107,21 +107,21 @@ pub fn round_end(
     places: &[u16],
     commands: usize,
     site: u8,
-) -> Verdict
+) -> u32
     requires { ⌜ GoodSites table commands (now sites) × ((log : List ℕ) × (entries : ℕ) × KeptLog table (now book) (now sites) log entries (now kept) × RoomToEnd table (commandsOf (now book)) (now sites) (logTo log entries) site)
         × (isGood table ≡ true) × Roles table (now roles) × Noted (now book) (now places) × (length (commandsOf (now book)) ≡ commands) ⌝ }
-    ensures { λ v. ⌜ ((log : List ℕ) (entries : ℕ) → KeptLog table (now (book .entry)) (now (sites .entry)) log entries (now (kept .entry))
-        → Closed table (commandsOf (now (book .entry))) (protocol.roundEnd site) log entries (now (sites .entry)) v (now (sites .exit))) ⌝ }
+    ensures { λ r. ⌜ Coded (λ v. ((log : List ℕ) (entries : ℕ) → KeptLog table (now (book .entry)) (now (sites .entry)) log entries (now (kept .entry))
+        → Closed table (commandsOf (now (book .entry))) (protocol.roundEnd site) log entries (now (sites .entry)) v (now (sites .exit)))) r ⌝ }
 {
     if !roles::is_correct(roles, site) {
-        return Verdict::Refused(roles::refusal(roles, site, true));
+        return refusals::number(roles::refusal(roles, site, true));
     }
     let i = site as usize;
     let position = world::position_of(&sites[..], i);
     let round = world::round_of(&sites[..], i);
     let decision = rounds::decision(kept, round, position);
     match decision {
-        Decision::Undecided => end_at(
+        Decision::Undecided => refusals::code(end_at(
             sites,
             book,
             places,
@@ -130,11 +130,11 @@ pub fn round_end(
             false,
             Set::empty(),
             Set::empty(),
-        ),
+        )),
         Decision::Decided(sets) => {
             let nc = sets.nc;
             let c = sets.c;
-            end_at(sites, book, places, commands, i, true, nc, c)
+            refusals::code(end_at(sites, book, places, commands, i, true, nc, c))
         }
     }
 }

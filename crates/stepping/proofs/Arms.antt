@@ -8,8 +8,6 @@ use native.Mathlib.Omega.{arith}
 use lib.ListN.{length, getD}
 use denote.Enum.Declared as Declared
 use types.Run.{OneOf, miss}
-use Rattle.refusals.specs.Refusals.{codeOf}
-use Rattle.refusals.specs.declared.Verdict.{Verdict}
 use Rattle.theory.specs.Counting.{never}
 use Rattle.sets.specs.Sets.{capacity}
 use Rattle.table.specs.declared.SiteTable.{SiteTable}
@@ -24,7 +22,7 @@ use Rattle.steps.specs.Meaning.{meaning}
 use Rattle.steps.proofs.Step as declared
 use Rattle.protocol.specs.World as protocol
 use Rattle.world.specs.World.{Buffers, GoodWorld, Outcome, Answered}
-use Rattle.world.specs.Parts.{lent, Arrived, Coded}
+use Rattle.world.specs.Parts.{Arrived, Coded}
 use Rattle.moves.specs.Moves.{Ready}
 use Rattle.closings.specs.Closings.{GoodSites, KeptLog}
 use Rattle.stepping.specs.Kinds.{arrives}
@@ -65,11 +63,9 @@ arrived t commands sent sites after {n = n} e h k = subst (λ (x : Step). Coded 
 pub arm : (t : SiteTable) (book : List Command) (b after : Buffers) {u v : Step} {n : ℕ} → u ≡ v → Answered t book (meaning v) b n after → Answered t book (meaning u) b n after
 arm t book b after {n = n} e h = subst (λ (x : Step). Answered t book (meaning x) b n after) (sym e) h
 
--- A verdict as a number, of a step that appends nothing to the log.
-pub numbered : (t : SiteTable) (book : List Command) (b : Buffers) (sites log sent : List ℕ) (entries : ℕ) {u : protocol.Step} {v : Verdict} {n k : ℕ} → (n ≡ codeOf v) × (k ≡ entries)
-    → Outcome t book u b v (lent sites log entries sent) → Answered t book u b n (lent sites log k sent)
-numbered t book b sites log sent entries {u} {v} {n} e h =
-    subst (λ (k : ℕ). Answered t book u b n (lent sites log k sent)) (sym (e .1)) (record { verdict = v; number = e .0; outcome = h })
+-- The number of a verdict answers.
+pub numbered : (t : SiteTable) (book : List Command) (b after : Buffers) {u : protocol.Step} {n : ℕ} → Coded (λ v. Outcome t book u b v after) n → Answered t book u b n after
+numbered t book b after h = record { verdict = h .0; number = h .1 .0; outcome = h .1 .1 }
 
 pub ready-as : (t : SiteTable) (book rows : List ℕ) (b : Buffers) {u v : Step} → u ≡ v → Ready t book rows b (meaning u) → Ready t book rows b (meaning v)
 ready-as t book rows b e h = subst (λ (x : Step). Ready t book rows b (meaning x)) e h

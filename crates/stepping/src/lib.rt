@@ -1,10 +1,9 @@
-// One step of a run on lent buffers: each kind is carried out by its function.
+// One step of a run on lent buffers: each kind is carried out by its function. What answers a step is the number of its verdict.
 ghost use mathlib.Core.Path.{_≡_};
 ghost use mathlib.Core.Bool.{true, false};
 ghost use Prim.Native.Nat.{_+_, _*_, _≤_, _<_};
 ghost use lib.ListN.{length};
 ghost use Rattle.sets.specs.Sets.{capacity, inSet};
-ghost use Rattle.refusals.specs.Refusals.{codeOf};
 ghost use Rattle.table.specs.Table.{isGood, faultyOf};
 ghost use Rattle.roles.specs.Roles.{Roles};
 ghost use Rattle.commands.specs.Book.{commandsOf};
@@ -20,7 +19,6 @@ ghost use Rattle.world.specs.Parts.{lent, Arrived, Coded};
 ghost use Rattle.moves.specs.Moves.{Ready};
 ghost use Rattle.stepping.specs.Kinds.{arrives};
 use refusals::Refusal;
-use refusals::Verdict;
 use steps::Step;
 use table::SiteTable;
 use world::Stepped;
@@ -77,14 +75,6 @@ fn arrive(
     }
 }
 
-// What a step answers that is given a verdict and appends nothing to the log.
-fn answered(verdict: Verdict, entries: usize) -> Stepped
-    ensures { λ r. ⌜ (r .code ≡ codeOf verdict) × (r .entries ≡ entries) ⌝ }
-{
-    let code = refusals::code(verdict);
-    Stepped { code, entries }
-}
-
 // A step is judged, and carried out where it is taken, by what is kept of the log.
 fn act(
     sites: &mut [u8],
@@ -120,7 +110,7 @@ fn act(
         ),
         Step::Turn { site } => moves::turn(sites, log, sent, entries, table, roles, rows, site),
         Step::FastDelivery { site, command } => {
-            let verdict = closings::fast_delivery(
+            let code = closings::fast_delivery(
                 sites,
                 table,
                 roles,
@@ -130,24 +120,15 @@ fn act(
                 site,
                 command,
             );
-            answered(verdict, entries)
+            Stepped { code, entries }
         }
         Step::LogRead { site } => {
             let code = moves::log_read(sites, entries, table, roles, site);
             Stepped { code, entries }
         }
         Step::RoundEnd { site } => {
-            let verdict = closings::round_end(
-                sites,
-                kept,
-                table,
-                roles,
-                book,
-                places,
-                commands,
-                site,
-            );
-            answered(verdict, entries)
+            let code = closings::round_end(sites, kept, table, roles, book, places, commands, site);
+            Stepped { code, entries }
         }
         _ => {
             let code = arrive(sites, &sent[..], table, roles, commands, step);

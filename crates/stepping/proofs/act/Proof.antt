@@ -4,7 +4,7 @@ use borrow.Author.Needs.{needs}
 use denote.Ref.{now}
 use native.Mathlib.Omega.{arith}
 use Rattle.commands.specs.Book.{commandsOf}
-use mathlib.Core.Path.{refl, sym}
+use mathlib.Core.Path.{sym}
 use Rattle.world.specs.Parts.{lent}
 use Rattle.stepping.proofs.Arms.{is-arrival, arm, numbered, ready-as, good-sites, kept-log, few}
 use Rattle.stepping.proofs.act.Statement.{statement}
@@ -56,12 +56,6 @@ arrive-requires c κs =
     let o = c .before .before .before .before .before .before .before .before .before .before .before in
     (o .pre .0 .world .size, o .pre .0 .table, o .pre .2, o .pre .0 .world .sent, few (o .args .table) (now (o .args .book)) (o .args .commands) (lent (now (o .args .sites)) (now (o .args .log)) (o .args .entries) (now (o .args .sent))) (o .pre .3) (o .pre .0 .world))
 
-answered-requires : tie.Need-answered-requires
-answered-requires c κs = search needs
-
-answered-requires-2 : tie.Need-answered-requires-2
-answered-requires-2 c κs = search needs
-
 same-length : tie.Need-same-length
 same-length c = search needs
 
@@ -89,8 +83,9 @@ same-length-5 c = search needs
 
 returns-3 : tie.Need-returns-3
 returns-3 c =
-    let o = c .before .before .before .before .before .before .before .before .before .before .before .before .before .before .before .before in
-    arm (o .args .table) (commandsOf (now (o .args .book))) (lent (now (o .args .sites)) (now (o .args .log)) (o .args .entries) (now (o .args .sent))) _ (c .before .before .before .before .before .before .step3 .given .1) (numbered (o .args .table) (commandsOf (now (o .args .book))) (lent (now (o .args .sites)) (now (o .args .log)) (o .args .entries) (now (o .args .sent))) _ _ _ (o .args .entries) (c .answered .ensures) (c .before .before .before .fast-delivery .ensures (now (o .args .log)) (o .args .entries) (now (o .args .sent)) (o .pre .0 .world)))
+    let o = c .before .before .before .before .before .before .before .before .before .before .before .before .before .before .before in
+    let h = c .before .before .fast-delivery .ensures in
+    arm (o .args .table) (commandsOf (now (o .args .book))) (lent (now (o .args .sites)) (now (o .args .log)) (o .args .entries) (now (o .args .sent))) _ (c .before .before .before .before .before .step3 .given .1) (numbered (o .args .table) (commandsOf (now (o .args .book))) (lent (now (o .args .sites)) (now (o .args .log)) (o .args .entries) (now (o .args .sent))) _ (h .0, (h .1 .0, h .1 .1 (now (o .args .log)) (o .args .entries) (now (o .args .sent)) (o .pre .0 .world))))
 
 same-length-6 : tie.Need-same-length-6
 same-length-6 c = search needs
@@ -99,7 +94,7 @@ returns-4 : tie.Need-returns-4
 returns-4 c =
     let o = c .before .before .before .before .before .before .before .before .before .before .before .before .before .before .before in
     let h = c .before .before .log-read .ensures in
-    arm (o .args .table) (commandsOf (now (o .args .book))) (lent (now (o .args .sites)) (now (o .args .log)) (o .args .entries) (now (o .args .sent))) _ (c .before .before .before .before .before .step4 .given .1) (numbered (o .args .table) (commandsOf (now (o .args .book))) (lent (now (o .args .sites)) (now (o .args .log)) (o .args .entries) (now (o .args .sent))) _ _ _ (o .args .entries) (h .1 .0, refl) (h .1 .1 (commandsOf (now (o .args .book))) (now (o .args .log)) (now (o .args .sent)) (o .pre .0 .world) (o .pre .0 .twice)))
+    arm (o .args .table) (commandsOf (now (o .args .book))) (lent (now (o .args .sites)) (now (o .args .log)) (o .args .entries) (now (o .args .sent))) _ (c .before .before .before .before .before .step4 .given .1) (numbered (o .args .table) (commandsOf (now (o .args .book))) (lent (now (o .args .sites)) (now (o .args .log)) (o .args .entries) (now (o .args .sent))) _ (h .0, (h .1 .0, h .1 .1 (commandsOf (now (o .args .book))) (now (o .args .log)) (now (o .args .sent)) (o .pre .0 .world) (o .pre .0 .twice))))
 
 same-length-7 : tie.Need-same-length-7
 same-length-7 c = search needs
@@ -109,8 +104,9 @@ same-length-8 c = search needs
 
 returns-5 : tie.Need-returns-5
 returns-5 c =
-    let o = c .before .before .before .before .before .before .before .before .before .before .before .before .before .before .before .before in
-    arm (o .args .table) (commandsOf (now (o .args .book))) (lent (now (o .args .sites)) (now (o .args .log)) (o .args .entries) (now (o .args .sent))) _ (c .before .before .before .before .before .before .step5 .given .1) (numbered (o .args .table) (commandsOf (now (o .args .book))) (lent (now (o .args .sites)) (now (o .args .log)) (o .args .entries) (now (o .args .sent))) _ _ _ (o .args .entries) (c .answered2 .ensures) (c .before .before .before .round-end .ensures (now (o .args .log)) (o .args .entries) (kept-log (o .args .table) (now (o .args .book)) (o .args .commands) (lent (now (o .args .sites)) (now (o .args .log)) (o .args .entries) (now (o .args .sent))) (o .pre .3) (o .pre .0 .world) (o .pre .0 .conflicts) (λ k. c .before .before .before .before .before .before .before .before .before .before .before .before .before .before .slice-known2 .given k .fits) (o .pre .4)) (now (o .args .sent)) (o .pre .0 .world)))
+    let o = c .before .before .before .before .before .before .before .before .before .before .before .before .before .before .before in
+    let h = c .before .before .round-end .ensures in
+    arm (o .args .table) (commandsOf (now (o .args .book))) (lent (now (o .args .sites)) (now (o .args .log)) (o .args .entries) (now (o .args .sent))) _ (c .before .before .before .before .before .step5 .given .1) (numbered (o .args .table) (commandsOf (now (o .args .book))) (lent (now (o .args .sites)) (now (o .args .log)) (o .args .entries) (now (o .args .sent))) _ (h .0, (h .1 .0, h .1 .1 (now (o .args .log)) (o .args .entries) (kept-log (o .args .table) (now (o .args .book)) (o .args .commands) (lent (now (o .args .sites)) (now (o .args .log)) (o .args .entries) (now (o .args .sent))) (o .pre .3) (o .pre .0 .world) (o .pre .0 .conflicts) (λ k. c .before .before .before .before .before .before .before .before .before .before .before .before .before .slice-known2 .given k .fits) (o .pre .4)) (now (o .args .sent)) (o .pre .0 .world))))
 
 same-length-9 : tie.Need-same-length-9
 same-length-9 c = search needs
@@ -119,7 +115,7 @@ returns-6 : tie.Need-returns-6
 returns-6 c =
     let o = c .before .before .before .before .before .before .before .before .before .before .before .before .before .before in
     let h = c .before .before .arrive .ensures (is-arrival (o .args .step) (c .before .before .before .before .before .match .keys6)) in
-    numbered (o .args .table) (commandsOf (now (o .args .book))) (lent (now (o .args .sites)) (now (o .args .log)) (o .args .entries) (now (o .args .sent))) _ _ _ (o .args .entries) (h .1 .0, refl) (h .1 .1 (commandsOf (now (o .args .book))) (now (o .args .log)) (o .args .entries) (sym (o .pre .3)) (o .pre .0 .world))
+    numbered (o .args .table) (commandsOf (now (o .args .book))) (lent (now (o .args .sites)) (now (o .args .log)) (o .args .entries) (now (o .args .sent))) _ (h .0, (h .1 .0, h .1 .1 (commandsOf (now (o .args .book))) (now (o .args .log)) (o .args .entries) (sym (o .pre .3)) (o .pre .0 .world)))
 
 pub act-spec : {M : Type 1} → statement M
 act-spec =
@@ -131,12 +127,10 @@ act-spec =
     turn-requires
     enum-known-step-3
     fast-delivery-requires
-    answered-requires
     enum-known-step-4
     log-read-requires
     enum-known-step-5
     round-end-requires
-    answered-requires-2
     arrive-requires
     same-length
     returns
