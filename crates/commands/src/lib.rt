@@ -19,7 +19,7 @@ pub const MAX_COMMANDS: usize = 64;
 const LONGEST: usize = 10;
 
 // A book of more bytes has too many commands.
-const MOST_BYTES: usize = MAX_COMMANDS * LONGEST;
+pub const MOST_BYTES: usize = MAX_COMMANDS * LONGEST;
 
 // What stands at the front of some bytes.
 pub enum Reading {

@@ -1,7 +1,7 @@
 -- What the judges of the first demands, of a lent site and of a lent log answer, one law an answer, and what a site that passed is.
 -- Assumes nothing.
 use mathlib.Core.Path.{_≡_, refl, sym, ap, subst, _∙_}
-use mathlib.Core.Bool.{Bool, true, false, cond, not, _&&_}
+use mathlib.Core.Bool.{Bool, true, false, cond, not, _&&_, _||_}
 use mathlib.Core.List.{List, [], _∷_}
 use Prim.Native.Nat.{ℕ, _*_, _/_, _%_, _≤_, _<_}
 use native.Mathlib.Omega.{arith}
@@ -76,6 +76,11 @@ pub book-empty : (s : List ℕ) → length s ≡ 0 → 0 ≡ codeOf (verdict (fo
 unfolding measureBook
 book-empty [] h = book-counted [] refl
 book-empty (x ∷ s) h = absurd (omega arith)
+
+-- Of two of which one holds, the second where the first does not.
+pub second : (a b : Bool) → (a || b) ≡ true → a ≡ false → b ≡ true
+second true b h e = absurd (never true refl e)
+second false b h e = h
 
 pub book-refused : (s : List ℕ) → measureBook s ≡ Unreadable → 1 ≡ codeOf (verdict (forBook s))
 book-refused s h = λ i. codeOf (verdict (isTaken (not-counted s h .0 i) else Book ⨾ granted))

@@ -55,12 +55,13 @@ fn refused(code: u32) -> Judgement
     Judgement { code, commands: 0 }
 }
 
-// Whether bytes are a book: 0 or 1. One without a command is told at once.
+// Whether bytes are a book: 0 or 1. No bytes, and more than any book has, are told at once.
 pub fn judge_book(book: &[u8]) -> u32
     ensures { λ r. ⌜ r ≡ codeOf (verdict (forBook (now (book .entry)))) ⌝ }
 {
-    if book.len() == 0 {
-        return 0;
+    let n = book.len();
+    if (n == 0) | (n > commands::MOST_BYTES) {
+        return if n == 0 { 0 } else { REFUSED_BOOK };
     }
     let measured = commands::measure(book);
     match measured {
