@@ -57,6 +57,17 @@ fn turn_of(program: &mut dyn Measured, workload: &Workload, times: usize) -> Tur
     turn
 }
 
+/// Where something is taken off, so many times more turns are timed: what is left is a small part of what is timed.
+const TURNS_OF_DIFFERENCES: usize = 5;
+
+fn turns_of(workload: &Workload, effort: Effort) -> usize {
+    if workload.before.is_empty() {
+        effort.turns
+    } else {
+        effort.turns * TURNS_OF_DIFFERENCES
+    }
+}
+
 /// The best time counts. Where something is taken off, the middle one of the turns' differences counts: a difference
 /// of two best times, of different turns, can come out as nearly nothing.
 fn seconds(turns: &[Turn], has_before: bool) -> f64 {
@@ -72,7 +83,7 @@ pub fn nanoseconds(programs: &mut [Box<dyn Measured>], workload: &Workload, effo
         times.push(times_in_turn(program.as_mut(), &workload.runs, effort.turn));
     }
     let mut turns = vec![Vec::new(); programs.len()];
-    for turn in 0..effort.turns {
+    for turn in 0..turns_of(workload, effort) {
         for place in 0..programs.len() {
             // Each turn starts with another program.
             let which = (place + turn) % programs.len();
