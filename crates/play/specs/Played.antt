@@ -2,7 +2,7 @@
 -- Assumes nothing.
 use mathlib.Core.Path.{_≡_}
 use mathlib.Core.Bool.{true}
-use mathlib.Core.List.{List}
+use mathlib.Core.List.{List, []}
 use Prim.Native.Nat.{ℕ, _+_, _*_, _/_, _≤_, _<_}
 use lib.ListN.{length}
 use Rattle.table.specs.declared.SiteTable.{SiteTable}
@@ -31,27 +31,20 @@ linesRoom = maxRun / 2 * lineRoom
 abbrev pub logRoom : ℕ
 logRoom = maxSites * (lastRound * 2) + 1
 
+-- Buffers in a run: these steps led to the world that they hold.
+pub record Midway (t : SiteTable) (book places rows : List ℕ) (commands : ℕ) (steps : List ℕ) (past : List Step) (b : Buffers) : Type 0 where
+  pub good : isGood t ≡ true
+  pub short : length steps < maxRun
+  pub log : logRoom * entrySize ≤ length (b .log)
+  pub noted : Noted book places
+  pub conflicts : rows ≡ conflictRows book
+  pub counted : length (commandsOf book) ≡ commands
+  pub world : HoldsWorld t (commandsOf book) b (play (dash t (commandsOf book)) (start (dash t (commandsOf book))) past)
+
 -- Buffers at the start of a run, with room for what the steps of the run write.
 pub record Playable (t : SiteTable) (book places rows : List ℕ) (commands : ℕ) (steps out : List ℕ) (from : ℕ) (b : Buffers) : Type 0 where
-  pub good : isGood t ≡ true
-  pub short : length steps < maxRun
   pub room : from + linesRoom ≤ length out
-  pub log : logRoom * entrySize ≤ length (b .log)
-  pub noted : Noted book places
-  pub conflicts : rows ≡ conflictRows book
-  pub counted : length (commandsOf book) ≡ commands
-  pub world : HoldsWorld t (commandsOf book) b (start (dash t (commandsOf book)))
-
--- Buffers in the middle of a run: some steps led to the world that they hold.
-pub record Midway (t : SiteTable) (book places rows : List ℕ) (commands : ℕ) (steps : List ℕ) (b : Buffers) : Type 0 where
-  pub good : isGood t ≡ true
-  pub short : length steps < maxRun
-  pub log : logRoom * entrySize ≤ length (b .log)
-  pub noted : Noted book places
-  pub conflicts : rows ≡ conflictRows book
-  pub counted : length (commandsOf book) ≡ commands
-  pub past : List Step
-  pub world : HoldsWorld t (commandsOf book) b (play (dash t (commandsOf book)) (start (dash t (commandsOf book))) past)
+  pub held : Midway t book places rows commands steps [] b
 
 -- Steps played from the start of a run: `before` became `after` by the lines of the refused ones, written from `from` to `end`.
 -- What is past the rows of the sites is as it was in `earlier`.

@@ -8,6 +8,7 @@ ghost use Rattle.table.specs.Table.{isGood};
 ghost use Rattle.commands.specs.Book.{commandsOf};
 ghost use Rattle.refusals.specs.declared.Verdict.{Verdict};
 ghost use Rattle.refusals.specs.Refusals.{codeOf};
+ghost use Rattle.protocol.specs.World as protocol;
 ghost use Rattle.print.specs.Print.{Wrote};
 ghost use Rattle.runs.specs.Run as runs;
 ghost use Rattle.runs.specs.Run.{maxRun};
@@ -223,7 +224,7 @@ fn play_next(
     steps: &[u8],
     at: usize,
 ) -> Next
-    requires { ⌜ Midway table (now book) (now places) (now rows) commands (now steps) (lent (now sites) (now log) entries (now sent))
+    requires { ⌜ ((past : List protocol.Step) × Midway table (now book) (now places) (now rows) commands (now steps) past (lent (now sites) (now log) entries (now sent)))
         × Roles table (now roles) × Kept table (now rows) (now log) entries (now kept) × (at < length (now steps)) ⌝ }
     ensures { λ r. ⌜ PlayedNext table (commandsOf (now (book .entry))) (now (steps .entry)) at (lent (now (sites .entry)) (now (log .entry)) entries (now (sent .entry)))
         (r .batch) (lent (now (sites .exit)) (now (log .exit)) (r .entries) (now (sent .exit)))

@@ -1,9 +1,9 @@
 -- `judging::judge_book`: no bytes are a book, too many are none, and others are judged by what was measured.
 -- Assumes nothing.
 use mathlib.Core.Path.{sym, _∙_}
+use Prim.Native.Nat.{_<_}
 use native.Mathlib.Omega.{arith}
 use denote.Ref.{now}
-use lib.Dec.{eqb, ltb}
 use lib.ListN.{length}
 use Rattle.commands.proofs.Walk.{measure-long}
 use Rattle.judging.proofs.Laws.{second, book-empty, book-counted, book-refused}
@@ -18,7 +18,8 @@ returns c = book-empty (now (c .before .before .before .args .book)) (omega (ari
 returns-2 : tie.Need-returns-2
 returns-2 c =
     let s = now (c .before .before .before .args .book) in
-    book-refused s (sym (measure-long s (omega (arith, ltb-true 640 (length s) (second (eqb (length s) 0) (ltb 640 (length s)) (c .before .if1 .taken) (ne-eqb (length s) 0 (c .if2 .left)))))))
+    let more : 640 < length s = ltb-true 640 (length s) (second _ _ (c .before .if1 .taken) (ne-eqb (length s) 0 (c .if2 .left))) in
+    book-refused s (sym (measure-long s (omega (arith, more))))
 
 measure-requires : tie.Need-measure-requires
 measure-requires c κs = search needs

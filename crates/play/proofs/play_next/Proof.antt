@@ -40,7 +40,7 @@ returns c =
 play-batch-requires : tie.Need-play-batch-requires
 play-batch-requires c κs =
     let a = c .before .before .before .before .before .before .before .before .before .before .before .before .before .before .before in
-    let m = a .pre .0 in
+    let m = a .pre .0 .1 in
     let w = m .world .good in (
       w .size,
       m .good,
@@ -64,11 +64,11 @@ same-length-2 c = search needs
 returns-2 : tie.Need-returns-2
 returns-2 c =
     let a = c .before .before .before .before .before .before .before .before .before .before .before .before .before .before .before .before .before .before .before .before .before in
-    let m = a .pre .0 in
+    let m = a .pre .0 .1 in
     let k = now (a .args .book) in
     let e = sym (c .before .before .before .before .before .before .before .before .before .before .before .read-step .ensures) ∙ c .before .before .before .before .before .before .before .before .before .reading .given .1 in
     let x = many (a .args .table) (now (a .args .steps)) (a .args .at) (a .args .entries) (now (a .args .sent)) (now (a .args .sites)) _ (c .before .before .before .before .before .play-batch .ensures) (c .before .start .given .1) in
-    let d = x .did (commandsOf k) (now (a .args .log)) (m .world .good) (entries-twice (a .args .table) k (m .good) (m .past) (m .world)) in
+    let d = x .did (commandsOf k) (now (a .args .log)) (m .world .good) (entries-twice (a .args .table) k (m .good) (a .pre .0 .0) (m .world)) in
     (next-many (a .args .table) (commandsOf k) (now (a .args .steps)) (a .args .at) _ _ e (x .ends) d, a .pre .2)
 
 enum-told-2 : tie.Need-enum-told-2
@@ -83,7 +83,7 @@ add-next c =
     let e = sym (c .before .before .before .before .before .before .before .before .before .before .before .read-step .ensures) ∙ c .before .before .before .before .before .before .before .before .before .reading .given .1 in
     let g : a .args .at ≤ length (now (a .args .steps)) = omega (arith, a .pre .3) in
     let i = inside (now (a .args .steps)) (a .args .at) g e (c .size .ensures) in
-    record { fits = omega (arith, a .pre .0 .short, i .1) }
+    record { fits = omega (arith, a .pre .0 .1 .short, i .1) }
 
 step-requires : tie.Need-step-requires
 step-requires c κs =
@@ -93,19 +93,20 @@ step-requires c κs =
     let log = now (a .args .log) in
     let sent = now (a .args .sent) in
     let o = one t (now (a .args .steps)) (a .args .at) (a .args .entries) sent (now (a .args .sites)) _ (c .before .before .before .before .before .before .before .before .before .play-batch .ensures) (c .before .before .before .before .before .enum-told2 .given .1) in
-    let p = subst (λ (y : List ℕ). Midway t k (now (a .args .places)) (now (a .args .rows)) (a .args .commands) (now (a .args .steps)) (lent y log (a .args .entries) sent)) (sym o) (a .pre .0) in
+    let past = a .pre .0 .0 in
+    let p = subst (λ (y : List ℕ). Midway t k (now (a .args .places)) (now (a .args .rows)) (a .args .commands) (now (a .args .steps)) past (lent y log (a .args .entries) sent)) (sym o) (a .pre .0 .1) in
     let g = p .good in
-    let n = entries-few t k g (p .past) (p .world) in (
+    let n = entries-few t k g past (p .world) in (
       (record {
         table = g;
         conflicts = p .conflicts;
         world = p .world .good;
-        pending = pending-free t k g (p .past) (p .world);
-        unspoken = not-spoken t k g (p .past) (p .world);
-        ends = ends-room t k g (p .past) (p .world);
-        twice = entries-twice t k g (p .past) (p .world);
+        pending = pending-free t k g past (p .world);
+        unspoken = not-spoken t k g past (p .world);
+        ends = ends-room t k g past (p .world);
+        twice = entries-twice t k g past (p .world);
         room = omega (arith, p .log);
-        acks = acks-few t k g (p .past) (p .world) (meaning (c .before .before .before .before .before .before .before .before .before .before .before .before .before .reading .given .0 .0));
+        acks = acks-few t k g past (p .world) (meaning (c .before .before .before .before .before .before .before .before .before .before .before .before .before .reading .given .0 .0));
       }),
       p .noted,
       a .pre .1,

@@ -41,7 +41,7 @@ loop-holds c =
       refl,
       refl,
       refl,
-      playing-none (a .args .table) (commandsOf (now (a .args .book))) (now (a .args .steps)) (now (a .args .out)) (a .args .from) (a .pre .0 .world),
+      playing-none (a .args .table) (commandsOf (now (a .args .book))) (now (a .args .steps)) (now (a .args .out)) (a .args .from) (a .pre .0 .held .world),
       a .pre .2,
     )
 
@@ -50,17 +50,19 @@ play-next-requires c κs =
     let a = c .before .before .before .before .before .before .before .before .before .before .before .before .before .before .before .before in
     let l = c .before .before .before .before .before .loop in
     let p = l .inv .8 in
-    let q = a .pre .0 in (
-      (record {
-        good = q .good;
-        short = q .short;
-        log = omega (arith, q .log, l .inv .5);
-        noted = q .noted;
-        conflicts = q .conflicts;
-        counted = q .counted;
-        past = p .past;
-        world = p .world;
-      }),
+    let q = a .pre .0 .held in (
+      (
+        p .past,
+        record {
+          good = q .good;
+          short = q .short;
+          log = omega (arith, q .log, l .inv .5);
+          noted = q .noted;
+          conflicts = q .conflicts;
+          counted = q .counted;
+          world = p .world;
+        },
+      ),
       a .pre .1,
       l .inv .9,
       omega (arith, c .before .before .before .before .loop-test .taken),
@@ -74,8 +76,8 @@ tell-requires c κs =
     let g : l .at < length s = omega (arith, c .before .before .before .before .before .before .before .before .before .before .before .before .before .before .loop-test .taken) in
     let x = onward (a .args .table) (commandsOf (now (a .args .book))) s (l .at) _ _ _ g (c .before .before .before .before .before .before .before .before .before .play-next .ensures .0) in
     let m = l .inv .1 g in (
-      omega (arith, a .pre .0 .room, a .pre .0 .short, l .inv .0, l .inv .3, l .inv .7),
-      omega (arith, a .pre .0 .short, m, x .further, x .inside),
+      omega (arith, a .pre .0 .room, a .pre .0 .held .short, l .inv .0, l .inv .3, l .inv .7),
+      omega (arith, a .pre .0 .held .short, m, x .further, x .inside),
       (x .verdict, x .number),
     )
 
@@ -108,7 +110,7 @@ loop-again c =
       b .kept .1 .1 .0 ∙ l .inv .6,
       c .before .before .tell .kept .0 ∙ l .inv .7,
       playing-next (a .args .table) (commandsOf (now (a .args .book))) s (l .at) _ _ _ g (now (a .args .out)) (a .args .from) (l .inv .8)
-          (omega (arith, a .pre .0 .room, a .pre .0 .short, l .inv .0, l .inv .3, l .inv .7)) told (b .ensures .0),
+          (omega (arith, a .pre .0 .room, a .pre .0 .held .short, l .inv .0, l .inv .3, l .inv .7)) told (b .ensures .0),
       b .ensures .1,
     )
 
@@ -132,7 +134,7 @@ returns c =
     let a = c .before .before .before .before .before .before .before .before .before .before .before .before in
     let l = c .before .loop in
     playing-end (a .args .table) (commandsOf (now (a .args .book))) (now (a .args .steps)) (now (a .args .out)) (a .args .from) (l .inv .8)
-    (omega arith) (omega (arith, a .pre .0 .short, l .inv .2, l .inv .3))
+    (omega arith) (omega (arith, a .pre .0 .held .short, l .inv .2, l .inv .3))
 
 pub play-on-spec : {M : Type 1} → statement M
 play-on-spec =

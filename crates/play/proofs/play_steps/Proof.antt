@@ -11,7 +11,7 @@ slice-aggregate-note : tie.Need-slice-aggregate-note
 slice-aggregate-note c = search needs
 
 note-requires : tie.Need-note-requires
-note-requires c κs = (blank, c .before .before .before .before .before .before .before .before .before .pre .good)
+note-requires c κs = (blank, c .before .before .before .before .before .before .before .before .before .pre .held .good)
 
 slice-aggregate-play-on : tie.Need-slice-aggregate-play-on
 slice-aggregate-play-on c = search needs

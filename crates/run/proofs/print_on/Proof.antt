@@ -27,14 +27,17 @@ play-steps-requires c κs =
     let a = c .before .before .before .before .before .before .before .before .before .before .before .before .before .before .before .before .before .before .before .before .before .before .before .before in
     let w = c .before .before .before .before .before .before .put-run-line in
     record {
-      good = a .pre .0 .good;
-      short = a .pre .0 .short;
       room = omega (arith, first-short (a .args .table) (now (a .args .book)) (a .pre .0 .good) (c .before .before .before .before .before .before .before .before .faulty-count .ensures) (a .pre .2 .count), a .pre .0 .room, w .ensures .end, w .kept .0);
-      log = omega (arith, a .pre .1 .log);
-      noted = a .pre .2 .places;
-      conflicts = a .pre .2 .rows;
-      counted = sym (a .pre .2 .count);
-      world = c .before .before .before .before .before .before .before .before .before .before .before .before .before .start .ensures .holds (commandsOf (now (a .args .book))) (now (a .args .log)) (omega (arith, a .pre .1 .log));
+      held =
+          record {
+            good = a .pre .0 .good;
+            short = a .pre .0 .short;
+            log = omega (arith, a .pre .1 .log);
+            noted = a .pre .2 .places;
+            conflicts = a .pre .2 .rows;
+            counted = sym (a .pre .2 .count);
+            world = c .before .before .before .before .before .before .before .before .before .before .before .before .before .start .ensures .holds (commandsOf (now (a .args .book))) (now (a .args .log)) (omega (arith, a .pre .1 .log));
+          };
     }
 
 put-site-lines-requires : tie.Need-put-site-lines-requires
