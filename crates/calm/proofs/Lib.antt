@@ -2,4 +2,3 @@ pub mod Change
 pub mod Laws
 pub mod Same
 pub mod Between
-pub mod Bikes

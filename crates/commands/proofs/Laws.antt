@@ -6,7 +6,7 @@ use mathlib.Core.List.{List, [], _∷_, _++_, append-assoc}
 use Prim.Native.Nat.{ℕ, zero, suc, _+_, _-_, _≤_, _<_}
 use native.Mathlib.Omega.{arith}
 use borrow.Author.Tests.{le-leb, lt-leb, leb-true, lt-ltb, le-ltb, ltb-true}
-use lib.Dec.{eqb, leb, ltb}
+use lib.Dec.{leb, ltb}
 use lib.ListN.{length, getD, drop}
 use mir.Syntax.{w16}
 use lib.IntN.{ℤ}
@@ -20,7 +20,7 @@ use Rattle.register.specs.declared.Command.{Command}
 use Rattle.register.specs.declared.Command.the-variants.{Add, Fit, Read, Trim}
 use Rattle.commands.specs.declared.Reading.{Reading}
 use Rattle.commands.specs.declared.Reading.the-variants.{Whole, Bad}
-use Rattle.commands.specs.Book.{sizeOf, given, readKind, readCommand, kindOf, headOf, encodeCommand, InRange}
+use Rattle.commands.specs.Book.{sizeOf, given, readKind, readCommand, encodeCommand, InRange}
 
 module _ (s : List ℕ) where
   pub too-short : length s < 2 → Bad ≡ readCommand s
@@ -84,10 +84,6 @@ pub record Front (s : List ℕ) (c : Command) : Type 0 where
   pub valid : Valid c
   -- so are the operands, of bytes below 256
   pub range : ((i : ℕ) → getD s i 0 < 256) → InRange c
-  -- the first two bytes say kind and bike
-  pub two : 2 ≤ length s
-  pub kind : getD s 0 0 ≡ kindOf c
-  pub head : record { bike = getD s 1 0; add = eqb (getD s 0 0) 1; read = eqb (getD s 0 0) 3 } ≡ headOf c
   -- the command written in front of what is left gives the bytes
   pub back : ((i : ℕ) → getD s i 0 < 256) → encodeCommand c ++ drop (sizeOf c) s ≡ s
 
@@ -102,9 +98,6 @@ module _ (s : List ℕ) (b : getD s 1 0 < bikes) where
       record {
         size = h;
         valid = record { bike = b; start = omega arith };
-        two = omega arith;
-        kind = e;
-        head = λ i. record { bike = getD s 1 0; add = eqb (e i) 1; read = eqb (e i) 3 };
         range = λ small. (b, read-lt s small 2 2 (omega arith));
         back = λ small. ap (λ (l : List ℕ). 1 ∷ getD s 1 0 ∷ l) (peel s small 2 2 (omega arith)) ∙ ap (λ (k : ℕ). k ∷ getD s 1 0 ∷ drop 2 s) (sym e) ∙ two-front s (omega arith);
       }
@@ -114,9 +107,6 @@ module _ (s : List ℕ) (b : getD s 1 0 < bikes) where
       record {
         size = h;
         valid = record { bike = b; start = g };
-        two = omega arith;
-        kind = e;
-        head = λ i. record { bike = getD s 1 0; add = eqb (e i) 1; read = eqb (e i) 3 };
         range = λ small. (b, read-lt s small 4 2 (omega arith), g);
         back =
             λ small.
@@ -133,9 +123,6 @@ module _ (s : List ℕ) (b : getD s 1 0 < bikes) where
       record {
         size = h;
         valid = record { bike = b; start = omega arith };
-        two = omega arith;
-        kind = e;
-        head = λ i. record { bike = getD s 1 0; add = eqb (e i) 1; read = eqb (e i) 3 };
         range = λ small. b;
         back = λ small. ap (λ (k : ℕ). k ∷ getD s 1 0 ∷ drop 2 s) (sym e) ∙ two-front s h;
       }
@@ -145,9 +132,6 @@ module _ (s : List ℕ) (b : getD s 1 0 < bikes) where
       record {
         size = h;
         valid = record { bike = b; start = omega arith };
-        two = omega arith;
-        kind = e;
-        head = λ i. record { bike = getD s 1 0; add = eqb (e i) 1; read = eqb (e i) 3 };
         range = λ small. (b, sfits-toZ {w = w16} (record { fits = read-lt s small 2 2 (omega arith) }));
         back =
             λ small.

@@ -1,19 +1,19 @@
--- Laws of finding a command by its number: by the noted places, and by a walk from the front.
+-- Laws of finding a command by its number, from the noted places.
 -- Assumes nothing.
 use mathlib.Core.Path.{_≡_, refl, sym, ap, subst, _∙_}
 use mathlib.Core.List.{List, [], _∷_}
 use Prim.Native.Nat.{ℕ, zero, suc, _+_, _-_, _≤_, _<_}
+use native.Mathlib.Decide.{decLe}
 use native.Mathlib.Omega.{arith}
-use lib.Dec.{eqb}
 use lib.ListN.{length, getD, take, drop, length-take, length-drop}
-use lib.Seq.{sets, sets-eq, take-at, getD-take, getD-drop}
+use lib.Seq.{sets, sets-eq, take-at, getD-take}
 use Rattle.register.specs.Register.{Valid}
 use Rattle.register.specs.declared.Command.{Command}
 use Rattle.register.specs.declared.Command.the-variants.{Read}
 use Rattle.commands.specs.declared.Reading.the-variants.{Whole}
-use Rattle.commands.specs.Book.{sizeOf, readCommand, commandsOf, commandOf, placesFrom, placesOf, kindOf, headOf}
-use Rattle.commands.proofs.Laws.{Front, front}
-use Rattle.commands.proofs.Walk.{rest, rest-all, next, Took}
+use Rattle.commands.specs.Book.{sizeOf, readCommand, commandsOf, commandOf, placesFrom, placesOf}
+use Rattle.commands.proofs.Laws.{front}
+use Rattle.commands.proofs.Walk.{rest, rest-all, next, size-small}
 
 placed : (k : ℕ) (s : List ℕ) (j at : ℕ) → at ≤ length s → k < length (rest s j at)
     → readCommand (drop (getD (placesFrom at (rest s j at)) k 0) s) ≡ Whole (getD (rest s j at) k (Read 0))
@@ -62,19 +62,9 @@ module _ (s p : List ℕ) (k : ℕ) (h : k < length (commandsOf s)) (e : take (l
   place-read q =
       ap (λ (n : ℕ). readCommand (drop n s)) (q ∙ place-is) ∙ there ∙ ap (λ (cs : List Command). Whole (getD cs k (Read 0))) (rest-all s)
 
--- A walk to the k-th command, j of them passed.
-module _ (s : List ℕ) (k : ℕ) where
-  pub walk-all : getD (rest s 0 0) (k - 0) (Read 0) ≡ commandOf s k
-  unfolding commandOf
-  walk-all = let q : k - 0 ≡ k = omega arith in λ i. getD (rest-all s i) (q i) (Read 0)
-
-  pub walk-here : (j at : ℕ) {c : Command} {z : ℕ} → j ≡ k → Took s j at c z → getD (rest s j at) (k - j) (Read 0) ≡ commandOf s k → c ≡ commandOf s k
-  walk-here j at {c} e t w =
-      let q : k - j ≡ 0 = omega arith in (λ i. getD (sym (t .left) i) (sym q i) (Read 0)) ∙ w
-
-  pub walk-more : (j at : ℕ) {c : Command} {z : ℕ} → j < k → Took s j at c z → getD (rest s j at) (k - j) (Read 0) ≡ commandOf s k → getD (rest s (j + 1) (at + z)) (k - (j + 1)) (Read 0) ≡ commandOf s k
-  walk-more j at h t w =
-      let q : suc (k - (j + 1)) ≡ k - j = omega arith in (λ i. getD (sym (t .left) i) (q i) (Read 0)) ∙ w
+  -- A noted place is inside the book.
+  pub place-inside : {at : ℕ} → at ≡ getD p k 0 → at ≤ length s
+  place-inside {at} q = elim (decLe at (length s)) [ | yes l ↦ l | no n ↦ absurd (omega (arith, front _ (place-read q) .size, length-drop at s, size-small (commandOf s k))) ]
 
 -- Places that were noted in enough room are the places of the book.
 pub index-noted : (s p : List ℕ) {q : List ℕ} → length (commandsOf s) ≤ length p → q ≡ sets p 0 (placesOf s) → take (length (commandsOf s)) q ≡ placesOf s
@@ -83,20 +73,3 @@ index-noted s p h e =
     let l = length-places 0 (commandsOf s) in
     ap (take (length (commandsOf s))) (e ∙ sets-eq (placesFrom 0 (commandsOf s)) p 0 (omega arith))
     ∙ take-at (placesFrom 0 (commandsOf s)) (drop (0 + length (placesFrom 0 (commandsOf s))) p) (length (commandsOf s)) l
-
--- The first two bytes at the place of the k-th command say its kind and its bike.
-module _ (s p : List ℕ) (k : ℕ) (h : k < length (commandsOf s)) (e : take (length (commandsOf s)) p ≡ placesOf s) {at : ℕ} (q : at ≡ getD p k 0) where
-  here : Front (drop at s) (commandOf s k)
-  here = front (drop at s) (place-read s p k h e q)
-
-  pub head-inside : at + 2 ≤ length s
-  head-inside = let l = here .two in omega (arith, length-drop at s)
-
-  first : getD s at 0 ≡ getD (drop at s) 0 0
-  first = let z : at + 0 ≡ at = omega arith in sym (getD-drop at s 0 0 ∙ ap (λ (n : ℕ). getD s n 0) z)
-
-  pub kind-noted : getD s at 0 ≡ kindOf (commandOf s k)
-  kind-noted = first ∙ here .kind
-
-  pub head-noted : record { bike = getD s (at + 1) 0; add = eqb (getD s at 0) 1; read = eqb (getD s at 0) 3 } ≡ headOf (commandOf s k)
-  head-noted = (λ i. record { bike = sym (getD-drop at s 1 0) i; add = eqb (first i) 1; read = eqb (first i) 3 }) ∙ here .head

@@ -23,6 +23,10 @@ use Rattle.commands.proofs.Laws.{front}
 pub read-at : (s : List ℕ) (at : ℕ) {r q : Reading} → r ≡ readCommand (take (length s - at) (drop at s)) → r ≡ q → readCommand (drop at s) ≡ q
 read-at s at e w = ap readCommand (sym (part-all s at)) ∙ sym e ∙ w
 
+-- A command that was read there ends inside the bytes.
+pub read-inside : (s : List ℕ) (at : ℕ) {r : Reading} {c : Command} → at ≤ length s → r ≡ readCommand (take (length s - at) (drop at s)) → r ≡ Whole c → at + sizeOf c ≤ length s
+read-inside s at h e w = omega (arith, front (drop at s) (read-at s at e w) .size, length-drop at s)
+
 pub size-small : (c : Command) → (2 ≤ sizeOf c) × (sizeOf c ≤ 10)
 size-small (Add b km) = (omega arith, omega arith)
 size-small (Fit b d t) = (omega arith, omega arith)
@@ -82,20 +86,6 @@ module _ (s : List ℕ) (k at : ℕ) where
       ∙ ap (countFrom k) (sym (whole-at (maxCommands - (k + 1)) (drop at s) (omega (arith, length-drop at s)) r))
       ∙ ap (λ (n : ℕ). countFrom k (readUpTo n (drop at s))) (sym q)
       ∙ e
-
--- Bytes too many for n commands.
-long-reading : (n : ℕ) (l : List ℕ) (r : Reading) → ((m : List ℕ) → 10 * n < length m → readUpTo n m ≡ none) → 10 * suc n < length l → readCommand l ≡ r → readUpTo (suc n) l ≡ none
-long-reading n l Bad f h e = bad-at (suc n) l (omega arith) e
-long-reading n l (Whole c) f h e =
-    whole-at n l (omega arith) e ∙ ap (also c) (f (drop (sizeOf c) l) (omega (arith, length-drop (sizeOf c) l, size-small c)))
-
-long-at : (n : ℕ) (l : List ℕ) → 10 * n < length l → readUpTo n l ≡ none
-long-at zero l h = full-at l (omega arith)
-long-at (suc n) l h = long-reading n l (readCommand l) (λ m g. long-at n m g) h refl
-
-pub measure-long : (s : List ℕ) → 10 * maxCommands < length s → Unreadable ≡ measureBook s
-unfolding measureBook
-measure-long s h = ap (countFrom 0) (sym (long-at maxCommands s h))
 
 counted : (o : Option (List Command)) {n : ℕ} → countFrom 0 o ≡ Commands n → (Taken ≡ verdictOf o) × (n ≡ length (orNone o))
 counted none h = absurd (let z : _≡_ {A = ℕ} 0 1 = cc in omega arith)

@@ -13,12 +13,11 @@ use Rattle.signed.specs.Signed.{signed16, word16}
 use Rattle.refusals.specs.declared.Verdict.{Verdict}
 use Rattle.refusals.specs.declared.Verdict.the-variants.{Taken, Refused}
 use Rattle.refusals.specs.declared.Refusal.the-variants.{Book}
-use Rattle.register.specs.Register.{bikes, maxReading, bikeOf, isAdd, isRead}
+use Rattle.register.specs.Register.{bikes, maxReading}
 use Rattle.register.specs.declared.Command.{Command}
 use Rattle.register.specs.declared.Command.the-variants.{Add, Fit, Read, Trim}
 use Rattle.commands.specs.declared.Reading.{Reading}
 use Rattle.commands.specs.declared.Reading.the-variants.{Whole, Bad}
-use Rattle.commands.specs.declared.Head.{Head}
 use Rattle.commands.specs.declared.Measured.{Measured}
 use Rattle.commands.specs.declared.Measured.the-variants.{Commands, Unreadable}
 
@@ -112,53 +111,19 @@ placesFrom at (c ∷ cs) = at ∷ placesFrom (at + sizeOf c) cs
 unfoldable pub placesOf : List ℕ → List ℕ
 placesOf s = placesFrom 0 (commandsOf s)
 
--- The bytes of a command of a kind, a FIT left out; 0 where there is no such kind.
-abbrev pub shortSize : ℕ → ℕ
-shortSize zero = 0
-shortSize (suc zero) = 4
-shortSize (suc (suc zero)) = 0
-shortSize (suc (suc (suc zero))) = 2
-shortSize (suc (suc (suc (suc zero)))) = 4
-shortSize (suc (suc (suc (suc (suc n))))) = 0
+-- A command that was read and those after it; none where the reading is bad.
+abbrev pub readOn : Reading → (Command → List Command) → List Command
+readOn (Whole c) f = c ∷ f c
+readOn Bad f = []
 
--- The bytes of a reading, 0 where it is bad.
-abbrev pub sizeRead : Reading → ℕ
-sizeRead (Whole c) = sizeOf c
-sizeRead Bad = 0
+-- The commands at the front of some bytes, at most n of them, up to the first that cannot be read.
+abbrev pub readable : ℕ → List ℕ → List Command
+readable zero s = []
+readable (suc n) s = readOn (readCommand s) (λ c. readable n (drop (sizeOf c) s))
 
--- The bytes of the command at the front of some bytes, whatever its bike; 0 where there is none.
-unfoldable pub walkSize : List ℕ → ℕ
-walkSize s = sizeRead (given (leb 2 (length s)) (readKind (getD s 0 0) s))
-
--- No places where no bytes are left, else what is given.
-abbrev pub unlessOver : List ℕ → List ℕ → List ℕ
-unlessOver [] r = []
-unlessOver (b ∷ s) r = r
-
--- The places after a command of a size; none after what is no command.
-abbrev pub onward : ℕ → (ℕ → List ℕ) → List ℕ
-onward zero f = []
-onward (suc z) f = f (suc z)
-
--- The places that a walk through bytes comes to, at most n of them, the first of them at a position.
-abbrev pub walkedFrom : ℕ → ℕ → List ℕ → List ℕ
-walkedFrom zero at s = []
-walkedFrom (suc n) at s = unlessOver s (at ∷ onward (walkSize s) (λ z. walkedFrom n (at + z) (drop z s)))
-
--- The places that a walk through a book comes to; those of its commands where it is taken.
-unfoldable pub walkedPlaces : List ℕ → List ℕ
-walkedPlaces s = walkedFrom maxCommands 0 s
-
--- The number of a command's kind, its first byte.
-abbrev pub kindOf : Command → ℕ
-kindOf (Add bike km) = 1
-kindOf (Fit bike dash start) = 2
-kindOf (Read bike) = 3
-kindOf (Trim bike km) = 4
-
--- The kind and the bike of a command.
-abbrev pub headOf : Command → Head
-headOf c = record { bike = bikeOf c; add = isAdd c; read = isRead c }
+-- The places of the commands that a walk through a book reads: all of its commands where the book is taken.
+unfoldable pub notedPlaces : List ℕ → List ℕ
+notedPlaces s = placesFrom 0 (readable maxCommands s)
 
 -- The bytes of a command.
 abbrev pub encodeCommand : Command → List ℕ

@@ -1,77 +1,73 @@
--- Laws of the commands gathered by bike and kind: how the sets grow, and that a row is read off them.
+-- Laws of the commands gathered by bike: how the sets grow, and that a row is read off them.
 -- Rests on Laws.
 use mathlib.Core.Bool.{Bool, true, false, not, _&&_, _||_}
 use mathlib.Core.Path.{_≡_, refl, sym, ap, subst, _∙_}
 use mathlib.Core.List.{List}
-use Prim.Native.Nat.{ℕ, _+_, _-_, _*_, _%_, _≤_, _<_, _^_}
+use Prim.Native.Nat.{ℕ, zero, suc, _+_, _-_, _*_, _≤_, _<_, _^_}
 use native.Mathlib.Omega.{arith}
 use borrow.Author.Tests.{lt-ltb, le-ltb, eqb-true, eqb-false, eq-eqb, ne-eqb}
 use lib.Dec.{eqb, ltb}
+use lib.IntN.{ℤ}
 use lib.ListN.{length, replicate, length-set, length-replicate, getD-replicate}
 use Rattle.theory.specs.Sets.{pick}
 use Rattle.theory.specs.Counting.{never}
 use Rattle.sets.specs.declared.Set.{Set}
-use Rattle.sets.specs.Sets.{capacity, inSet, emptyOf, setOf, withOf, unionOf, withoutOf, loadSet, storeSet}
-use Rattle.sets.proofs.Laws.{in-with, in-union, in-without, in-setOf, build-none, build-yes, build-no, load-stored, load-other, word-ext, word-lt, set-ext, with-fits, union-fits, without-fits}
+use Rattle.sets.specs.Sets.{capacity, inSet, emptyOf, setOf, withOf, withoutOf, loadSet, storeSet}
+use Rattle.sets.proofs.Laws.{in-empty, in-with, in-without, in-setOf, build-none, build-yes, build-no, load-stored, load-other, word-ext, word-lt, set-ext, with-fits, without-fits}
 use Rattle.register.specs.declared.Command.{Command}
 use Rattle.register.specs.declared.Command.the-variants.{Add, Fit, Read, Trim}
-use Rattle.register.specs.Register.{bikes, bikeOf, alike}
-use Rattle.commands.specs.declared.Head.{Head}
-use Rattle.commands.specs.Book.{commandsOf, commandOf, kindOf, headOf}
+use Rattle.register.specs.Register.{bikes, bikeOf, isAdd, isRead, alike}
+use Rattle.commands.specs.Book.{commandsOf, commandOf}
 use Rattle.commands.proofs.Places.{commands-valid}
-use Rattle.conflicts.specs.Conflicts.{conflictIn, conflictRow, isOn, anyKind, slots, slotKind, nonePlace, allFrom, unopposedPlace, withNoted, Gathered}
+use Rattle.conflicts.specs.Conflicts.{conflictIn, conflictRow, bikeSets, isFor, isOn, opposedOf, withNoted, Joined, Gathered}
 use Rattle.conflicts.proofs.Laws.{no-more, and-false, conflict-in-sym, in-row}
 
--- ---- places
-
 -- Two places are the same where bike and slot are.
-place-same : (a b u v : ℕ) → u < slots → v < slots → eqb (slots * a + u) (slots * b + v) ≡ (eqb a b && eqb u v)
+place-same : (a b u v : ℕ) → u < bikeSets → v < bikeSets → eqb (bikeSets * a + u) (bikeSets * b + v) ≡ (eqb a b && eqb u v)
 place-same a b u v lu lv = go (eqb a b) (eqb u v) refl refl
   where
-    go : (s t : Bool) → eqb a b ≡ s → eqb u v ≡ t → eqb (slots * a + u) (slots * b + v) ≡ (s && t)
-    go true true e f = let p = eqb-true a b e in let q = eqb-true u v f in eq-eqb (slots * a + u) (slots * b + v) (omega arith)
-    go true false e f = let n = eqb-false u v f in let p = eqb-true a b e in ne-eqb (slots * a + u) (slots * b + v) (λ h. n (omega arith))
-    go false t e f = let n = eqb-false a b e in ne-eqb (slots * a + u) (slots * b + v) (λ h. n (omega arith))
+    go : (s t : Bool) → eqb a b ≡ s → eqb u v ≡ t → eqb (bikeSets * a + u) (bikeSets * b + v) ≡ (s && t)
+    go true true e f = let p = eqb-true a b e in let q = eqb-true u v f in eq-eqb (bikeSets * a + u) (bikeSets * b + v) (omega arith)
+    go true false e f = let n = eqb-false u v f in let p = eqb-true a b e in ne-eqb (bikeSets * a + u) (bikeSets * b + v) (λ h. n (omega arith))
+    go false t e f = let n = eqb-false a b e in ne-eqb (bikeSets * a + u) (bikeSets * b + v) (λ h. n (omega arith))
 
--- What a command does not conflict with: where its kind is odd the commands of its slot, else none.
-unopposed-kind : (c d : Command) → pick (eqb (kindOf c % 2) 1) (slotKind (kindOf c) d) false ≡ alike d c
-unopposed-kind (Add b km) (Add b′ km′) = refl
-unopposed-kind (Add b km) (Fit b′ dash′ start′) = refl
-unopposed-kind (Add b km) (Read b′) = refl
-unopposed-kind (Add b km) (Trim b′ km′) = refl
-unopposed-kind (Fit b dash start) (Add b′ km′) = refl
-unopposed-kind (Fit b dash start) (Fit b′ dash′ start′) = refl
-unopposed-kind (Fit b dash start) (Read b′) = refl
-unopposed-kind (Fit b dash start) (Trim b′ km′) = refl
-unopposed-kind (Read b) (Add b′ km′) = refl
-unopposed-kind (Read b) (Fit b′ dash′ start′) = refl
-unopposed-kind (Read b) (Read b′) = refl
-unopposed-kind (Read b) (Trim b′ km′) = refl
-unopposed-kind (Trim b km) (Add b′ km′) = refl
-unopposed-kind (Trim b km) (Fit b′ dash′ start′) = refl
-unopposed-kind (Trim b km) (Read b′) = refl
-unopposed-kind (Trim b km) (Trim b′ km′) = refl
+-- Which commands are alike, by kind.
+add-like : (b km : ℕ) (d : Command) → isAdd d ≡ alike d (Add b km)
+add-like b′ km′ (Add b km) = refl
+add-like b′ km′ (Fit b dash start) = refl
+add-like b′ km′ (Read b) = refl
+add-like b′ km′ (Trim b km) = refl
 
--- The place of those that a command does not conflict with is one of the places.
-unopposed-below : (c : Command) (b : ℕ) → b < bikes → unopposedPlace (slots * b) (kindOf c) < nonePlace + 1
-unopposed-below (Add b′ km) b h = omega arith
-unopposed-below (Fit b′ dash start) b h = omega arith
-unopposed-below (Read b′) b h = omega arith
-unopposed-below (Trim b′ km) b h = omega arith
+read-like : (b : ℕ) (d : Command) → isRead d ≡ alike d (Read b)
+read-like b′ (Add b km) = refl
+read-like b′ (Fit b dash start) = refl
+read-like b′ (Read b) = refl
+read-like b′ (Trim b km) = refl
+
+fit-like : (b dash start : ℕ) (d : Command) → alike d (Fit b dash start) ≡ false
+fit-like b′ dash′ start′ (Add b km) = refl
+fit-like b′ dash′ start′ (Fit b dash start) = refl
+fit-like b′ dash′ start′ (Read b) = refl
+fit-like b′ dash′ start′ (Trim b km) = refl
+
+trim-like : (b : ℕ) (km : ℤ) (d : Command) → alike d (Trim b km) ≡ false
+trim-like b′ km′ (Add b km) = refl
+trim-like b′ km′ (Fit b dash start) = refl
+trim-like b′ km′ (Read b) = refl
+trim-like b′ km′ (Trim b km) = refl
 
 -- ---- how the sets grow
 
 -- Nothing is gathered yet.
-pub gathered-none : (s : List ℕ) → Gathered s 0 (replicate 129 0)
+pub gathered-none : (s : List ℕ) → Gathered s 0 (replicate (bikeSets * bikes) 0)
 gathered-none s =
     record {
-      size = length-replicate {0} {A = ℕ} 129 0;
-      at = λ b v lb lv. empty (slots * b + v) (omega arith) ∙ build-none (isOn (slotKind v) s b);
-      none = empty nonePlace (omega arith);
+      size = length-replicate {0} {A = ℕ} (bikeSets * bikes) 0;
+      at = λ b v lb lv. empty (bikeSets * b + v) (omega arith) ∙ build-none (isOn v s b);
     }
   where
-    empty : (p : ℕ) → p < 129 → loadSet (replicate 129 0) p ≡ emptyOf
-    empty p h = λ i. record { bits = getD-replicate {0} {A = ℕ} 129 p 0 0 h i }
+    empty : (p : ℕ) → p < bikeSets * bikes → loadSet (replicate (bikeSets * bikes) 0) p ≡ emptyOf
+    empty p h = λ i. record { bits = getD-replicate {0} {A = ℕ} (bikeSets * bikes) p 0 0 h i }
 
 -- A command joins the set at its place, and no other.
 noted : (ws : List ℕ) (q k p : ℕ) {x : Set} → q < length ws → loadSet ws p ≡ x → loadSet (withNoted ws q k) p ≡ pick (eqb q p) (withOf x k) x
@@ -91,47 +87,105 @@ joined : (t : Bool) (k : ℕ) (f : ℕ → Bool) → f k ≡ t → pick t (withO
 joined true k f e = build-yes k f e
 joined false k f e = build-no k f e
 
-pub bike-below : (s : List ℕ) (k : ℕ) {c : Head} → k < length (commandsOf s) → c ≡ headOf (commandOf s k) → c .bike < bikes
-bike-below s k inside ec = subst (λ (x : Head). x .bike < bikes) (sym ec) (commands-valid s k inside .bike)
+-- A command that is noted in the set of all, and perhaps in another: by whether a place is theirs.
+twice : (bike first second : Bool) (k : ℕ) (x : Set) → (first && second) ≡ false
+    → pick (bike && second) (withOf (pick (bike && first) (withOf x k) x) k) (pick (bike && first) (withOf x k) x) ≡ pick (bike && (first || second)) (withOf x k) x
+twice false first second k x h = refl
+twice true true true k x h = absurd (let z : _≡_ {A = ℕ} 0 1 = cc in omega arith)
+twice true true false k x h = refl
+twice true false second k x h = refl
 
-module _ (s : List ℕ) (k : ℕ) {c : Head} (inside : k < length (commandsOf s)) (ec : c ≡ headOf (commandOf s k)) where
-  -- The places of a command in the sets.
-  pub bike-place : slots * c .bike + 3 < nonePlace
-  bike-place = let b = bike-below s k inside ec in omega arith
+module _ (ws : List ℕ) (k : ℕ) {ws₁ : List ℕ} (c : Command) {at : ℕ} (size : length ws ≡ bikeSets * bikes) (below : bikeOf c < bikes) (ea : at ≡ bikeOf c)
+    (e : ws₁ ≡ withNoted ws (bikeSets * at) k) where
+  -- The v-th set of bike b, before and with the command.
+  abbrev old : ℕ → ℕ → Set
+  old b v = loadSet ws (bikeSets * b + v)
 
-  pub unopposed-place : {kind r n : ℕ} → kind ≡ kindOf (commandOf s k) → r ≡ unopposedPlace (slots * c .bike) kind → n ≡ nonePlace + 1 → r < n
-  unopposed-place {kind} {r} ek er en =
-      let l = unopposed-below (commandOf s k) (c .bike) (bike-below s k inside ec) in
-      let e : r ≡ unopposedPlace (slots * c .bike) (kindOf (commandOf s k)) = er ∙ ap (unopposedPlace (slots * c .bike)) ek in
-      omega arith
+  abbrev new : ℕ → ℕ → Bool → Set
+  new b v t = pick (eqb (bikeOf c) b && t) (withOf (old b v) k) (old b v)
 
-  module _ {kind : ℕ} (ek : kind ≡ kindOf (commandOf s k)) where
-    -- The place where it is noted.
-    abbrev place : ℕ
-    place = slots * c .bike + kind % slots
+  place-told : (u b v : ℕ) → u < bikeSets → v < bikeSets → eqb (bikeSets * at + u) (bikeSets * b + v) ≡ (eqb (bikeOf c) b && eqb u v)
+  place-told u b v lu lv = place-same at b u v lu lv ∙ ap (λ (n : ℕ). eqb n b && eqb u v) ea
 
-    pub kind-place : place < nonePlace
-    kind-place = let b = bike-below s k inside ec in omega arith
+  in-all : (b v : ℕ) → v < bikeSets → loadSet ws₁ (bikeSets * b + v) ≡ new b v (eqb 0 v)
+  in-all b v lv =
+      let q : bikeSets * at ≡ bikeSets * at + 0 = omega arith in
+      ap (λ (l : List ℕ). loadSet l (bikeSets * b + v)) (e ∙ ap (λ (p : ℕ). withNoted ws p k) q)
+      ∙ noted ws (bikeSets * at + 0) k (bikeSets * b + v) (omega arith) refl
+      ∙ ap (λ (t : Bool). pick t (withOf (old b v) k) (old b v)) (place-told 0 b v (omega arith) lv)
 
-    place-told : (b v : ℕ) → v < slots → eqb place (slots * b + v) ≡ isOn (slotKind v) s b k
-    place-told b v lv =
-        place-same (c .bike) b (kind % slots) v (omega arith) lv ∙ (λ i. eqb (ec i .bike) b && eqb (ek i % slots) v)
+  length-all : length ws₁ ≡ length ws
+  length-all = ap length e ∙ length-set ws _ _
 
-    -- One command more is gathered.
-    pub gathered-more : (ws : List ℕ) {ws₁ : List ℕ} → ws₁ ≡ withNoted ws place k → Gathered s k ws → Gathered s (k + 1) ws₁
-    gathered-more ws e g =
-        let below = kind-place in
-        record {
-          size = ap length e ∙ length-set ws _ _ ∙ g .size;
-          at = λ b v lb lv.
-              ap (λ (x : List ℕ). loadSet x (slots * b + v)) e
-              ∙ noted ws place k (slots * b + v) (omega (arith, below, g .size)) (g .at b v lb lv)
-              ∙ joined (eqb place (slots * b + v)) k (isOn (slotKind v) s b) (sym (place-told b v lv));
-          none =
-              ap (λ (x : List ℕ). loadSet x nonePlace) e
-              ∙ load-other ws place (withOf (loadSet ws place) k) nonePlace (λ z. omega (arith, below, z))
-              ∙ g .none;
-        }
+  -- The command is only among all of its bike.
+  only-all : ((v : ℕ) → v < bikeSets → eqb 0 v ≡ isFor v c) → Joined c k ws ws₁
+  only-all f = record { size = length-all; at = λ b v lb lv. in-all b v lv ∙ ap (new b v) (f v lv) }
+
+  -- It is also in the u-th set.
+  also-own : {ws₂ : List ℕ} (u : ℕ) → u < bikeSets → ws₂ ≡ withNoted ws₁ (bikeSets * at + u) k
+      → ((v : ℕ) → v < bikeSets → ((eqb 0 v || eqb u v) ≡ isFor v c) × ((eqb 0 v && eqb u v) ≡ false)) → Joined c k ws ws₂
+  also-own u lu e₂ f =
+      let l = length-all in
+      record {
+        size = ap length e₂ ∙ length-set ws₁ _ _ ∙ l;
+        at = λ b v lb lv.
+            ap (λ (x : List ℕ). loadSet x (bikeSets * b + v)) e₂
+            ∙ noted ws₁ (bikeSets * at + u) k (bikeSets * b + v) (omega arith) (in-all b v lv)
+            ∙ ap (λ (t : Bool). pick t (withOf (new b v (eqb 0 v)) k) (new b v (eqb 0 v))) (place-told u b v lu lv)
+            ∙ twice (eqb (bikeOf c) b) (eqb 0 v) (eqb u v) k (old b v) (f v lv .1)
+            ∙ ap (new b v) (f v lv .0);
+      }
+
+  -- By kind, as the code tells it.
+  pub join-add : {b km : ℕ} {ws₂ : List ℕ} → c ≡ Add b km → ws₂ ≡ withNoted ws₁ (bikeSets * at + 1) k → Joined c k ws ws₂
+  join-add {b} {km} ec e₂ = also-own 1 (omega arith) e₂ (λ v l. (is v l .0 ∙ ap (isFor v) (sym ec), is v l .1))
+    where
+      is : (v : ℕ) → v < bikeSets → ((eqb 0 v || eqb 1 v) ≡ isFor v (Add b km)) × ((eqb 0 v && eqb 1 v) ≡ false)
+      is zero l = (refl, refl)
+      is (suc zero) l = (refl, refl)
+      is (suc (suc zero)) l = (refl, refl)
+      is (suc (suc (suc v))) l = absurd (omega arith)
+
+  pub join-read : {b : ℕ} {ws₂ : List ℕ} → c ≡ Read b → ws₂ ≡ withNoted ws₁ (bikeSets * at + 2) k → Joined c k ws ws₂
+  join-read {b} ec e₂ = also-own 2 (omega arith) e₂ (λ v l. (is v l .0 ∙ ap (isFor v) (sym ec), is v l .1))
+    where
+      is : (v : ℕ) → v < bikeSets → ((eqb 0 v || eqb 2 v) ≡ isFor v (Read b)) × ((eqb 0 v && eqb 2 v) ≡ false)
+      is zero l = (refl, refl)
+      is (suc zero) l = (refl, refl)
+      is (suc (suc zero)) l = (refl, refl)
+      is (suc (suc (suc v))) l = absurd (omega arith)
+
+  pub join-fit : {b dash start : ℕ} → c ≡ Fit b dash start → Joined c k ws ws₁
+  join-fit {b} {dash} {start} ec = only-all (λ v l. is v l ∙ ap (isFor v) (sym ec))
+    where
+      is : (v : ℕ) → v < bikeSets → eqb 0 v ≡ isFor v (Fit b dash start)
+      is zero l = refl
+      is (suc zero) l = refl
+      is (suc (suc zero)) l = refl
+      is (suc (suc (suc v))) l = absurd (omega arith)
+
+  pub join-trim : {b : ℕ} {km : ℤ} → c ≡ Trim b km → Joined c k ws ws₁
+  join-trim {b} {km} ec = only-all (λ v l. is v l ∙ ap (isFor v) (sym ec))
+    where
+      is : (v : ℕ) → v < bikeSets → eqb 0 v ≡ isFor v (Trim b km)
+      is zero l = refl
+      is (suc zero) l = refl
+      is (suc (suc zero)) l = refl
+      is (suc (suc (suc v))) l = absurd (omega arith)
+
+-- One command more is gathered.
+pub gathered-more : (s ws : List ℕ) (k : ℕ) {c : Command} {ws₁ : List ℕ} → c ≡ commandOf s k → Joined c k ws ws₁ → Gathered s k ws → Gathered s (k + 1) ws₁
+gathered-more s ws k {c} {ws₁} ec j g =
+    record {
+      size = j .size ∙ g .size;
+      at = λ b v lb lv.
+          j .at b v lb lv
+          ∙ (λ i. pick (eqb (bikeOf (ec i)) b && isFor v (ec i)) (withOf (g .at b v lb lv i) k) (g .at b v lb lv i))
+          ∙ joined (isOn v s b k) k (isOn v s b) refl;
+    }
+
+pub bike-below : (s : List ℕ) (k : ℕ) {c : Command} → k < length (commandsOf s) → c ≡ commandOf s k → bikeOf c < bikes
+bike-below s k inside ec = subst (λ (x : Command). bikeOf x < bikes) (sym ec) (commands-valid s k inside .bike)
 
 -- All commands are gathered, as the code counts them.
 pub gathered-all : (s ws : List ℕ) {n : ℕ} → n ≡ length (commandsOf s) → Gathered s n ws → Gathered s (length (commandsOf s)) ws
@@ -154,8 +208,8 @@ up-to n p l =
     ∙ no-more n (capacity - n) (upTo n p) (λ k g. ap (λ (t : Bool). t && p k) (le-ltb k n g))
     ∙ ap (λ (k : ℕ). setOf k (upTo n p)) q
 
--- What a row has of a command: below is whether it is in the book, bike whether it is on the row's bike, same whether it is the row's own.
-row-table : (below bike same like : Bool) → (below && (bike && true)) && not ((below && (bike && like)) || same) ≡ below && (true && (not same && (bike && not like)))
+-- A row has of a command: below is whether it is in the book, bike whether it is on the row's bike, same whether it is the row's own.
+row-table : (below bike same like : Bool) → (below && (bike && not like)) && not (false || same) ≡ below && (true && (not same && (bike && not like)))
 row-table false bike same like = refl
 row-table true false same like = sym (and-false (not same))
 row-table true true true true = refl
@@ -163,108 +217,98 @@ row-table true true true false = refl
 row-table true true false true = refl
 row-table true true false false = refl
 
--- Every command is of one of the four kinds.
-kinds-table : (below bike : Bool) (c : Command)
-    → (((below && (bike && slotKind 0 c)) || (below && (bike && slotKind 1 c))) || ((below && (bike && slotKind 2 c)) || (below && (bike && slotKind 3 c)))) ≡ (below && (bike && true))
-kinds-table false bike c = refl
-kinds-table true false c = refl
-kinds-table true true (Add b km) = refl
-kinds-table true true (Fit b dash start) = refl
-kinds-table true true (Read b) = refl
-kinds-table true true (Trim b km) = refl
+-- All of a bike but those that are like the command.
+less-table : (below bike like : Bool) → (below && (bike && true)) && not (below && (bike && like)) ≡ below && (bike && not like)
+less-table false bike like = refl
+less-table true false like = refl
+less-table true true like = refl
 
--- The set of no kind is empty.
-nobody : (s : List ℕ) (n b : ℕ) → emptyOf ≡ setOf n (isOn (λ d. false) s b)
-nobody s n b =
-    let q : 0 + n ≡ n = omega arith in
-    build-none (isOn (λ d. false) s b)
-    ∙ no-more 0 n (isOn (λ d. false) s b) (λ k _. and-false (eqb (bikeOf (commandOf s k)) b))
-    ∙ ap (λ (k : ℕ). setOf k (isOn (λ d. false) s b)) q
+row-fits : (s : List ℕ) (m : ℕ) → conflictRow s m .bits < 2 ^ 64
+unfolding conflictRow
+row-fits s m = word-lt capacity (conflictIn s m)
 
-module _ (s : List ℕ) (m : ℕ) (few : length (commandsOf s) ≤ capacity) (inside : m < length (commandsOf s)) where
+module _ (s : List ℕ) (m : ℕ) (few : length (commandsOf s) ≤ capacity) (inside : m < length (commandsOf s)) {ws : List ℕ} (g : Gathered s (length (commandsOf s)) ws) where
   abbrev n : ℕ
   n = length (commandsOf s)
 
-  -- The sets of the m-th command's bike.
-  abbrev gathered : (Command → Bool) → Set
-  gathered kind = setOf capacity (upTo n (isOn kind s (bikeOf (commandOf s m))))
+  -- Whether command k is in the v-th set of a bike.
+  set-in : (b v k : ℕ) → b < bikes → v < bikeSets → k < capacity → inSet (loadSet ws (bikeSets * b + v)) k ≡ (ltb k n && isOn v s b k)
+  set-in b v k lb lv lk =
+      ap (λ (x : Set). inSet x k) (g .at b v lb lv ∙ up-to n (isOn v s b) few) ∙ in-setOf capacity (upTo n (isOn v s b)) k lk
+
+  set-fits : (b v : ℕ) → b < bikes → v < bikeSets → loadSet ws (bikeSets * b + v) .bits < 2 ^ 64
+  set-fits b v lb lv = subst (λ (x : Set). x .bits < 2 ^ 64) (sym (g .at b v lb lv ∙ up-to n (isOn v s b) few)) (word-lt capacity (upTo n (isOn v s b)))
+
+  -- What a command is opposed to, by its kind.
+  record Opposed (c : Command) : Type 0 where
+    fits : opposedOf ws c .bits < 2 ^ 64
+    has : (k : ℕ) → k < capacity → inSet (opposedOf ws c) k ≡ (ltb k n && (eqb (bikeOf (commandOf s k)) (bikeOf c) && not (alike (commandOf s k) c)))
+
+  all-in : (b k : ℕ) → b < bikes → k < capacity → inSet (loadSet ws (bikeSets * b)) k ≡ (ltb k n && (eqb (bikeOf (commandOf s k)) b && true))
+  all-in b k lb lk = let q : bikeSets * b ≡ bikeSets * b + 0 = omega arith in ap (λ (p : ℕ). inSet (loadSet ws p) k) q ∙ set-in b 0 k lb (omega arith) lk
+
+  all-fits : (b : ℕ) → b < bikes → loadSet ws (bikeSets * b) .bits < 2 ^ 64
+  all-fits b lb = let q : bikeSets * b + 0 ≡ bikeSets * b = omega arith in subst (λ (p : ℕ). loadSet ws p .bits < 2 ^ 64) q (set-fits b 0 lb (omega arith))
+
+  -- A kind that is like itself is opposed to the others, any other kind to all.
+  but : (b v : ℕ) (c : Command) → b < bikes → v < bikeSets → ((d : Command) → isFor v d ≡ alike d c) → (k : ℕ) → k < capacity
+      → inSet (withoutOf (loadSet ws (bikeSets * b)) (loadSet ws (bikeSets * b + v))) k ≡ (ltb k n && (eqb (bikeOf (commandOf s k)) b && not (alike (commandOf s k) c)))
+  but b v c lb lv like k lk =
+      in-without (loadSet ws (bikeSets * b)) (loadSet ws (bikeSets * b + v)) k
+      ∙ (λ i. all-in b k lb lk i && not ((set-in b v k lb lv lk ∙ ap (λ (t : Bool). ltb k n && (eqb (bikeOf (commandOf s k)) b && t)) (like (commandOf s k))) i))
+      ∙ less-table (ltb k n) (eqb (bikeOf (commandOf s k)) b) (alike (commandOf s k) c)
+
+  every : (b : ℕ) (c : Command) → b < bikes → ((d : Command) → alike d c ≡ false) → (k : ℕ) → k < capacity
+      → inSet (loadSet ws (bikeSets * b)) k ≡ (ltb k n && (eqb (bikeOf (commandOf s k)) b && not (alike (commandOf s k) c)))
+  every b c lb none k lk = all-in b k lb lk ∙ ap (λ (t : Bool). ltb k n && (eqb (bikeOf (commandOf s k)) b && not t)) (sym (none (commandOf s k)))
+
+  opposed : (c : Command) → bikeOf c < bikes → Opposed c
+  opposed (Add b km) h =
+      record { fits = without-fits _ _ (all-fits b h) (set-fits b 1 h (omega arith)); has = but b 1 (Add b km) h (omega arith) (add-like b km) }
+  opposed (Fit b dash start) h = record { fits = all-fits b h; has = every b (Fit b dash start) h (fit-like b dash start) }
+  opposed (Read b) h = record { fits = without-fits _ _ (all-fits b h) (set-fits b 2 h (omega arith)); has = but b 2 (Read b) h (omega arith) (read-like b) }
+  opposed (Trim b km) h = record { fits = all-fits b h; has = every b (Trim b km) h (trim-like b km) }
 
   abbrev on : ℕ → Bool
   on k = eqb (bikeOf (commandOf s k)) (bikeOf (commandOf s m))
 
-  gathered-in : (kind : Command → Bool) (k : ℕ) → k < capacity → inSet (gathered kind) k ≡ (ltb k n && (on k && kind (commandOf s k)))
-  gathered-in kind k l = in-setOf capacity (upTo n (isOn kind s (bikeOf (commandOf s m)))) k l
-
-  fits : (p : ℕ → Bool) → setOf capacity p .bits < 2 ^ 64
-  fits p = word-lt capacity p
-
-  -- Those of its own kind on its bike.
-  abbrev peaceful : Set
-  peaceful = gathered (λ d. alike d (commandOf s m))
-
-  row-same : withoutOf (gathered anyKind) (withOf peaceful m) ≡ conflictRow s m
-  unfolding conflictRow conflictIn
-  row-same =
-      set-ext _ (conflictRow s m) (without-fits (gathered anyKind) (withOf peaceful m) (fits _) (with-fits peaceful m (fits _) (omega arith))) (fits (conflictIn s m)) same
+  -- The row of a command, as the code tells it.
+  pub row-told : {c : Command} {none with x row : Set} → c ≡ commandOf s m → none ≡ emptyOf → with ≡ withOf none m → x ≡ opposedOf ws c → row ≡ withoutOf x with → row ≡ conflictRow s m
+  unfolding conflictIn
+  row-told ec en ew ex er =
+      er
+      ∙ (λ i. withoutOf ((ex ∙ ap (opposedOf ws) ec) i) ((ew ∙ ap (λ (y : Set). withOf y m) en) i))
+      ∙ set-ext _ (conflictRow s m) (without-fits _ _ (o .fits) (with-fits emptyOf m (omega arith) (omega arith))) (row-fits s m) same
     where
-      same : (k : ℕ) → k < 64 → inSet (withoutOf (gathered anyKind) (withOf peaceful m)) k ≡ inSet (conflictRow s m) k
+      o : Opposed (commandOf s m)
+      o = opposed (commandOf s m) (commands-valid s m inside .bike)
+
+      same : (k : ℕ) → k < 64 → inSet (withoutOf (opposedOf ws (commandOf s m)) (withOf emptyOf m)) k ≡ inSet (conflictRow s m) k
       same k l =
-          in-without (gathered anyKind) (withOf peaceful m) k
-          ∙ (λ i. gathered-in anyKind k l i && not (in-with peaceful m k i))
-          ∙ ap (λ (t : Bool). (ltb k n && (on k && true)) && not (t || eqb k m)) (gathered-in (λ d. alike d (commandOf s m)) k l)
+          in-without (opposedOf ws (commandOf s m)) (withOf emptyOf m) k
+          ∙ (λ i. o .has k l i && not (in-with emptyOf m k i))
+          ∙ ap (λ (t : Bool). (ltb k n && (on k && not (alike (commandOf s k) (commandOf s m)))) && not (t || eqb k m)) (in-empty k)
           ∙ row-table (ltb k n) (on k) (eqb k m) (alike (commandOf s k) (commandOf s m))
           ∙ ap (λ (t : Bool). ltb k n && (t && (not (eqb k m) && (on k && not (alike (commandOf s k) (commandOf s m)))))) (sym (lt-ltb m n inside))
           ∙ sym (conflict-in-sym s m k)
           ∙ sym (in-row s m k l)
 
-  told : (kind : Command → Bool) {b : ℕ} {x : Set} → b ≡ bikeOf (commandOf s m) → x ≡ setOf n (isOn kind s b) → x ≡ gathered kind
-  told kind bike e = e ∙ ap (λ (b : ℕ). setOf n (isOn kind s b)) bike ∙ up-to n (isOn kind s (bikeOf (commandOf s m))) few
+-- What a command is opposed to, by kind, as the code tells it.
+module _ (ws : List ℕ) (c : Command) {at : ℕ} {all : Set} (ea : at ≡ bikeOf c) (el : all ≡ loadSet ws (bikeSets * at)) where
+  at-bike : {b : ℕ} → bikeOf c ≡ b → all ≡ loadSet ws (bikeSets * b)
+  at-bike e = el ∙ ap (λ (n : ℕ). loadSet ws (bikeSets * n)) (ea ∙ e)
 
-  -- The sets of the four kinds, two and two.
-  abbrev low : Set
-  low = unionOf (gathered (slotKind 0)) (gathered (slotKind 1))
+  own-bike : {b : ℕ} {own : Set} (u : ℕ) → bikeOf c ≡ b → own ≡ loadSet ws (bikeSets * at + u) → own ≡ loadSet ws (bikeSets * b + u)
+  own-bike u e eo = eo ∙ ap (λ (n : ℕ). loadSet ws (bikeSets * n + u)) (ea ∙ e)
 
-  abbrev high : Set
-  high = unionOf (gathered (slotKind 2)) (gathered (slotKind 3))
+  pub opposed-add : {b km : ℕ} {own r : Set} → c ≡ Add b km → own ≡ loadSet ws (bikeSets * at + 1) → r ≡ withoutOf all own → r ≡ opposedOf ws c
+  opposed-add ec eo er = er ∙ (λ i. withoutOf (at-bike (ap bikeOf ec) i) (own-bike 1 (ap bikeOf ec) eo i)) ∙ ap (opposedOf ws) (sym ec)
 
-  -- Together they have all commands.
-  all-same : unionOf low high ≡ gathered anyKind
-  all-same =
-      set-ext _ (gathered anyKind) (union-fits low high (union-fits _ _ (fits _) (fits _)) (union-fits _ _ (fits _) (fits _))) (fits _) same
-    where
-      same : (k : ℕ) → k < 64 → inSet (unionOf low high) k ≡ inSet (gathered anyKind) k
-      same k l =
-          in-union low high k
-          ∙ (λ i. in-union (gathered (slotKind 0)) (gathered (slotKind 1)) k i || in-union (gathered (slotKind 2)) (gathered (slotKind 3)) k i)
-          ∙ (λ i. (gathered-in (slotKind 0) k l i || gathered-in (slotKind 1) k l i) || (gathered-in (slotKind 2) k l i || gathered-in (slotKind 3) k l i))
-          ∙ kinds-table (ltb k n) (on k) (commandOf s k)
-          ∙ sym (gathered-in anyKind k l)
+  pub opposed-read : {b : ℕ} {own r : Set} → c ≡ Read b → own ≡ loadSet ws (bikeSets * at + 2) → r ≡ withoutOf all own → r ≡ opposedOf ws c
+  opposed-read ec eo er = er ∙ (λ i. withoutOf (at-bike (ap bikeOf ec) i) (own-bike 2 (ap bikeOf ec) eo i)) ∙ ap (opposedOf ws) (sym ec)
 
-  -- Those that a command does not conflict with stand at their place.
-  free-at : {ws : List ℕ} → Gathered s n ws → (c : Command) (b : ℕ) → b < bikes
-      → loadSet ws (unopposedPlace (slots * b) (kindOf c)) ≡ setOf n (isOn (λ d. pick (eqb (kindOf c % 2) 1) (slotKind (kindOf c) d) false) s b)
-  free-at g (Add b′ km) b l = g .at b 1 l (omega arith)
-  free-at g (Fit b′ dash start) b l = g .none ∙ nobody s n b
-  free-at g (Read b′) b l = g .at b 3 l (omega arith)
-  free-at g (Trim b′ km) b l = g .none ∙ nobody s n b
+  pub opposed-fit : {b dash start : ℕ} → c ≡ Fit b dash start → all ≡ opposedOf ws c
+  opposed-fit ec = at-bike (ap bikeOf ec) ∙ ap (opposedOf ws) (sym ec)
 
-  -- The row of a command, from the sets of its bike, as the code tells it.
-  pub row-told : {c : Head} {ws : List ℕ} {kind r : ℕ} {all free with row : Set} → c ≡ headOf (commandOf s m) → kind ≡ kindOf (commandOf s m) → Gathered s n ws
-      → all ≡ allFrom ws (slots * c .bike) → r ≡ unopposedPlace (slots * c .bike) kind → free ≡ loadSet ws r → with ≡ withOf free m → row ≡ withoutOf all with
-      → row ≡ conflictRow s m
-  row-told {c} {ws} {all = all} {free} ec ek g ea er ef ew ex =
-      let bike : c .bike ≡ bikeOf (commandOf s m) = λ i. ec i .bike in
-      let below = bike-below s m inside ec in
-      let slot : (v : ℕ) → v < slots → loadSet ws (slots * c .bike + v) ≡ gathered (slotKind v) = λ v l. told (slotKind v) bike (g .at (c .bike) v below l) in
-      let first : slots * c .bike ≡ slots * c .bike + 0 = omega arith in
-      let a : all ≡ gathered anyKind =
-      ea
-      ∙ (λ i. unionOf (unionOf ((ap (loadSet ws) first ∙ slot 0 (omega arith)) i) (slot 1 (omega arith) i)) (unionOf (slot 2 (omega arith) i) (slot 3 (omega arith) i)))
-      ∙ all-same in
-      let f : free ≡ peaceful =
-      told (λ d. alike d (commandOf s m)) bike
-      (ef
-      ∙ ap (loadSet ws) (er ∙ ap (unopposedPlace (slots * c .bike)) ek)
-      ∙ free-at g (commandOf s m) (c .bike) below
-      ∙ (λ i. setOf n (isOn (λ d. unopposed-kind (commandOf s m) d i) s (c .bike)))) in
-      ex ∙ ap (withoutOf all) (ew ∙ ap (λ (x : Set). withOf x m) f) ∙ ap (λ (x : Set). withoutOf x (withOf peaceful m)) a ∙ row-same
+  pub opposed-trim : {b : ℕ} {km : ℤ} → c ≡ Trim b km → all ≡ opposedOf ws c
+  opposed-trim ec = at-bike (ap bikeOf ec) ∙ ap (opposedOf ws) (sym ec)

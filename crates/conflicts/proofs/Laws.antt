@@ -8,12 +8,11 @@ use native.Mathlib.Numerals.{add-one}
 use native.Mathlib.Omega.{arith}
 use borrow.Author.Tests.{lt-ltb, le-ltb, ne-eqb}
 use lib.Dec.{ltb}
-use lib.ListN.{length, getD, take, drop, set, replicate, length-replicate}
+use lib.ListN.{length, getD, drop, replicate, length-replicate}
 use lib.Seq.{sets, sets-eq}
-use Rattle.theory.specs.Sets.{pick}
 use Rattle.sets.specs.declared.Set.{Set}
-use Rattle.sets.specs.Sets.{capacity, inSet, emptyOf, setOf, withOf, loadSet}
-use Rattle.sets.proofs.Laws.{in-setOf, build-none, build-yes, build-no}
+use Rattle.sets.specs.Sets.{capacity, inSet, emptyOf, setOf, loadSet, storeSet}
+use Rattle.sets.proofs.Laws.{in-setOf, build-none, build-no}
 use Rattle.register.specs.declared.Command.{Command}
 use Rattle.register.specs.Register.{conflict, conflictAt}
 use Rattle.register.specs.Exchange.{conflict-at-sym, conflict-at-same}
@@ -116,13 +115,13 @@ rows-start s ws n e h w =
     ∙ ap (λ (k : ℕ). rowsFrom s n 0 ++ drop k (replicate maxCommands 0)) l
     ∙ rows-filled s maxCommands n 0 h (omega arith)
 
-pub rows-more : (s ws : List ℕ) (n m : ℕ) {r : Set} → m < n → r ≡ conflictRow s m → sets ws m (rowsFrom s (n - m) m) ≡ conflictRows s
-    → sets (set ws m (r .bits)) (m + 1) (rowsFrom s (n - (m + 1)) (m + 1)) ≡ conflictRows s
+pub rows-more : (s ws : List ℕ) (n m : ℕ) {r : Set} {ws₁ : List ℕ} → m < n → r ≡ conflictRow s m → ws₁ ≡ storeSet ws m r → sets ws m (rowsFrom s (n - m) m) ≡ conflictRows s
+    → sets ws₁ (m + 1) (rowsFrom s (n - (m + 1)) (m + 1)) ≡ conflictRows s
 unfolding rowsFrom
-rows-more s ws n m {r} h e w =
+rows-more s ws n m {ws₁ = ws₁} h e es w =
     let q : suc (n - (m + 1)) ≡ n - m = omega arith in
-    ap (λ (k : ℕ). sets (set ws m (r .bits)) k (rowsFrom s (n - (m + 1)) k)) (add-one m)
-    ∙ ap (λ (t : Set). sets (set ws m (t .bits)) (suc m) (rowsFrom s (n - (m + 1)) (suc m))) e
+    ap (λ (k : ℕ). sets ws₁ k (rowsFrom s (n - (m + 1)) k)) (add-one m)
+    ∙ ap (λ (l : List ℕ). sets l (suc m) (rowsFrom s (n - (m + 1)) (suc m))) (es ∙ ap (storeSet ws m) e)
     ∙ ap (λ (k : ℕ). sets ws m (rowsFrom s k m)) q
     ∙ w
 

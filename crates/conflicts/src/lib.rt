@@ -1,13 +1,21 @@
 // Which commands of a book conflict: for each command the set of those that conflict with it.
 ghost use mathlib.Core.Path.{_≡_};
-ghost use Prim.Native.Nat.{_+_, _-_, _^_, _<_};
+ghost use Prim.Native.Nat.{_*_, _<_};
 ghost use lib.ListN.{length, take, replicate};
-ghost use Rattle.theory.specs.Sets.{pick, one};
-ghost use Rattle.sets.specs.Sets.{emptyOf, withOf, capacity};
+ghost use Rattle.sets.specs.Sets.{capacity};
+ghost use Rattle.register.specs.Register.{bikes, bikeOf};
 ghost use Rattle.commands.specs.Book.{maxCommands, commandsOf, placesOf};
-ghost use Rattle.conflicts.specs.Conflicts.{conflictRow, conflictRows, withNoted, nonePlace, allFrom, unopposedPlace, Gathered, unopposed};
-use commands::Head;
+ghost use Rattle.conflicts.specs.Conflicts.{conflictRow, conflictRows, bikeSets, withNoted, Joined, Gathered, opposedOf};
+use register::Bike;
+use register::Command;
 use sets::Set;
+
+// The sets of a bike: all its commands, its ADDs, its READs.
+const SETS: usize = 3;
+
+const ADDS: usize = 1;
+
+const READS: usize = 2;
 
 // Command k joins the set at a place.
 fn note(sets: &mut [u64], at: usize, k: usize)
@@ -18,13 +26,26 @@ fn note(sets: &mut [u64], at: usize, k: usize)
     before.with(k).store(sets, at);
 }
 
-// The sets of a bike: those of its TRIMs, ADDs, FITs and READs, so that a kind's number modulo 4 is the place of its set.
-const SLOTS: usize = 4;
+// Command k joins the sets of its bike that are for its kind.
+fn join(sets: &mut [u64], command: Command, k: usize)
+    requires { ⌜ (length (now sets) ≡ bikeSets * bikes) × (bikeOf command < bikes) × (k < capacity) ⌝ }
+    ensures { λ _. ⌜ Joined command k (now (sets .entry)) (now (sets .exit)) ⌝ }
+{
+    let bike = SETS * register::bike_of(command) as usize;
+    note(sets, bike, k);
+    match command {
+        Command::Add { bike: _, km: _ } => note(sets, bike + ADDS, k),
+        Command::Read { bike: _ } => note(sets, bike + READS, k),
+        Command::Fit {
+            bike: _,
+            dash: _,
+            start: _,
+        } => {}
+        Command::Trim { bike: _, km: _ } => {}
+    }
+}
 
-// The place of an empty set, after the sets of all bikes.
-const NONE: usize = 128;
-
-// All n commands are gathered, each in the set of its bike and kind. No branch is taken on the kind.
+// All n commands join the sets of their bikes.
 fn gather(book: &[u8], places: &[u16], n: usize, sets: &mut [u64])
     requires { ⌜ (n ≡ length (commandsOf (now book))) × (take (length (commandsOf (now book))) (now places) ≡ placesOf (now book))
         × Gathered (now book) 0 (now sets) ⌝ }
@@ -32,55 +53,43 @@ fn gather(book: &[u8], places: &[u16], n: usize, sets: &mut [u64])
 {
     let mut k: usize = 0;
     while k < n {
-        let head = commands::head_at(book, places, k);
-        let kind = commands::kind_at(book, places, k);
-        let place = SLOTS * (head.bike as usize) + (kind as usize) % SLOTS;
-        note(sets, place, k);
+        let command = commands::indexed(book, places, k);
+        join(sets, command, k);
         k += 1;
     }
 }
 
-// All commands of a bike: the union of its four sets, the first of them at the bike's place.
-fn all_of(sets: &[u64], bike: usize) -> Set
-    requires { ⌜ bike + 3 < length (now sets) ⌝ }
-    ensures { λ r. ⌜ r ≡ allFrom (now (sets .entry)) bike ⌝ }
+// The commands of its bike that a command is opposed to: an ADD to all but ADDs, a READ to all but READs, a FIT and a TRIM to all.
+fn opposed(sets: &[u64], command: Command) -> Set
+    requires { ⌜ (length (now sets) ≡ bikeSets * bikes) × (bikeOf command < bikes) ⌝ }
+    ensures { λ r. ⌜ r ≡ opposedOf (now (sets .entry)) command ⌝ }
 {
-    let trims = Set::load(sets, bike);
-    let adds = Set::load(sets, bike + 1);
-    let fits = Set::load(sets, bike + 2);
-    let reads = Set::load(sets, bike + 3);
-    trims.union(adds).union(fits.union(reads))
-}
-
-// The place of those on its bike that a command does not conflict with: of its own kind for ADD and READ, the odd kinds,
-// an empty set for FIT and TRIM.
-fn unopposed_place(bike: usize, kind: u8) -> usize
-    requires { ⌜ bike < nonePlace ⌝ }
-    ensures { λ r. ⌜ r ≡ unopposedPlace bike kind ⌝ }
-{
-    if kind % 2 == 1 {
-        bike + kind as usize
-    } else {
-        NONE
+    let bike = SETS * register::bike_of(command) as usize;
+    let all = Set::load(sets, bike);
+    match command {
+        Command::Add { bike: _, km: _ } => all.without(Set::load(sets, bike + ADDS)),
+        Command::Read { bike: _ } => all.without(Set::load(sets, bike + READS)),
+        Command::Fit {
+            bike: _,
+            dash: _,
+            start: _,
+        } => all,
+        Command::Trim { bike: _, km: _ } => all,
     }
 }
 
-// The commands that conflict with the m-th: those on its bike but itself and the unopposed.
+// The commands that conflict with the m-th: those that it is opposed to, but itself.
 fn row(book: &[u8], places: &[u16], m: usize, sets: &[u64]) -> Set
     requires { ⌜ (m < length (commandsOf (now book))) × (take (length (commandsOf (now book))) (now places) ≡ placesOf (now book))
         × Gathered (now book) (length (commandsOf (now book))) (now sets) ⌝ }
     ensures { λ r. ⌜ r ≡ conflictRow (now (book .entry)) m ⌝ }
 {
-    let head = commands::head_at(book, places, m);
-    let kind = commands::kind_at(book, places, m);
-    let bike = SLOTS * (head.bike as usize);
-    let all = all_of(sets, bike);
-    let place = unopposed_place(bike, kind);
-    let peaceful = Set::load(sets, place);
-    all.without(peaceful.with(m))
+    let command = commands::indexed(book, places, m);
+    let itself = Set::empty().with(m);
+    opposed(sets, command).without(itself)
 }
 
-// The rows of all 64 command numbers, from the sets of each bike; those past the n commands are empty, as they were.
+// The rows of the n commands. All rows are empty before, and those past the commands stay so.
 fn fill_rows(book: &[u8], places: &[u16], n: usize, sets: &[u64], rows: &mut [u64])
     requires { ⌜ (now rows ≡ replicate maxCommands 0) × (n ≡ length (commandsOf (now book)))
         × (take (length (commandsOf (now book))) (now places) ≡ placesOf (now book)) × Gathered (now book) n (now sets) ⌝ }
@@ -88,59 +97,17 @@ fn fill_rows(book: &[u8], places: &[u16], n: usize, sets: &[u64], rows: &mut [u6
 {
     let mut m: usize = 0;
     while m < n {
-        let found = row(book, places, m, sets);
-        rows[m] = found.bits;
+        row(book, places, m, sets).store(rows, m);
         m += 1;
     }
 }
 
-// The rows of all 64 command numbers, from the noted places of the n commands. All rows are empty before.
+// The rows of all command numbers, from the noted places of the n commands. All rows are empty before.
 pub fn conflict_rows(book: &[u8], places: &[u16], n: usize, rows: &mut [u64])
     requires { ⌜ (now rows ≡ replicate maxCommands 0) × (n ≡ length (commandsOf (now book))) × (take (length (commandsOf (now book))) (now places) ≡ placesOf (now book)) ⌝ }
     ensures { λ _. ⌜ now (rows .exit) ≡ conflictRows (now (book .entry)) ⌝ }
 {
-    let mut sets = [0u64; 129];
+    let mut sets = [0u64; SETS * Bike::COUNT];
     gather(book, places, n, &mut sets);
     fill_rows(book, places, n, &sets, rows);
-}
-
-// 1 where a test holds, else 0.
-fn one(test: bool) -> u64
-    ensures { λ r. ⌜ r ≡ one test ⌝ }
-{
-    if test { 1 } else { 0 }
-}
-
-// The set with one command more, where a test holds. Kinds come in no order, so the test is no branch.
-pub fn with_if(row: Set, k: usize, test: bool) -> Set
-    requires { ⌜ k < capacity ⌝ }
-    ensures { λ r. ⌜ r ≡ pick test (withOf row k) row ⌝ }
-{
-    let bit = one(test) << k;
-    Set {
-        bits: row.bits | bit,
-    }
-}
-
-// All bits where a test holds, else none.
-fn mask(test: bool) -> u64
-    ensures { λ r. ⌜ r ≡ pick test (2 ^ 64 - 1) 0 ⌝ }
-{
-    if test { u64::MAX } else { 0 }
-}
-
-// The set where a test holds, else the empty one.
-fn only_if(set: Set, test: bool) -> Set
-    ensures { λ r. ⌜ r ≡ pick test set emptyOf ⌝ }
-{
-    Set {
-        bits: set.bits & mask(test),
-    }
-}
-
-// Of a bike's ADDs and READs those that a command of the bike does not conflict with.
-pub fn unopposed(head: Head, adds: Set, reads: Set) -> Set
-    ensures { λ r. ⌜ r ≡ unopposed head adds reads ⌝ }
-{
-    only_if(adds, head.add).union(only_if(reads, !head.add & head.read))
 }

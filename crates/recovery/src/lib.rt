@@ -2,11 +2,9 @@
 ghost use mathlib.Core.Bool.{true};
 ghost use mathlib.Core.Path.{_≡_};
 ghost use Prim.Native.Nat.{ℕ, _+_, _*_, _≤_, _<_};
-ghost use lib.ListN.{length, take};
-ghost use Rattle.sets.specs.Sets.{withinOf};
+ghost use lib.ListN.{length};
+ghost use Rattle.sets.specs.Sets.{capacity};
 ghost use Rattle.table.specs.Table.{isGood};
-ghost use Rattle.commands.specs.Book.{commandsOf, placesOf};
-ghost use Rattle.conflicts.specs.Conflicts.{conflictRows};
 ghost use Rattle.calm.specs.Rows.{rowsSystem};
 ghost use Rattle.protocol.specs.Recovery.{decide};
 ghost use Rattle.entries.specs.Entries.{entrySize, entryOf, logTo};
@@ -150,23 +148,13 @@ pub fn decided_sets(
     Sets { nc: nc, c: c }
 }
 
-// What the first k entries decide of a round, their NC sets within the book.
-pub fn decide(
-    log: &[u8],
-    k: usize,
-    round: usize,
-    table: SiteTable,
-    book: &[u8],
-    places: &[u16],
-) -> Decision
-    requires { ⌜ (isGood table ≡ true) × (k * entrySize ≤ length (now log))
-        × (take (length (commandsOf (now book))) (now places) ≡ placesOf (now book))
-        × ((i : ℕ) → i < k → withinOf (entryOf (now log) i .nc) (length (commandsOf (now book))) ≡ true) ⌝ }
-    ensures { λ r. ⌜ r ≡ decisionOf (rowsSystem table (conflictRows (now (book .entry))))
-        (decide (rowsSystem table (conflictRows (now (book .entry)))) round (logTo (now (log .entry)) k)) ⌝ }
+// What the first k entries decide of a round.
+pub fn decide(log: &[u8], k: usize, round: usize, table: SiteTable, rows: &[u64]) -> Decision
+    requires { ⌜ (isGood table ≡ true) × (k * entrySize ≤ length (now log)) × (length (now rows) ≡ capacity) ⌝ }
+    ensures { λ r. ⌜ r ≡ decisionOf (rowsSystem table (now (rows .entry))) (decide (rowsSystem table (now (rows .entry))) round (logTo (now (log .entry)) k)) ⌝ }
 {
     let first = entries::first_of(log, k, round);
-    let sources = standing::standing_after(log, first, k, round, table, book, places);
+    let sources = standing::standing_after(log, first, k, round, table, rows);
     if !sources.decided {
         return Decision::Undecided;
     }

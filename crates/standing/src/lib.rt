@@ -3,12 +3,10 @@ ghost use mathlib.Core.Bool.{true};
 ghost use mathlib.Core.List.{List};
 ghost use mathlib.Core.Path.{_≡_};
 ghost use Prim.Native.Nat.{ℕ, _+_, _*_, _≤_, _<_};
-ghost use lib.ListN.{length, take};
+ghost use lib.ListN.{length};
 ghost use Rattle.sets.specs.declared.Set.{Set};
-ghost use Rattle.sets.specs.Sets.{capacity, inSet, withinOf};
+ghost use Rattle.sets.specs.Sets.{capacity, inSet};
 ghost use Rattle.table.specs.Table.{isGood};
-ghost use Rattle.commands.specs.Book.{commandsOf, placesOf};
-ghost use Rattle.conflicts.specs.Conflicts.{conflictRows};
 ghost use Rattle.calm.specs.Rows.{freeBy};
 ghost use Rattle.entries.specs.Entries.{entrySize, entryOf};
 ghost use Rattle.standing.specs.Standings.{nobodyYet, validAfter, withEntry, standingOf};
@@ -91,27 +89,23 @@ fn with_entry(
 }
 
 // The standing after k entries, of which none before `from` is of the round: entry by entry, until the round is decided.
-// Only of the round's entries it is asked whether their NC is free of conflicts.
 pub fn standing_after(
     log: &[u8],
     from: usize,
     k: usize,
     round: usize,
     table: SiteTable,
-    book: &[u8],
-    places: &[u16],
+    rows: &[u64],
 ) -> Standing
-    requires { ⌜ (isGood table ≡ true) × (k * entrySize ≤ length (now log))
-        × (take (length (commandsOf (now book))) (now places) ≡ placesOf (now book))
-        × ((i : ℕ) → i < k → withinOf (entryOf (now log) i .nc) (length (commandsOf (now book))) ≡ true)
+    requires { ⌜ (isGood table ≡ true) × (k * entrySize ≤ length (now log)) × (length (now rows) ≡ capacity)
         × (from ≤ k) × ((i : ℕ) → i < from → entryOf (now log) i .round ≡ round → ⊥) ⌝ }
-    ensures { λ r. ⌜ r ≡ standingOf table (conflictRows (now (book .entry))) round (now (log .entry)) k ⌝ }
+    ensures { λ r. ⌜ r ≡ standingOf table (now (rows .entry)) round (now (log .entry)) k ⌝ }
 {
     let mut sources = nobody_yet();
     let mut i: usize = from;
     while i < k {
         if entries::round_of(log, i) == round {
-            let free = calm::is_free_in(book, places, entries::nc_of(log, i));
+            let free = calm::is_free(rows, entries::nc_of(log, i));
             sources = with_entry(sources, log, i, round, table, free);
             if sources.decided {
                 return sources;

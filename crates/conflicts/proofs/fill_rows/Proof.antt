@@ -1,10 +1,12 @@
+-- `conflicts::fill_rows`: a row at each turn.
+-- Rests on Laws.
 use borrow.Author.Needs.{needs}
 use denote.Ref.{now}
 use Prim.Native.Nat.{ℕ, _-_, _≤_}
 use mathlib.Core.Path.{_≡_, _∙_, sym, ap}
 use native.Mathlib.Omega.{arith}
-use lib.ListN.{length, length-set, length-replicate}
-use lib.Seq.{sets}
+use lib.ListN.{length, length-replicate}
+use lib.Seq as seq
 use Rattle.commands.specs.Book.{maxCommands}
 use Rattle.commands.proofs.Walk.{few-commands}
 use Rattle.conflicts.specs.Conflicts.{rowsFrom, conflictRows}
@@ -14,10 +16,10 @@ use Rattle.conflicts.proofs.fill_rows.Statement.{statement}
 use Rattle.conflicts.proofs.fill_rows.Tie as tie
 
 abbrev Inv-loop : tie.InvT-loop
-Inv-loop book places n gathered rows₀ m₀ rows m = (m ≤ n) × (length rows ≡ maxCommands) × (sets rows m (rowsFrom book (n - m) m) ≡ conflictRows book)
+Inv-loop book places n sets rows₀ m₀ rows m = (m ≤ n) × (length rows ≡ maxCommands) × (seq.sets rows m (rowsFrom book (n - m) m) ≡ conflictRows book)
 
 abbrev μ-loop : tie.MeasureT-loop
-μ-loop book places n gathered rows₀ m₀ rows m = n - m
+μ-loop book places n sets rows₀ m₀ rows m = n - m
 
 loop-holds : tie.Need-loop-holds Inv-loop μ-loop
 loop-holds c =
@@ -33,26 +35,22 @@ row-requires : tie.Need-row-requires Inv-loop μ-loop
 row-requires c κs =
     let a = c .before .before .before .before .before .before .args in
     let p = c .before .before .before .before .before .before .pre in
-    let s = now (a .book) in
-    (omega arith, p .2, gathered-all s (now (a .sets)) (p .1) (p .3))
+    (omega arith, p .2, gathered-all (now (a .book)) (now (a .sets)) (p .1) (p .3))
 
-mul-rows : tie.Need-mul-rows Inv-loop μ-loop
-mul-rows c = omega (arith, few-commands (now (c .before .before .before .before .before .before .before .args .book)))
-
-slice-write-rows : tie.Need-slice-write-rows Inv-loop μ-loop
-slice-write-rows c = omega (arith, few-commands (now (c .before .before .before .before .before .before .before .args .book)))
+store-requires : tie.Need-store-requires Inv-loop μ-loop
+store-requires c κs = omega (arith, few-commands (now (c .before .before .before .before .before .before .before .before .args .book)))
 
 add-m : tie.Need-add-m Inv-loop μ-loop
-add-m c = omega (arith, few-commands (now (c .before .before .before .before .before .before .before .args .book)))
+add-m c = omega (arith, few-commands (now (c .before .before .before .before .before .before .before .before .before .before .before .args .book)))
 
 loop-less : tie.Need-loop-less Inv-loop μ-loop
 loop-less c = omega arith
 
 loop-again : tie.Need-loop-again Inv-loop μ-loop
 loop-again c =
-    let a = c .before .before .before .before .before .before .before .args in
-    let l = c .before .before .loop in
-    (omega arith, simp length-set (l .inv .1), rows-more (now (a .book)) (l .rows) (a .n) (l .m) (omega arith) (c .row .ensures) (l .inv .2))
+    let a = c .before .before .before .before .before .before .before .before .before .before .before .args in
+    let l = c .before .before .before .before .before .before .loop in
+    (omega arith, c .before .before .store .kept .1 .0 ∙ l .inv .1, rows-more (now (a .book)) (l .rows) (a .n) (l .m) (omega arith) (c .before .before .before .before .row .ensures) (c .before .before .store .ensures) (l .inv .2))
 
 same-length : tie.Need-same-length Inv-loop μ-loop
 same-length c = c .before .loop .inv .1 ∙ sym (ap length (c .before .before .before .before .before .before .pre .0) ∙ length-replicate {0} {A = ℕ} maxCommands 0)
@@ -71,8 +69,7 @@ fill-rows-spec =
     μ-loop
     loop-holds
     row-requires
-    mul-rows
-    slice-write-rows
+    store-requires
     add-m
     loop-less
     loop-again

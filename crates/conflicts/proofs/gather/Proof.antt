@@ -1,3 +1,5 @@
+-- `conflicts::gather`: one command more at each turn.
+-- Rests on Gathering.
 use borrow.Author.Needs.{needs}
 use denote.Ref.{now}
 use Prim.Native.Nat.{ℕ, _-_, _≤_, _<_}
@@ -7,7 +9,7 @@ use lib.ListN.{length}
 use Rattle.commands.specs.Book.{commandsOf}
 use Rattle.commands.proofs.Walk.{few-commands}
 use Rattle.conflicts.specs.Conflicts.{Gathered}
-use Rattle.conflicts.proofs.Gathering.{kind-place, gathered-more}
+use Rattle.conflicts.proofs.Gathering.{bike-below, gathered-more}
 use Rattle.conflicts.proofs.gather.Statement.{statement}
 use Rattle.conflicts.proofs.gather.Tie as tie
 
@@ -20,31 +22,15 @@ abbrev μ-loop : tie.MeasureT-loop
 loop-holds : tie.Need-loop-holds Inv-loop μ-loop
 loop-holds c = (omega arith, c .before .before .before .pre .2)
 
-head-at-requires : tie.Need-head-at-requires Inv-loop μ-loop
-head-at-requires c κs = (omega arith, c .before .before .before .before .before .pre .1)
+indexed-requires : tie.Need-indexed-requires Inv-loop μ-loop
+indexed-requires c κs = (omega arith, c .before .before .before .before .before .pre .1)
 
-kind-at-requires : tie.Need-kind-at-requires Inv-loop μ-loop
-kind-at-requires c κs = (omega arith, c .before .before .before .before .before .before .pre .1)
-
-cast-place : tie.Need-cast-place Inv-loop μ-loop
-cast-place c = search needs
-
-mul-place : tie.Need-mul-place Inv-loop μ-loop
-mul-place c = search needs
-
-cast-place-2 : tie.Need-cast-place-2 Inv-loop μ-loop
-cast-place-2 c = search needs
-
-add-place : tie.Need-add-place Inv-loop μ-loop
-add-place c = search needs
-
-note-requires : tie.Need-note-requires Inv-loop μ-loop
-note-requires c κs =
-    let o = c .before .before .before .before .before .before .before .before .before in
-    let l = c .before .before .before .before .before .loop in
+join-requires : tie.Need-join-requires Inv-loop μ-loop
+join-requires c κs =
+    let o = c .before .before .before .before .before .before .before in
+    let l = c .before .before .before .loop in
     let s = now (o .args .book) in
-    let place = kind-place s (l .k) (omega arith) (c .before .before .before .head-at .ensures) (c .before .before .kind-at .ensures) in
-    (omega (arith, place, l .inv .1 .size), omega (arith, few-commands s))
+    (l .inv .1 .size, bike-below s (l .k) (omega arith) (c .before .indexed .ensures), omega (arith, few-commands s))
 
 add-k : tie.Need-add-k Inv-loop μ-loop
 add-k c = omega arith
@@ -54,11 +40,9 @@ loop-less c = omega arith
 
 loop-again : tie.Need-loop-again Inv-loop μ-loop
 loop-again c =
-    let o = c .before .before .before .before .before .before .before .before .before .before .before .before in
-    let l = c .before .before .before .before .before .before .before .before .loop in
-    let s = now (o .args .book) in
-    let inside : l .k < length (commandsOf s) = omega arith in
-    (omega arith, gathered-more s (l .k) inside (c .before .before .before .before .before .before .head-at .ensures) (c .before .before .before .before .before .kind-at .ensures) (l .sets) (c .before .before .note .ensures) (l .inv .1))
+    let o = c .before .before .before .before .before .before .before .before .before .before in
+    let l = c .before .before .before .before .before .before .loop in
+    (omega arith, gathered-more (now (o .args .book)) (l .sets) (l .k) (c .before .before .before .before .indexed .ensures) (c .before .before .join .ensures) (l .inv .1))
 
 same-length : tie.Need-same-length Inv-loop μ-loop
 same-length c = c .before .loop .inv .1 .size ∙ sym (c .before .before .before .before .before .pre .2 .size)
@@ -76,13 +60,8 @@ gather-spec =
     Inv-loop
     μ-loop
     loop-holds
-    head-at-requires
-    kind-at-requires
-    cast-place
-    mul-place
-    cast-place-2
-    add-place
-    note-requires
+    indexed-requires
+    join-requires
     add-k
     loop-less
     loop-again
