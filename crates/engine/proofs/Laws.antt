@@ -13,6 +13,7 @@ use Rattle.refusals.specs.declared.Refusal.{Refusal}
 use Rattle.refusals.specs.declared.Refusal.the-variants.{Range, Size}
 use Rattle.refusals.specs.Refusals.{numberOf, codeOf}
 use Rattle.sets.specs.Sets.{capacity, has, withinOf}
+use Rattle.table.specs.declared.Rules.{Rules}
 use Rattle.table.specs.declared.SiteTable.{SiteTable}
 use Rattle.table.specs.Table.{maxSites}
 use Rattle.register.specs.declared.Command.{Command}
@@ -22,21 +23,23 @@ use Rattle.protocol.specs.System.{Demands, granted, _else_⨾_, verdict, known}
 use Rattle.protocol.specs.Site as protocol
 use Rattle.system.specs.Dash.{dash}
 use Rattle.layout.specs.Layout.{siteSize, siteRounds}
-use Rattle.layout.specs.Good.{goodSite, Holds}
+use Rattle.layout.specs.Good.{Holds}
 use Rattle.site.specs.Steps.{Received, Commanded, Heard}
 use Rattle.judging.specs.Outcomes.{outcome, _then_}
-use Rattle.judging.specs.Judging.{tableOf, systemOf, anyPosition, forRules, forSite}
-use Rattle.judging.proofs.Demands.{then-taken, then-refused, answered-taken, answered-refused, last-refused, last-taken, refused-whichever}
-use Rattle.judging.proofs.Laws.{Judged, site-judged}
+use Rattle.judging.specs.declared.Judgement.{Judgement}
+use Rattle.judging.specs.declared.Judgement.the-variants as judgement
+use Rattle.judging.specs.Judging.{tableOf, systemOf, rulesOf, judgedAs, numberIn, forSite}
+use Rattle.judging.proofs.Demands.{then-taken, then-refused, answered-taken, answered-refused, last-refused, last-taken}
+use Rattle.judging.proofs.Laws.{Judged, site-judged, good-code, good-rules, refused-code}
 use Rattle.judging.proofs.Steps.{written}
 use Rattle.engine.specs.Calls.{freshCall, receiveCommandCall, receiveAcknowledgmentCall, receiveCheckCall}
 
 -- ---- a fresh site
 
 module _ (site : List ℕ) (t : SiteTable) (book : List Command) where
-  pub fresh-refused : length site < siteSize → outcome 9 site ≡ freshCall t book site
+  pub fresh-refused : {k : ℕ} → length site < siteSize → k ≡ numberOf Size → outcome k site ≡ freshCall t book site
   unfolding freshCall
-  fresh-refused h = answered-refused Size _ site (λ i. verdict (lt-leb siteSize (length site) h i else Size ⨾ granted))
+  fresh-refused h ek = (λ i. outcome (ek i) site) ∙ answered-refused Size _ site (λ i. verdict (lt-leb siteSize (length site) h i else Size ⨾ granted))
 
   pub fresh-taken : {b : List ℕ} → siteSize ≤ length site → Holds t book 0 (take siteSize site) b (protocol.fresh (dash t book)) → outcome 0 (b ++ drop siteSize site) ≡ freshCall t book site
   unfolding freshCall
@@ -52,70 +55,70 @@ four r true true false d = refl
 four r true true true false = refl
 four r true true true true = refl
 
--- A demand that does not hold refuses, whether the one before it with the same refusal holds or not.
-either : (r : Refusal) (a b : Bool) → b ≡ false → numberOf r ≡ codeOf (verdict (a else r ⨾ b else r ⨾ granted))
-either r true b h = λ i. codeOf (verdict (sym h i else r ⨾ granted))
-either r false b h = refl
+module _ (n f : ℕ) (book site : List ℕ) {j : Judgement}
+    (e : j ≡ judgedAs (verdict (forSite n f book true site)) (rulesOf n f book)) where
+  module _ {x : Rules} (h : j ≡ judgement.Good x) where
+    code : 0 ≡ codeOf (verdict (forSite n f book true site))
+    code = good-code (verdict (forSite n f book true site)) (rulesOf n f book) e h
 
--- A command number that no book has.
-pub command-beyond : (n f : ℕ) (book site : List ℕ) (m : ℕ) {k : ℕ} → k ≡ codeOf (verdict (forRules n f book (leb siteSize (length site)) then false else Range ⨾ granted))
-    → capacity ≤ m → outcome k site ≡ receiveCommandCall n f book site m
-unfolding receiveCommandCall
-command-beyond n f book site m q h =
-    let l = few-commands book in
-    refused-whichever (forRules n f book (leb siteSize (length site)))
-    (goodSite n (length (commandsOf book)) anyPosition (take siteSize site) else Range ⨾ ltb m (length (commandsOf book)) else Range ⨾ granted)
-    Range _ site q (either Range (goodSite n (length (commandsOf book)) anyPosition (take siteSize site)) _ (le-ltb m (length (commandsOf book)) (omega arith)))
+    judged : Judged n f book site
+    judged = site-judged n f book true site code refl .1
 
-module _ (n f : ℕ) (book site : List ℕ) {k : ℕ} (q : k ≡ codeOf (verdict (forSite n f book true site))) where
-  judged : k ≡ 0 → Judged n f book site
-  judged z = site-judged n f book true site q z .1
+    pub sized : siteSize ≤ length site
+    sized = judged .sized
 
-  pub sized : k ≡ 0 → siteSize ≤ length site
-  sized z = judged z .sized
+    counted : x .commands ≡ length (commandsOf book)
+    counted = good-rules n f book (verdict (forSite n f book true site)) e h .1
 
   -- ---- a command
 
   module _ (m : ℕ) where
-    pub command-refused : (k ≡ 0 → ⊥) → outcome k site ≡ receiveCommandCall n f book site m
+    pub command-refused : {r : Refusal} {k : ℕ} → j ≡ judgement.Refused r → k ≡ numberIn j → outcome k site ≡ receiveCommandCall n f book site m
     unfolding receiveCommandCall
-    command-refused z = then-refused (forSite n f book true site) (ltb m (length (commandsOf book)) else Range ⨾ granted) _ site q z
+    command-refused h ek =
+        let w = refused-code (verdict (forSite n f book true site)) (rulesOf n f book) e h ek in
+        then-refused (forSite n f book true site) (ltb m (length (commandsOf book)) else Range ⨾ granted) _ site (w .0) (w .1)
 
-    module _ (z : k ≡ 0) {commands : ℕ} (e : commands ≡ length (commandsOf book)) where
-      pub command-below : m < commands → m < capacity
-      command-below h = let l = few-commands book in omega arith
+    module _ {x : Rules} (good : j ≡ judgement.Good x) where
+      pub command-below : m < x .commands → m < capacity
+      command-below h = let l = few-commands book in let c = counted good in omega arith
 
-      pub command-range : commands ≤ m → outcome 4 site ≡ receiveCommandCall n f book site m
+      pub command-range : {k : ℕ} → x .commands ≤ m → k ≡ numberOf Range → outcome k site ≡ receiveCommandCall n f book site m
       unfolding receiveCommandCall
-      command-range h =
-          last-refused (forSite n f book true site) (ltb m (length (commandsOf book))) Range _ site q z (le-ltb m (length (commandsOf book)) (omega arith))
+      command-range h ek =
+          let c = counted good in
+          (λ i. outcome (ek i) site)
+          ∙ last-refused (forSite n f book true site) (ltb m (length (commandsOf book))) Range _ site (code good) refl (le-ltb m (length (commandsOf book)) (omega arith))
 
-      pub command-taken : {b : List ℕ} → m < commands → Commanded m (take siteSize site) b → outcome 0 (b ++ drop siteSize site) ≡ receiveCommandCall n f book site m
+      pub command-taken : {b : List ℕ} → m < x .commands → Commanded m (take siteSize site) b → outcome 0 (b ++ drop siteSize site) ≡ receiveCommandCall n f book site m
       unfolding receiveCommandCall
       command-taken h o =
-          (λ i. outcome 0 (written site (sized z) (tableOf n f) (commandsOf book) (o (tableOf n f) (commandsOf book) (judged z .good) (omega arith)) i))
-          ∙ last-taken (forSite n f book true site) (ltb m (length (commandsOf book))) Range _ site q z (lt-ltb m (length (commandsOf book)) (omega arith))
+          let c = counted good in
+          (λ i. outcome 0 (written site (sized good) (tableOf n f) (commandsOf book) (o (tableOf n f) (commandsOf book) (judged good .good) (omega arith)) i))
+          ∙ last-taken (forSite n f book true site) (ltb m (length (commandsOf book))) Range _ site (code good) refl (lt-ltb m (length (commandsOf book)) (omega arith))
 
   -- ---- a check message
 
   module _ (set : ℕ) where
-    pub check-refused : (k ≡ 0 → ⊥) → outcome k site ≡ receiveCheckCall n f book site set
+    pub check-refused : {r : Refusal} {k : ℕ} → j ≡ judgement.Refused r → k ≡ numberIn j → outcome k site ≡ receiveCheckCall n f book site set
     unfolding receiveCheckCall
-    check-refused z = then-refused (forSite n f book true site) (known (systemOf n f book) (has set) else Range ⨾ granted) _ site q z
+    check-refused h ek =
+        let w = refused-code (verdict (forSite n f book true site)) (rulesOf n f book) e h ek in
+        then-refused (forSite n f book true site) (known (systemOf n f book) (has set) else Range ⨾ granted) _ site (w .0) (w .1)
 
-    module _ (z : k ≡ 0) {commands : ℕ} (e : commands ≡ length (commandsOf book)) {t : Bool} (et : t ≡ withinOf (record { bits = set }) commands) where
+    module _ {x : Rules} (good : j ≡ judgement.Good x) {t : Bool} (et : t ≡ withinOf (record { bits = set }) (x .commands)) where
       is-known : known (systemOf n f book) (has set) ≡ t
-      is-known = ap (withinOf (record { bits = set })) (sym e) ∙ sym et
+      is-known = ap (withinOf (record { bits = set })) (sym (counted good)) ∙ sym et
 
-      pub check-range : not t ≡ true → outcome 4 site ≡ receiveCheckCall n f book site set
+      pub check-range : {k : ℕ} → not t ≡ true → k ≡ numberOf Range → outcome k site ≡ receiveCheckCall n f book site set
       unfolding receiveCheckCall
-      check-range h = last-refused (forSite n f book true site) (known (systemOf n f book) (has set)) Range _ site q z (is-known ∙ not-true t h)
+      check-range h ek = (λ i. outcome (ek i) site) ∙ last-refused (forSite n f book true site) (known (systemOf n f book) (has set)) Range _ site (code good) refl (is-known ∙ not-true t h)
 
       pub check-taken : {b : List ℕ} → not t ≡ false → Received (record { bits = set }) (take siteSize site) b → outcome 0 (b ++ drop siteSize site) ≡ receiveCheckCall n f book site set
       unfolding receiveCheckCall
       check-taken h o =
-          (λ i. outcome 0 (written site (sized z) (tableOf n f) (commandsOf book) (o (tableOf n f) (commandsOf book) (judged z .good) (is-known ∙ not-false t h)) i))
-          ∙ last-taken (forSite n f book true site) (known (systemOf n f book) (has set)) Range _ site q z (is-known ∙ not-false t h)
+          (λ i. outcome 0 (written site (sized good) (tableOf n f) (commandsOf book) (o (tableOf n f) (commandsOf book) (judged good .good) (is-known ∙ not-false t h)) i))
+          ∙ last-taken (forSite n f book true site) (known (systemOf n f book) (has set)) Range _ site (code good) refl (is-known ∙ not-false t h)
 
   -- ---- an acknowledgment
 
@@ -123,23 +126,26 @@ module _ (n f : ℕ) (book site : List ℕ) {k : ℕ} (q : k ≡ codeOf (verdict
     rest : Demands
     rest = ltb sender n else Range ⨾ leb 1 round else Range ⨾ leb round siteRounds else Range ⨾ known (systemOf n f book) (has set) else Range ⨾ granted
 
-    pub acknowledgment-refused : (k ≡ 0 → ⊥) → outcome k site ≡ receiveAcknowledgmentCall n f book site sender round set
+    pub acknowledgment-refused : {r : Refusal} {k : ℕ} → j ≡ judgement.Refused r → k ≡ numberIn j → outcome k site ≡ receiveAcknowledgmentCall n f book site sender round set
     unfolding receiveAcknowledgmentCall rest
-    acknowledgment-refused z = then-refused (forSite n f book true site) rest _ site q z
+    acknowledgment-refused h ek =
+        let w = refused-code (verdict (forSite n f book true site)) (rulesOf n f book) e h ek in
+        then-refused (forSite n f book true site) rest _ site (w .0) (w .1)
 
-    module _ (z : k ≡ 0) {commands : ℕ} (e : commands ≡ length (commandsOf book)) {t : Bool} (et : t ≡ withinOf (record { bits = set }) commands) where
+    module _ {x : Rules} (good : j ≡ judgement.Good x) {t : Bool} (et : t ≡ withinOf (record { bits = set }) (x .commands)) where
       all-four : verdict (forSite n f book true site then rest) ≡ verdict (ltb sender n && leb 1 round && leb round siteRounds && t else Range ⨾ granted)
       unfolding rest
       all-four =
-          then-taken (forSite n f book true site) rest q z
+          then-taken (forSite n f book true site) rest (code good) refl
           ∙ four Range (ltb sender n) (leb 1 round) (leb round siteRounds) (known (systemOf n f book) (has set))
-          ∙ (λ i. verdict (ltb sender n && leb 1 round && leb round siteRounds && (ap (withinOf (record { bits = set })) (sym e) ∙ sym et) i else Range ⨾ granted))
+          ∙ (λ i. verdict (ltb sender n && leb 1 round && leb round siteRounds && (ap (withinOf (record { bits = set })) (sym (counted good)) ∙ sym et) i else Range ⨾ granted))
 
-      pub acknowledgment-range : not (ltb sender n && leb 1 round && leb round siteRounds && t) ≡ true
-          → outcome 4 site ≡ receiveAcknowledgmentCall n f book site sender round set
+      pub acknowledgment-range : {k : ℕ} → not (ltb sender n && leb 1 round && leb round siteRounds && t) ≡ true → k ≡ numberOf Range
+          → outcome k site ≡ receiveAcknowledgmentCall n f book site sender round set
       unfolding receiveAcknowledgmentCall rest
-      acknowledgment-range h =
-          answered-refused Range _ site (all-four ∙ (λ i. verdict (not-true (ltb sender n && leb 1 round && leb round siteRounds && t) h i else Range ⨾ granted)))
+      acknowledgment-range h ek =
+          (λ i. outcome (ek i) site)
+          ∙ answered-refused Range _ site (all-four ∙ (λ i. verdict (not-true (ltb sender n && leb 1 round && leb round siteRounds && t) h i else Range ⨾ granted)))
 
       module _ (h : not (ltb sender n && leb 1 round && leb round siteRounds && t) ≡ false) where
         met : (ltb sender n && leb 1 round && leb round siteRounds && t) ≡ true
@@ -154,7 +160,7 @@ module _ (n f : ℕ) (book site : List ℕ) {k : ℕ} (q : k ≡ codeOf (verdict
         pub hear-ready : (sender < maxSites) × (1 ≤ round) × (round ≤ siteRounds)
         hear-ready =
             let l = sender-below in
-            let w = judged z .few in (
+            let w = judged good .few in (
               omega arith,
               leb-true 1 round (right (ltb sender n) (leb 1 round) (left (ltb sender n && leb 1 round) (leb round siteRounds) first)),
               leb-true round siteRounds (right (ltb sender n && leb 1 round) (leb round siteRounds) first),
@@ -164,6 +170,6 @@ module _ (n f : ℕ) (book site : List ℕ) {k : ℕ} (q : k ≡ codeOf (verdict
             → outcome 0 (b ++ drop siteSize site) ≡ receiveAcknowledgmentCall n f book site sender round set
         unfolding receiveAcknowledgmentCall rest
         acknowledgment-taken o =
-            (λ i. outcome 0 (written site (sized z) (tableOf n f) (commandsOf book) (o (tableOf n f) (commandsOf book) (judged z .good) sender-below
-            (ap (withinOf (record { bits = set })) (sym e) ∙ sym et ∙ right (ltb sender n && leb 1 round && leb round siteRounds) t met)) i))
+            (λ i. outcome 0 (written site (sized good) (tableOf n f) (commandsOf book) (o (tableOf n f) (commandsOf book) (judged good .good) sender-below
+            (ap (withinOf (record { bits = set })) (sym (counted good)) ∙ sym et ∙ right (ltb sender n && leb 1 round && leb round siteRounds) t met)) i))
             ∙ answered-taken _ site (all-four ∙ (λ i. verdict (met i else Range ⨾ granted)))

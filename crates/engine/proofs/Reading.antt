@@ -1,38 +1,38 @@
 -- What the call of a log read answers: one law an answer.
 -- Assumes nothing.
-use mathlib.Core.Path.{_≡_, sym, ap, subst, _∙_}
+use mathlib.Core.Path.{_≡_, refl, sym, ap, _∙_}
 use mathlib.Core.Bool.{Bool, true, false, not}
 use mathlib.Core.List.{List, _++_}
 use mathlib.Core.Logic.{_⊎_, inl, inr}
 use mathlib.Core.Option.{none, some}
-use Prim.Native.Nat.{ℕ, _+_, _/_, _%_, _≤_, _<_}
+use Prim.Native.Nat.{ℕ, _/_, _≤_, _<_}
 use native.Mathlib.Omega.{arith}
 use lib.Dec.{leb, ltb}
 use lib.ListN.{length, take, drop, getD}
-use borrow.Author.Tests.{lt-ltb, le-ltb, lt-leb, le-leb, ne-eqb}
+use borrow.Author.Tests.{lt-ltb, le-ltb, lt-leb, le-leb}
 use Rattle.theory.specs.Sets.{pick}
 use Rattle.theory.specs.Lists.{nth}
 use Rattle.theory.specs.Counting.{not-true, not-false, lt-or-le}
-use Rattle.refusals.specs.declared.Refusal.the-variants.{Form, Range}
+use Rattle.refusals.specs.declared.Refusal.{Refusal}
+use Rattle.refusals.specs.declared.Refusal.the-variants.{Range}
 use Rattle.refusals.specs.declared.Verdict.{Verdict}
-use Rattle.refusals.specs.Refusals.{codeOf}
-use Rattle.table.specs.Table.{maxSites}
+use Rattle.refusals.specs.Refusals.{numberOf, codeOf}
+use Rattle.table.specs.declared.Rules.{Rules}
 use Rattle.commands.specs.Book.{commandsOf}
-use Rattle.protocol.specs.System.{Demands, granted, _else_⨾_, verdict}
+use Rattle.protocol.specs.System.{_else_⨾_, verdict}
 use Rattle.protocol.specs.Recovery.{entries}
 use Rattle.protocol.specs.Site as protocol
-use Rattle.system.specs.Dash.{lastRound}
 use Rattle.entries.specs.declared.Entry.{Entry}
-use Rattle.entries.specs.Entries.{entrySize, entryOf, viewEntry, logTo, logOf, inRangeOf, goodTo, Counting}
-use Rattle.entries.proofs.Judging.{in-range-told}
+use Rattle.entries.specs.Entries.{entrySize, entryOf, viewEntry, logTo, logOf, inRangeOf}
 use Rattle.entries.proofs.Logs.{log-nth, log-end, log-of-take}
 use Rattle.layout.specs.Layout.{siteSize, headOf}
-use Rattle.layout.specs.Good.{goodSite}
 use Rattle.site.specs.Steps.{ReadEntry}
 use Rattle.judging.specs.Outcomes.{outcome, answered, _then_}
-use Rattle.judging.specs.Judging.{tableOf, systemOf, spanIn, siteIn, withSite, entriesIn, isWhole, forRules, forSiteAndLog}
-use Rattle.judging.proofs.Demands.{then-taken, then-refused, answered-refused, refused-whichever}
-use Rattle.judging.proofs.Laws.{Judged, JudgedLog, log-judged}
+use Rattle.judging.specs.declared.Judgement.{Judgement}
+use Rattle.judging.specs.declared.Judgement.the-variants as judgement
+use Rattle.judging.specs.Judging.{tableOf, systemOf, spanIn, siteIn, withSite, entriesIn, rulesOf, judgedAs, numberIn, forSiteAndLog}
+use Rattle.judging.proofs.Demands.{then-taken, then-refused, answered-refused}
+use Rattle.judging.proofs.Laws.{Judged, JudgedLog, log-judged, good-code, good-rules, refused-code}
 use Rattle.judging.proofs.Steps.{carried}
 use Rattle.engine.specs.Next.{nextInRangeOf, thirdOf}
 use Rattle.engine.specs.Calls.{logReadCall}
@@ -49,19 +49,6 @@ module _ (log : List ℕ) (p : ℕ) where
   unfolding nextInRangeOf
   next-some n m h ee er =
       er ∙ ap (inRangeOf n m) ee ∙ (λ i. pick (sym (lt-ltb p (entriesIn log) h) i) (inRangeOf n m (entryOf log p)) true)
-
-  -- The numbers of an entry in range.
-  pub next-numbers : (n m : ℕ) → n ≤ maxSites → {t : Bool} → t ≡ nextInRangeOf log p n m → not t ≡ false → p < entriesIn log
-      → (entryOf log p .site < maxSites) × (1 ≤ entryOf log p .round) × (entryOf log p .round ≤ lastRound)
-  unfolding nextInRangeOf
-  next-numbers n m few {t} et h l =
-      let r = in-range-told n m (entryOf log p)
-      ((λ i. pick (sym (lt-ltb p (entriesIn log) l) i) (inRangeOf n m (entryOf log p)) true) ∙ sym et ∙ not-false t h) in
-      let s = r .site in
-      (omega arith, r .some-round, r .round)
-
-  pub counting-at : {q : ℕ} {counts : List ℕ} → p ≡ q → Counting log q counts → Counting log p counts
-  counting-at {counts = counts} e k = subst (λ (x : ℕ). Counting log x counts) (sym e) k
 
   pub third-none : entriesIn log ≤ p → false ≡ thirdOf log p
   unfolding thirdOf
@@ -127,37 +114,23 @@ module _ (n f : ℕ) (book log : List ℕ) (p : ℕ) where
 
 -- ---- the call
 
--- What a log read asks for after the log's form.
-abbrev afterForm : ℕ → ℕ → List ℕ → List ℕ → List ℕ → Demands
-afterForm n f book site log =
-    goodSite n (length (commandsOf book)) (entriesIn log) (take siteSize site) else Range
-    ⨾ goodTo log n (length (commandsOf book)) (siteIn n f book site .position) else Range
-    ⨾ protocol.nextInRange (systemOf n f book) (protocol.next (systemOf n f book) (siteIn n f book site) (logOf log)) else Range
-    ⨾ protocol.forLogRead (systemOf n f book) (siteIn n f book site) (logOf log)
-
--- A log that ends in a cut entry.
-pub read-cut : (n f : ℕ) (book site log : List ℕ) {k : ℕ} → k ≡ codeOf (verdict (forRules n f book (leb siteSize (length site)) then false else Form ⨾ granted))
-    → (length log % entrySize ≡ 0 → ⊥) → outcome k site ≡ logReadCall n f book site log
-unfolding logReadCall
-read-cut n f book site log q h =
-    refused-whichever (forRules n f book (leb siteSize (length site))) (isWhole log else Form ⨾ afterForm n f book site log) Form _ site q
-    (λ i. codeOf (verdict (sym (ne-eqb (length log % entrySize) 0 h) i else Form ⨾ afterForm n f book site log)))
-
-module _ (n f : ℕ) (book site log : List ℕ) {k : ℕ} (q : k ≡ codeOf (verdict (forSiteAndLog n f book true site log))) where
-  pub read-refused : (k ≡ 0 → ⊥) → outcome k site ≡ logReadCall n f book site log
+module _ (n f : ℕ) (book site log : List ℕ) {j : Judgement}
+    (e : j ≡ judgedAs (verdict (forSiteAndLog n f book true site log)) (rulesOf n f book)) where
+  pub read-refused : {r : Refusal} {k : ℕ} → j ≡ judgement.Refused r → k ≡ numberIn j → outcome k site ≡ logReadCall n f book site log
   unfolding logReadCall
-  read-refused z =
+  read-refused h ek =
+      let w = refused-code (verdict (forSiteAndLog n f book true site log)) (rulesOf n f book) e h ek in
       then-refused (forSiteAndLog n f book true site log)
       (protocol.nextInRange (systemOf n f book) (protocol.next (systemOf n f book) (siteIn n f book site) (logOf log)) else Range
       ⨾ protocol.forLogRead (systemOf n f book) (siteIn n f book site) (logOf log))
-      _ site q z
+      _ site (w .0) (w .1)
 
-  module _ (z : k ≡ 0) where
+  module _ {x : Rules} (h : j ≡ judgement.Good x) where
+    code : 0 ≡ codeOf (verdict (forSiteAndLog n f book true site log))
+    code = good-code (verdict (forSiteAndLog n f book true site log)) (rulesOf n f book) e h
+
     judged : Judged n f book site × JudgedLog n f book site log
-    judged = let j = log-judged n f book true site log q z in (j .1, j .2)
-
-    pub read-few : n ≤ maxSites
-    read-few = judged .0 .few
+    judged = let j = log-judged n f book true site log code refl in (j .1, j .2)
 
     pub read-sized : siteSize ≤ length site
     read-sized = judged .0 .sized
@@ -167,11 +140,11 @@ module _ (n f : ℕ) (book site log : List ℕ) {k : ℕ} (q : k ≡ codeOf (ver
     read-early =
         let l = few-entries log n (length (commandsOf book)) (judged .0 .few) (headOf (take siteSize site) .position) (judged .1 .before) in omega arith
 
-    module _ {p commands : ℕ} (ep : p ≡ headOf (take siteSize site) .position) (ec : commands ≡ length (commandsOf book)) {t : Bool} (et : t ≡ nextInRangeOf log p n commands) where
+    module _ {p : ℕ} (ep : p ≡ headOf (take siteSize site) .position) {t : Bool} (et : t ≡ nextInRangeOf log p n (x .commands)) where
       in-range : protocol.nextInRange (systemOf n f book) (protocol.next (systemOf n f book) (siteIn n f book site) (logOf log)) ≡ t
       in-range =
           ap (λ (x : ℕ). protocol.nextInRange (systemOf n f book) (nth (logOf log) x)) (sym ep)
-          ∙ range-is n f book log p ∙ ap (nextInRangeOf log p n) (sym ec) ∙ sym et
+          ∙ range-is n f book log p ∙ ap (nextInRangeOf log p n) (sym (good-rules n f book (verdict (forSiteAndLog n f book true site log)) e h .1)) ∙ sym et
 
       first : verdict
           (forSiteAndLog n f book true site log
@@ -181,13 +154,14 @@ module _ (n f : ℕ) (book site log : List ℕ) {k : ℕ} (q : k ≡ codeOf (ver
       first =
           then-taken (forSiteAndLog n f book true site log)
           (protocol.nextInRange (systemOf n f book) (protocol.next (systemOf n f book) (siteIn n f book site) (logOf log)) else Range
-          ⨾ protocol.forLogRead (systemOf n f book) (siteIn n f book site) (logOf log)) q z
+          ⨾ protocol.forLogRead (systemOf n f book) (siteIn n f book site) (logOf log)) code refl
           ∙ (λ i. verdict (in-range i else Range ⨾ protocol.forLogRead (systemOf n f book) (siteIn n f book site) (logOf log)))
 
-      pub read-range : not t ≡ true → outcome 4 site ≡ logReadCall n f book site log
+      pub read-range : {k : ℕ} → not t ≡ true → k ≡ numberOf Range → outcome k site ≡ logReadCall n f book site log
       unfolding logReadCall
-      read-range h =
-          answered-refused Range _ site
+      read-range h ek =
+          (λ i. outcome (ek i) site)
+          ∙ answered-refused Range _ site
           (first ∙ (λ i. verdict (not-true t h i else Range ⨾ protocol.forLogRead (systemOf n f book) (siteIn n f book site) (logOf log))))
 
       pub read-done : not t ≡ false → ((i : ℕ) → getD site i 0 < 256) → {third : Bool} {r : Verdict} {b : List ℕ} {code : ℕ} → third ≡ thirdOf log p

@@ -265,3 +265,20 @@ pub fn counted(counts: &[u8], site: usize, round: usize) -> usize
     let count = wire::get1(counts, site * Entry::ROUNDS + (round - 1));
     wide(count)
 }
+
+// Whether a log read would take each of the first k entries.
+pub fn judge_entries(log: &[u8], k: usize, sites: usize, commands: usize) -> bool
+    requires { ⌜ (k * entrySize ≤ length (now log)) × (sites ≤ maxSites) ⌝ }
+    ensures { λ r. ⌜ r ≡ goodTo (now (log .entry)) sites commands k ⌝ }
+{
+    let mut counts = [0u8; CELLS];
+    judge_prefix(log, k, sites, commands, &mut counts)
+}
+
+// How many of the first k entries a site has in a round.
+pub fn entries_of(log: &[u8], k: usize, site: usize, round: usize) -> usize
+    requires { ⌜ k * entrySize ≤ length (now log) ⌝ }
+    ensures { λ r. ⌜ r ≡ entries site round (logTo (now (log .entry)) k) ⌝ }
+{
+    entries_since(log, 0, 0, k, site, round)
+}

@@ -49,14 +49,6 @@ module _ (d e : Demands) where
       go (false else r ⨾ d) q z = absurd (number-nonzero r (sym q ∙ z))
 
   -- A refusal by the first demands is the answer.
-  pub then-code : {code : ℕ} → code ≡ codeOf (verdict d) → (code ≡ 0 → ⊥) → code ≡ codeOf (verdict (d then e))
-  then-code q n = go d q n
-    where
-      go : (d : Demands) {code : ℕ} → code ≡ codeOf (verdict d) → (code ≡ 0 → ⊥) → code ≡ codeOf (verdict (d then e))
-      go granted q n = absurd (n q)
-      go (true else r ⨾ d) q n = go d q n
-      go (false else r ⨾ d) q n = q
-
   pub then-refused : {A : Type 0} (later before : A) {code : ℕ} → code ≡ codeOf (verdict d) → (code ≡ 0 → ⊥)
       → outcome code before ≡ answered (verdict (d then e)) later before
   then-refused {A} later before q n = go d q n
@@ -88,13 +80,3 @@ module _ (d : Demands) (t : Bool) (r : Refusal) {A : Type 0} (later before : A) 
 
   pub last-taken : t ≡ true → outcome 0 later ≡ answered (verdict (d then t else r ⨾ granted)) later before
   last-taken e = answered-taken later before (then-taken d (t else r ⨾ granted) q z ∙ (λ i. verdict (e i else r ⨾ granted)))
-
--- A call that has a refusal after its first demands, whichever demand gives it: the first refusal of the demands before is the answer, and else this one.
-pub refused-whichever : (d e : Demands) (r : Refusal) {A : Type 0} (later before : A) {code : ℕ} → code ≡ codeOf (verdict (d then false else r ⨾ granted))
-    → numberOf r ≡ codeOf (verdict e) → outcome code before ≡ answered (verdict (d then e)) later before
-refused-whichever d e r {A} later before q p = go d q
-  where
-    go : (d : Demands) {code : ℕ} → code ≡ codeOf (verdict (d then false else r ⨾ granted)) → outcome code before ≡ answered (verdict (d then e)) later before
-    go granted q = code-refused (verdict e) later before (q ∙ p) (λ z. number-nonzero r (sym q ∙ z))
-    go (true else x ⨾ d) q = go d q
-    go (false else x ⨾ d) q = λ i. outcome (q i) before

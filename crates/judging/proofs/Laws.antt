@@ -1,13 +1,13 @@
 -- What the judges of the first demands, of a lent site and of a lent log answer, one law an answer, and what a site that passed is.
 -- Assumes nothing.
 use mathlib.Core.Path.{_≡_, refl, sym, ap, subst, _∙_}
-use mathlib.Core.Bool.{Bool, true, false, cond, not, _&&_, _||_}
-use mathlib.Core.List.{List, [], _∷_}
+use mathlib.Core.Bool.{Bool, true, false, cond, not, _&&_}
+use mathlib.Core.List.{List}
 use Prim.Native.Nat.{ℕ, _*_, _/_, _%_, _≤_, _<_}
 use native.Mathlib.Omega.{arith}
 use lib.Dec.{leb}
 use lib.ListN.{length, take, length-take, replicate}
-use borrow.Author.Tests.{le-leb, lt-leb, leb-true, eqb-true}
+use borrow.Author.Tests.{leb-true, eqb-true, eq-eqb, ne-eqb}
 use lib.Seq.{sets}
 use Rattle.theory.specs.Sets.{pick}
 use Rattle.theory.specs.Counting.{left, right, not-true, not-false, never}
@@ -16,15 +16,17 @@ use Rattle.refusals.specs.declared.Refusal.the-variants.{Book, Table, Form, Ran
 use Rattle.refusals.specs.declared.Verdict.{Verdict}
 use Rattle.refusals.specs.declared.Verdict.the-variants.{Taken, Refused}
 use Rattle.refusals.specs.Refusals.{numberOf, codeOf}
+use Rattle.table.specs.declared.Rules.{Rules}
 use Rattle.table.specs.declared.SiteTable.{SiteTable}
+use Rattle.table.specs.declared.Judged as judging
 use Rattle.table.specs.declared.Judged.the-variants as judged
 use Rattle.table.specs.Table.{maxSites, goodTable, judgeTable}
 use Rattle.table.proofs.Laws.{limits}
 use Rattle.commands.specs.declared.Measured.{Measured}
 use Rattle.commands.specs.declared.Measured.the-variants.{Commands, Unreadable}
-use Rattle.commands.specs.Book.{maxCommands, commandsOf, placesOf, judgeBook, measureBook, walkedPlaces}
+use Rattle.commands.specs.Book.{maxCommands, commandsOf, placesOf, judgeBook, measureBook, notedPlaces}
 use Rattle.commands.proofs.Noting.{note-noted}
-use Rattle.commands.proofs.Walk.{few-commands, is-counted, not-counted}
+use Rattle.commands.proofs.Walk.{is-counted, not-counted}
 use Rattle.protocol.specs.System.{Demands, granted, _else_⨾_, verdict}
 use Rattle.entries.specs.Entries.{entrySize, goodTo}
 use Rattle.layout.specs.Layout.{siteSize, headOf}
@@ -33,8 +35,9 @@ use Rattle.layout.specs.Good.{goodSite}
 use Rattle.lent.proofs.Judged.{site-good}
 use Rattle.judging.specs.Outcomes.{isTaken, _then_}
 use Rattle.judging.specs.declared.Judgement.{Judgement}
-use Rattle.judging.specs.Judging.{anyPosition, entriesIn, isWhole, forTable, forBook, forFirst, forRules, forLent, forSite, forSiteAndLog, notedIn, placesAfter, packing, unpacked, Judges}
-use Rattle.judging.proofs.Demands.{met, taken-zero, then-taken, then-code}
+use Rattle.judging.specs.declared.Judgement.the-variants as judgement
+use Rattle.judging.specs.Judging.{tableOf, anyPosition, entriesIn, isWhole, rulesOf, judgedAs, numberIn, forTable, forBook, forRules, forSite, forSiteAndLog, placesAfter}
+use Rattle.judging.proofs.Demands.{number-nonzero, Met, met, then-taken}
 
 -- The first bytes of a buffer that is long enough.
 pub first-length : (n : ℕ) (s : List ℕ) → n ≤ length s → n ≡ length (take n s)
@@ -59,202 +62,183 @@ module _ (n f mask : ℕ) where
       go true s e = absurd (let z : _≡_ {A = ℕ} 0 1 = cc in omega arith)
       go false s {r} e = let q : r ≡ Table = cc in ap numberOf q
 
--- A refusal counts no commands; demands that are met before others leave the count to those.
-module _ {v : Verdict} (book : List ℕ) {j : Judgement} where
-  pub judges-refused : {k : ℕ} → (j .code ≡ k) × (j .commands ≡ 0) → k ≡ codeOf v → (k ≡ 0 → ⊥) → Judges v book j
-  judges-refused e q n = record { code = e .0 ∙ q; taken = λ z. absurd (n (sym (e .0) ∙ z)); refused = λ _. e .1 }
-
-  pub judges-also : {w : Verdict} → Judges w book j → j .code ≡ codeOf v → Judges v book j
-  judges-also h q = record { code = q; taken = h .taken; refused = h .refused }
-
 -- The book that was measured.
 pub book-counted : (s : List ℕ) {n : ℕ} → measureBook s ≡ Commands n → 0 ≡ codeOf (verdict (forBook s))
 book-counted s h = λ i. codeOf (verdict (isTaken (is-counted s h .0 i) else Book ⨾ granted))
 
--- A book without a byte has no command.
-pub book-empty : (s : List ℕ) → length s ≡ 0 → 0 ≡ codeOf (verdict (forBook s))
-unfolding measureBook
-book-empty [] h = book-counted [] refl
-book-empty (x ∷ s) h = absurd (omega arith)
-
--- Of two of which one holds, the second where the first does not.
-pub second : (a b : Bool) → (a || b) ≡ true → a ≡ false → b ≡ true
-second true b h e = absurd (never true refl e)
-second false b h e = h
-
 pub book-refused : (s : List ℕ) → measureBook s ≡ Unreadable → 1 ≡ codeOf (verdict (forBook s))
 book-refused s h = λ i. codeOf (verdict (isTaken (not-counted s h .0 i) else Book ⨾ granted))
 
--- A demand that does not hold, and one that does.
-pub demand-not : (t : Bool) (r : Refusal) (d : Demands) → not t ≡ true → numberOf r ≡ codeOf (verdict (t else r ⨾ d))
-demand-not t r d h = λ i. codeOf (verdict (sym (not-true t h) i else r ⨾ d))
+-- ---- what a judge answers, and the verdict that it tells
 
-pub demand-met : (t : Bool) (r : Refusal) (d : Demands) → not t ≡ false → verdict (t else r ⨾ d) ≡ verdict d
-demand-met t r d h = λ i. verdict (not-false t h i else r ⨾ d)
-
--- After demands that are met, others answer.
-pub then-answer : (d e : Demands) {k l : ℕ} → k ≡ codeOf (verdict d) → k ≡ 0 → l ≡ codeOf (verdict e) → l ≡ codeOf (verdict (d then e))
-then-answer d e q z p = p ∙ ap codeOf (sym (then-taken d e q z))
-
--- ---- a refusal whatever the site is
-
-module _ (n f : ℕ) (book : List ℕ) (sized : Bool) (r : Refusal) {k : ℕ} (q : k ≡ codeOf (verdict (forFirst n f sized))) where
-  pub refuse-first : (k ≡ 0 → ⊥) → k ≡ codeOf (verdict (forRules n f book sized then false else r ⨾ granted))
-  refuse-first z = then-code (forFirst n f sized) (isTaken (judgeBook book) else Book ⨾ false else r ⨾ granted) q z
-
-  module _ (z : k ≡ 0) {l : ℕ} (p : l ≡ codeOf (verdict (forBook book))) where
-    pub refuse-book : (l ≡ 0 → ⊥) → l ≡ codeOf (verdict (forRules n f book sized then false else r ⨾ granted))
-    refuse-book y = then-answer (forFirst n f sized) (forBook book then false else r ⨾ granted) q z (then-code (forBook book) (false else r ⨾ granted) p y)
-
-    pub refuse-last : {m : ℕ} → m ≡ numberOf r → l ≡ 0 → m ≡ codeOf (verdict (forRules n f book sized then false else r ⨾ granted))
-    refuse-last e y = then-answer (forFirst n f sized) (forBook book then false else r ⨾ granted) q z (then-answer (forBook book) (false else r ⨾ granted) p y e)
-
--- ---- a judgement as one number
-
-pub judges-same : {v : Verdict} {book : List ℕ} {i j : Judgement} → j ≡ i → Judges v book i → Judges v book j
-judges-same {v} {book} e h = subst (Judges v book) (sym e) h
-
-pub packed-refused : (r k : ℕ) → r ≡ packing * k → (unpacked r .code ≡ k) × (unpacked r .commands ≡ 0)
-packed-refused r k e = (omega arith, omega arith)
-
-pub packed-commands : (r : ℕ) → r < packing → (unpacked r .code ≡ 0) × (unpacked r .commands ≡ r)
-packed-commands r h = (omega arith, omega arith)
-
--- ---- the book, the log's form and the site
-
-module _ (n : ℕ) (book : List ℕ) (whole : Bool) (entries : ℕ) (site : List ℕ) where
-  pub lent-unreadable : {j : Judgement} → (j .code ≡ 1) × (j .commands ≡ 0) → measureBook book ≡ Unreadable → Judges (verdict (forLent n book whole entries site)) book j
-  lent-unreadable e h =
-      judges-refused book e
-      (then-code (forBook book) (whole else Form ⨾ goodSite n (length (commandsOf book)) entries site else Range ⨾ granted) (book-refused book h) (λ z. omega arith)) (λ z. omega arith)
-
-  module _ {commands : ℕ} (h : measureBook book ≡ Commands commands) where
-    by-rest : {k : ℕ} → k ≡ codeOf (verdict (whole else Form ⨾ goodSite n (length (commandsOf book)) entries site else Range ⨾ granted))
-        → k ≡ codeOf (verdict (forLent n book whole entries site))
-    by-rest q = then-answer (forBook book) (whole else Form ⨾ goodSite n (length (commandsOf book)) entries site else Range ⨾ granted) (book-counted book h) refl q
-
-    good-by : {t : Bool} → t ≡ goodSite n commands entries site → goodSite n (length (commandsOf book)) entries site ≡ t
-    good-by e = ap (λ (c : ℕ). goodSite n c entries site) (sym (is-counted book h .1)) ∙ sym e
-
-    pub lent-cut : {j : Judgement} → (j .code ≡ 3) × (j .commands ≡ 0) → not whole ≡ true → Judges (verdict (forLent n book whole entries site)) book j
-    lent-cut e w =
-        judges-refused book e (by-rest (demand-not whole Form (goodSite n (length (commandsOf book)) entries site else Range ⨾ granted) w)) (λ z. omega arith)
-
-    module _ (w : not whole ≡ false) {t : Bool} (et : t ≡ goodSite n commands entries site) where
-      by-site : {k : ℕ} → k ≡ codeOf (verdict (t else Range ⨾ granted)) → k ≡ codeOf (verdict (forLent n book whole entries site))
-      by-site q =
-          by-rest
-          (q
-          ∙ (λ i. codeOf (verdict (sym (good-by et) i else Range ⨾ granted)))
-          ∙ ap codeOf (sym (demand-met whole Form (goodSite n (length (commandsOf book)) entries site else Range ⨾ granted) w)))
-
-      pub lent-bad : {j : Judgement} → (j .code ≡ 4) × (j .commands ≡ 0) → not t ≡ true → Judges (verdict (forLent n book whole entries site)) book j
-      lent-bad e b = judges-refused book e (by-site (demand-not t Range granted b)) (λ z. omega arith)
-
-      pub lent-few : commands < packing
-      lent-few = let l = few-commands book in let e = is-counted book h .1 in omega arith
-
-      pub lent-good : {j : Judgement} → j .code ≡ 0 → j .commands ≡ commands → not t ≡ false → Judges (verdict (forLent n book whole entries site)) book j
-      lent-good e c b =
-          record { code = e ∙ by-site (ap codeOf (sym (demand-met t Range granted b))); taken = λ _. c ∙ is-counted book h .1; refused = λ z. absurd (z e) }
-
--- ---- a lent site
-
--- Without a log there is none that is cut.
-no-log : (t : Bool) (d : Demands) → verdict (t else Book ⨾ true else Form ⨾ d) ≡ verdict (t else Book ⨾ d)
-no-log true d = refl
-no-log false d = refl
-
--- A walk notes all places where there is room for those of any book, and else none.
-pub all-noted : (book places : List ℕ) → maxCommands ≤ length places → notedIn book places ≡ sets places 0 (walkedPlaces book)
-all-noted book places h = λ i. pick (le-leb maxCommands (length places) h i) (sets places 0 (walkedPlaces book)) places
-
-pub none-noted : (book places : List ℕ) → length places < maxCommands → notedIn book places ≡ places
-none-noted book places h = λ i. pick (lt-leb maxCommands (length places) h i) (sets places 0 (walkedPlaces book)) places
-
-module _ (n f : ℕ) (sized : Bool) (book places : List ℕ) {k : ℕ} (q : k ≡ codeOf (verdict (forFirst n f sized))) where
-  -- The places where the call is refused before its book, and where it is not.
-  pub places-kept : (k ≡ 0 → ⊥) → places ≡ placesAfter n f book sized places
-  places-kept z = go (verdict (forFirst n f sized)) q
+module _ (v : Verdict) (rules : Rules) {j : Judgement} (e : j ≡ judgedAs v rules) where
+  pub good-taken : {x : Rules} → j ≡ judgement.Good x → (v ≡ Taken) × (x ≡ rules)
+  good-taken {x} h = go v (sym h ∙ e)
     where
-      go : (v : Verdict) → k ≡ codeOf v → places ≡ pick (isTaken v) (notedIn book places) places
-      go Taken e = absurd (z e)
-      go (Refused r) e = refl
+      go : (v : Verdict) → judgement.Good x ≡ judgedAs v rules → (v ≡ Taken) × (x ≡ rules)
+      go Taken e = (refl, cc)
+      go (Refused r) e = absurd (let z : _≡_ {A = ℕ} 0 1 = cc in omega arith)
 
-  pub places-noted : k ≡ 0 → notedIn book places ≡ placesAfter n f book sized places
-  places-noted z = λ i. pick (isTaken (sym (taken-zero (verdict (forFirst n f sized)) (sym q ∙ z)) i)) (notedIn book places) places
+  pub refused-by : {r : Refusal} → j ≡ judgement.Refused r → v ≡ Refused r
+  refused-by {r} h = go v (sym h ∙ e)
+    where
+      go : (v : Verdict) → judgement.Refused r ≡ judgedAs v rules → v ≡ Refused r
+      go Taken e = absurd (let z : _≡_ {A = ℕ} 0 1 = cc in omega arith)
+      go (Refused x) e = cc
 
-  pub first-few : k ≡ 0 → n ≤ maxSites
-  first-few z = limits n f 0 (met (forFirst n f sized) q z .1 .0) .sites
+  -- The number of the verdict, where the answer is good and where it is a refusal.
+  pub good-code : {x : Rules} → j ≡ judgement.Good x → 0 ≡ codeOf v
+  good-code h = ap codeOf (sym (good-taken h .0))
+
+  pub refused-code : {r : Refusal} {k : ℕ} → j ≡ judgement.Refused r → k ≡ numberIn j → (k ≡ codeOf v) × (k ≡ 0 → ⊥)
+  refused-code {r} h q =
+      let w = q ∙ ap numberIn h in
+      (w ∙ ap codeOf (sym (refused-by h)), λ z. number-nonzero r (sym w ∙ z))
+
+-- The rules of a call that is judged good are those of its table and book.
+pub good-rules : (n f : ℕ) (book : List ℕ) (v : Verdict) {j : Judgement} {x : Rules} → j ≡ judgedAs v (rulesOf n f book) → j ≡ judgement.Good x
+    → (x .table ≡ tableOf n f) × (x .commands ≡ length (commandsOf book))
+good-rules n f book v e h = let q = good-taken v (rulesOf n f book) e h .1 in (ap (λ (y : Rules). y .table) q, ap (λ (y : Rules). y .commands) q)
+
+-- After demands that a judge found met, others decide; one that refused decides.
+module _ (d e : Demands) (rules : Rules) {j : Judgement} (q : j ≡ judgedAs (verdict d) rules) where
+  pub after-good : {x : Rules} → j ≡ judgement.Good x → verdict (d then e) ≡ verdict e
+  after-good h = then-taken d e (good-code (verdict d) rules q h) refl
+
+  pub after-refused : {r : Refusal} → j ≡ judgement.Refused r → j ≡ judgedAs (verdict (d then e)) rules
+  after-refused {r} h = h ∙ ap (λ (v : Verdict). judgedAs v rules) (sym (refusing d (refused-by (verdict d) rules q h)))
+    where
+      refusing : (d : Demands) → verdict d ≡ Refused r → verdict (d then e) ≡ Refused r
+      refusing granted z = absurd (let y : _≡_ {A = ℕ} 0 1 = cc in omega arith)
+      refusing (true else x ⨾ d) z = refusing d z
+      refusing (false else x ⨾ d) z = z
+
+-- ---- sizes, the site table and the book
+
+module _ (n f : ℕ) (book places : List ℕ) (sized : Bool) where
+  pub rules-short : not sized ≡ true
+      → (judgement.Refused Size ≡ judgedAs (verdict (forRules n f book sized)) (rulesOf n f book)) × (places ≡ placesAfter n f book sized places)
+  rules-short h =
+      let e = sym (not-true sized h) in
+      ((λ i. judgedAs (verdict (forRules n f book (e i))) (rulesOf n f book)), (λ i. placesAfter n f book (e i) places))
+
+  module _ (h : not sized ≡ false) where
+    is-sized : true ≡ sized
+    is-sized = sym (not-false sized h)
+
+    table-judged : (b : Bool) {t : SiteTable} → cond b (judged.Good (tableOf n f)) (judged.Refused Table) ≡ judged.Good t → (b ≡ true) × (t ≡ tableOf n f)
+    table-judged true e = (refl, cc)
+    table-judged false e = absurd (let z : _≡_ {A = ℕ} 0 1 = cc in omega arith)
+
+    table-turned : (b : Bool) {r : Refusal} → cond b (judged.Good (tableOf n f)) (judged.Refused Table) ≡ judged.Refused r → b ≡ false
+    table-turned true e = absurd (let z : _≡_ {A = ℕ} 0 1 = cc in omega arith)
+    table-turned false e = refl
+
+    pub rules-table : {j : judging.Judged} {r : Refusal} → j ≡ judgeTable n f 0 → j ≡ judged.Refused r
+        → (judgement.Refused Table ≡ judgedAs (verdict (forRules n f book sized)) (rulesOf n f book)) × (places ≡ placesAfter n f book sized places)
+    rules-table q e =
+        let w = sym (table-turned (goodTable n f 0) (sym q ∙ e)) in
+        ((λ i. judgedAs (verdict (is-sized i else Size ⨾ w i else Table ⨾ forBook book)) (rulesOf n f book)), (λ i. pick (isTaken (verdict (is-sized i else Size ⨾ w i else Table ⨾ granted))) (sets places 0 (notedPlaces book)) places))
+
+    module _ {j : judging.Judged} {t : SiteTable} (q : j ≡ judgeTable n f 0) (e : j ≡ judged.Good t) {m : Measured} {after : List ℕ} (em : m ≡ measureBook book)
+        (ea : after ≡ sets places 0 (notedPlaces book)) where
+      w : true ≡ goodTable n f 0
+      w = sym (table-judged (goodTable n f 0) (sym q ∙ e) .0)
+
+      walked : after ≡ placesAfter n f book sized places
+      walked = ea ∙ (λ i. pick (isTaken (verdict (is-sized i else Size ⨾ w i else Table ⨾ granted))) (sets places 0 (notedPlaces book)) places)
+
+      pub rules-book : m ≡ Unreadable
+          → (judgement.Refused Book ≡ judgedAs (verdict (forRules n f book sized)) (rulesOf n f book)) × (after ≡ placesAfter n f book sized places)
+      rules-book u =
+          ((λ i. judgedAs (verdict (is-sized i else Size ⨾ w i else Table ⨾ isTaken (not-counted book (sym em ∙ u) .0 i) else Book ⨾ granted)) (rulesOf n f book)), walked)
+
+      pub rules-good : {k : ℕ} → m ≡ Commands k
+          → (judgement.Good (record { table = t; commands = k }) ≡ judgedAs (verdict (forRules n f book sized)) (rulesOf n f book)) × (after ≡ placesAfter n f book sized places)
+      rules-good {k} u =
+          let c = is-counted book (sym em ∙ u) in
+          let x : record { table = t; commands = k } ≡ rulesOf n f book = λ i. record { table = table-judged (goodTable n f 0) (sym q ∙ e) .1 i; commands = c .1 i } in
+          (ap judgement.Good x ∙ (λ i. judgedAs (verdict (is-sized i else Size ⨾ w i else Table ⨾ isTaken (c .0 i) else Book ⨾ granted)) (rulesOf n f book)), walked)
+
+-- ---- the site, and the log
 
 module _ (n f : ℕ) (book : List ℕ) where
-  module _ (enough : Bool) (site : List ℕ) {k : ℕ} (q : k ≡ codeOf (verdict (forFirst n f (enough && leb siteSize (length site))))) where
-    pub site-first : {j : Judgement} → (j .code ≡ k) × (j .commands ≡ 0) → (k ≡ 0 → ⊥) → Judges (verdict (forSite n f book enough site)) book j
-    site-first e z =
-        judges-refused book e
-        (then-code (forFirst n f (enough && leb siteSize (length site)))
-        (isTaken (judgeBook book) else Book ⨾ goodSite n (length (commandsOf book)) anyPosition (take siteSize site) else Range ⨾ granted) q z) z
+  module _ (enough : Bool) (site : List ℕ) {j : Judgement} (q : j ≡ judgedAs (verdict (forRules n f book (enough && leb siteSize (length site)))) (rulesOf n f book)) where
+    -- What follows the rules.
+    abbrev rules : Demands
+    rules = forRules n f book (enough && leb siteSize (length site))
 
-    pub log-first : (log : List ℕ) {j : Judgement} → (j .code ≡ k) × (j .commands ≡ 0) → (k ≡ 0 → ⊥) → Judges (verdict (forSiteAndLog n f book enough site log)) book j
-    log-first log e z =
-        judges-refused book e
-        (then-code (forFirst n f (enough && leb siteSize (length site)))
-        (forLent n book (isWhole log) (entriesIn log) (take siteSize site)
-        then goodTo log n (length (commandsOf book)) (headOf (take siteSize site) .position) else Range ⨾ granted) q z) z
+    module _ {x : Rules} (h : j ≡ judgement.Good x) where
+      pub rules-met : Met rules
+      rules-met = met rules (good-code (verdict rules) (rulesOf n f book) q h) refl
 
-    module _ (z : k ≡ 0) where
-      pub first-sized : siteSize ≤ length site
-      first-sized = leb-true siteSize (length site) (right enough (leb siteSize (length site)) (met (forFirst n f (enough && leb siteSize (length site))) q z .0))
+      pub rules-sized : siteSize ≤ length site
+      rules-sized = leb-true siteSize (length site) (right enough (leb siteSize (length site)) (rules-met .0))
 
-      pub site-judges : {j : Judgement} → Judges (verdict (forLent n book true anyPosition (take siteSize site))) book j → Judges (verdict (forSite n f book enough site)) book j
-      site-judges h =
-          judges-also book h
-          (then-answer (forFirst n f (enough && leb siteSize (length site)))
-          (isTaken (judgeBook book) else Book ⨾ goodSite n (length (commandsOf book)) anyPosition (take siteSize site) else Range ⨾ granted) q z
-          (h .code ∙ ap codeOf (no-log (isTaken (judgeBook book)) (goodSite n (length (commandsOf book)) anyPosition (take siteSize site) else Range ⨾ granted))))
+      pub rules-few : n ≤ maxSites
+      rules-few = limits n f 0 (rules-met .1 .0) .sites
 
-      -- ---- a lent log
+      module _ (e : Demands) where
+        pub then-refuse : {r : Refusal} → verdict e ≡ Refused r → judgement.Refused r ≡ judgedAs (verdict (rules then e)) (rulesOf n f book)
+        then-refuse w = ap (λ (v : Verdict). judgedAs v (rulesOf n f book)) (sym (after-good rules e (rulesOf n f book) q h ∙ w))
 
-      module _ (log : List ℕ) {j : Judgement} (h : Judges (verdict (forLent n book (isWhole log) (entriesIn log) (take siteSize site))) book j) where
-        -- By the demand on the entries that the site has read.
-        with-log : {l : ℕ}
-            → l ≡ codeOf (verdict (forLent n book (isWhole log) (entriesIn log) (take siteSize site) then goodTo log n (length (commandsOf book)) (headOf (take siteSize site) .position) else Range ⨾ granted))
-            → l ≡ codeOf (verdict (forSiteAndLog n f book enough site log))
-        with-log p =
-            then-answer (forFirst n f (enough && leb siteSize (length site)))
-            (forLent n book (isWhole log) (entriesIn log) (take siteSize site)
-            then goodTo log n (length (commandsOf book)) (headOf (take siteSize site) .position) else Range ⨾ granted) q z p
+        pub then-good : verdict e ≡ Taken → judgement.Good x ≡ judgedAs (verdict (rules then e)) (rulesOf n f book)
+        then-good w = ap judgement.Good (good-taken (verdict rules) (rulesOf n f book) q h .1) ∙ ap (λ (v : Verdict). judgedAs v (rulesOf n f book)) (sym (after-good rules e (rulesOf n f book) q h ∙ w))
 
-        pub log-refused : (j .code ≡ 0 → ⊥) → Judges (verdict (forSiteAndLog n f book enough site log)) book j
-        log-refused y =
-            judges-also book h
-            (with-log
-            (then-code (forLent n book (isWhole log) (entriesIn log) (take siteSize site))
-            (goodTo log n (length (commandsOf book)) (headOf (take siteSize site) .position) else Range ⨾ granted) (h .code) y))
+      -- The number of commands that the site is judged by.
+      counted-by : x .commands ≡ length (commandsOf book)
+      counted-by = good-rules n f book (verdict rules) q h .1
 
-        module _ (y : j .code ≡ 0) where
-          pub log-position : {p : ℕ} → p ≡ headOf (take siteSize site) .position → p * entrySize ≤ length log
-          unfolding headOf
-          log-position {p} ep =
-              let g : p ≤ length log / entrySize =
-              subst (λ (x : ℕ). x ≤ length log / entrySize) (sym ep)
-              (site-good (take siteSize site) n (length (commandsOf book)) (entriesIn log)
-              (met (forLent n book (isWhole log) (entriesIn log) (take siteSize site)) (h .code) y .1 .1 .0) .1) in
-              omega arith
+      site-by : (entries : ℕ) {t : Bool} → t ≡ goodSite n (x .commands) entries (take siteSize site) → goodSite n (length (commandsOf book)) entries (take siteSize site) ≡ t
+      site-by entries e = ap (λ (c : ℕ). goodSite n c entries (take siteSize site)) (sym (counted-by)) ∙ sym e
 
-          module _ {p : ℕ} (ep : p ≡ headOf (take siteSize site) .position) {u : Bool} (eu : u ≡ goodTo log n (j .commands) p) where
-            by-entries : {l : ℕ} → l ≡ codeOf (verdict (u else Range ⨾ granted)) → l ≡ codeOf (verdict (forSiteAndLog n f book enough site log))
-            by-entries p =
-                with-log
-                (then-answer (forLent n book (isWhole log) (entriesIn log) (take siteSize site))
-                (goodTo log n (length (commandsOf book)) (headOf (take siteSize site) .position) else Range ⨾ granted) (h .code) y
-                (p ∙ (λ i. codeOf (verdict ((eu ∙ (λ l. goodTo log n (h .taken y l) (ep l))) i else Range ⨾ granted)))))
+      pub site-bad : {t : Bool} → t ≡ goodSite n (x .commands) anyPosition (take siteSize site) → not t ≡ true
+          → judgement.Refused Range ≡ judgedAs (verdict (forSite n f book enough site)) (rulesOf n f book)
+      site-bad {t} e b = then-refuse (goodSite n (length (commandsOf book)) anyPosition (take siteSize site) else Range ⨾ granted) (λ i. verdict ((site-by anyPosition e ∙ not-true t b) i else Range ⨾ granted))
 
-            pub log-entries : {m : Judgement} → (m .code ≡ 4) × (m .commands ≡ 0) → not u ≡ true → Judges (verdict (forSiteAndLog n f book enough site log)) book m
-            log-entries e b = judges-refused book e (by-entries (demand-not u Range granted b)) (λ x. omega arith)
+      pub site-well : {t : Bool} → t ≡ goodSite n (x .commands) anyPosition (take siteSize site) → not t ≡ false
+          → judgement.Good x ≡ judgedAs (verdict (forSite n f book enough site)) (rulesOf n f book)
+      site-well {t} e b = then-good (goodSite n (length (commandsOf book)) anyPosition (take siteSize site) else Range ⨾ granted) (λ i. verdict ((site-by anyPosition e ∙ not-false t b) i else Range ⨾ granted))
 
-            pub log-taken : not u ≡ false → Judges (verdict (forSiteAndLog n f book enough site log)) book j
-            log-taken b = judges-also book h (y ∙ by-entries (ap codeOf (sym (demand-met u Range granted b))))
+      module _ (log : List ℕ) where
+        -- The demands on the log and the site, by their tests.
+        abbrev onLog : Bool → Bool → Bool → Demands
+        onLog a b c = a else Form ⨾ b else Range ⨾ c else Range ⨾ granted
+
+        abbrev read : Bool
+        read = goodTo log n (length (commandsOf book)) (headOf (take siteSize site) .position)
+
+        abbrev seen : Bool
+        seen = goodSite n (length (commandsOf book)) (entriesIn log) (take siteSize site)
+
+        pub log-cut : (length log % entrySize ≡ 0 → ⊥) → judgement.Refused Form ≡ judgedAs (verdict (forSiteAndLog n f book enough site log)) (rulesOf n f book)
+        log-cut z = then-refuse (onLog (isWhole log) seen read) (λ i. verdict (onLog (ne-eqb (length log % entrySize) 0 z i) seen read))
+
+        module _ (z : length log % entrySize ≡ 0) {t : Bool} (e : t ≡ goodSite n (x .commands) (entriesIn log) (take siteSize site)) where
+          whole : isWhole log ≡ true
+          whole = eq-eqb (length log % entrySize) 0 z
+
+          pub log-bad : not t ≡ true → judgement.Refused Range ≡ judgedAs (verdict (forSiteAndLog n f book enough site log)) (rulesOf n f book)
+          log-bad b = then-refuse (onLog (isWhole log) seen read) (λ i. verdict (onLog (whole i) ((site-by (entriesIn log) e ∙ not-true t b) i) read))
+
+          module _ (b : not t ≡ false) {p : ℕ} (ep : p ≡ headOf (take siteSize site) .position) where
+            pub log-position : p * entrySize ≤ length log
+            unfolding headOf
+            log-position =
+                let g : p ≤ length log / entrySize =
+                subst (λ (y : ℕ). y ≤ length log / entrySize) (sym ep)
+                (site-good (take siteSize site) n (length (commandsOf book)) (entriesIn log) (site-by (entriesIn log) e ∙ not-false t b) .1) in
+                omega arith
+
+            module _ {u : Bool} (eu : u ≡ goodTo log n (x .commands) p) where
+              read-by : read ≡ u
+              read-by = (λ i. goodTo log n (sym (counted-by) i) (sym ep i)) ∙ sym eu
+
+              pub log-entries : not u ≡ true → judgement.Refused Range ≡ judgedAs (verdict (forSiteAndLog n f book enough site log)) (rulesOf n f book)
+              log-entries y = then-refuse (onLog (isWhole log) seen read) (λ i. verdict (onLog (whole i) ((site-by (entriesIn log) e ∙ not-false t b) i) ((read-by ∙ not-true u y) i)))
+
+              pub log-taken : not u ≡ false → judgement.Good x ≡ judgedAs (verdict (forSiteAndLog n f book enough site log)) (rulesOf n f book)
+              log-taken y = then-good (onLog (isWhole log) seen read) (λ i. verdict (onLog (whole i) ((site-by (entriesIn log) e ∙ not-false t b) i) ((read-by ∙ not-false u y) i)))
 
   -- ---- what a call knows once it was judged
 
@@ -326,7 +310,7 @@ module _ (n f : ℕ) (book : List ℕ) (enough : Bool) (site places : List ℕ) 
   noted h j =
       let m = counted book (j .listed) in
       note-noted book places room (m .1)
-      (e ∙ (λ i. pick (isTaken (verdict (h i else Size ⨾ j .table i else Table ⨾ granted))) (notedIn book places) places) ∙ all-noted book places room)
+      (e ∙ (λ i. pick (isTaken (verdict (h i else Size ⨾ j .table i else Table ⨾ granted))) (sets places 0 (notedPlaces book)) places))
 
   pub site-noted : {k : ℕ} → k ≡ codeOf (verdict (forSite n f book enough site)) → k ≡ 0 → take (length (commandsOf book)) after ≡ placesOf book
   site-noted q z = noted (met (forSite n f book enough site) q z .0) (site-judged n f book enough site q z .1)

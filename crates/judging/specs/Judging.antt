@@ -1,6 +1,5 @@
 -- What every call judges of what it is lent, in document 01's order 9, 2, 1, 3, 4, and how a lent site is seen and written.
 -- Assumes nothing.
-use mathlib.Core.Path.{_≡_}
 use mathlib.Core.Bool.{Bool, _&&_}
 use mathlib.Core.List.{List, _++_}
 use Prim.Native.Nat.{ℕ, _/_, _%_}
@@ -11,10 +10,12 @@ use Rattle.theory.specs.Sets.{pick}
 use Rattle.wire.specs.Wire.{readLe}
 use Rattle.refusals.specs.declared.Refusal.the-variants.{Book, Table, Form, Range, Size}
 use Rattle.refusals.specs.declared.Verdict.{Verdict}
-use Rattle.refusals.specs.Refusals.{codeOf}
+use Rattle.refusals.specs.declared.Verdict.the-variants.{Taken, Refused}
+use Rattle.refusals.specs.Refusals.{numberOf}
+use Rattle.table.specs.declared.Rules.{Rules}
 use Rattle.table.specs.declared.SiteTable.{SiteTable}
 use Rattle.table.specs.Table.{goodTable}
-use Rattle.commands.specs.Book.{maxCommands, commandsOf, judgeBook, walkedPlaces}
+use Rattle.commands.specs.Book.{commandsOf, judgeBook, notedPlaces}
 use Rattle.protocol.specs.System.{System, Demands, granted, _else_⨾_, verdict}
 use Rattle.protocol.specs.Site as protocol
 use Rattle.system.specs.Dash.{dash}
@@ -22,7 +23,8 @@ use Rattle.entries.specs.Entries.{entrySize, goodTo}
 use Rattle.layout.specs.Layout.{siteSize, spanPlace, rowAt, view, encode}
 use Rattle.layout.specs.Good.{goodSite}
 use Rattle.judging.specs.declared.Judgement.{Judgement}
-use Rattle.judging.specs.Outcomes.{isTaken}
+use Rattle.judging.specs.declared.Judgement.the-variants as judgement
+use Rattle.judging.specs.Outcomes.{_then_, isTaken}
 
 -- The site table of one site's engine, which does not know who is faulty.
 abbrev pub tableOf : ℕ → ℕ → SiteTable
@@ -40,18 +42,19 @@ entriesIn log = length log / entrySize
 abbrev pub isWhole : List ℕ → Bool
 isWhole log = eqb (length log % entrySize) 0
 
--- What a judge answers is its verdict's number, and with it the number of commands of the book: 0 where the verdict is a refusal.
-pub record Judges (v : Verdict) (book : List ℕ) (j : Judgement) : Type 0 where
-  pub code : j .code ≡ codeOf v
-  pub taken : j .code ≡ 0 → j .commands ≡ length (commandsOf book)
-  pub refused : (j .code ≡ 0 → ⊥) → j .commands ≡ 0
+-- The rules that a call goes by.
+abbrev pub rulesOf : ℕ → ℕ → List ℕ → Rules
+rulesOf sites faults book = record { table = tableOf sites faults; commands = length (commandsOf book) }
 
--- A judgement as one number: the number of the refusal times this, or the number of commands.
-abbrev pub packing : ℕ
-packing = 128
+-- What a judge answers: the rules where its verdict is taken, else the refusal.
+abbrev pub judgedAs : Verdict → Rules → Judgement
+judgedAs Taken rules = judgement.Good rules
+judgedAs (Refused r) rules = judgement.Refused r
 
-abbrev pub unpacked : ℕ → Judgement
-unpacked k = record { code = k / packing; commands = k % packing }
+-- The number that a call answers to it.
+abbrev pub numberIn : Judgement → ℕ
+numberIn (judgement.Good rules) = 0
+numberIn (judgement.Refused r) = numberOf r
 
 -- The site table and the book.
 abbrev pub forTable : ℕ → ℕ → ℕ → Demands
@@ -66,23 +69,11 @@ forFirst sites faults sized = sized else Size ⨾ goodTable sites faults 0 else 
 
 -- Sizes, the site table and the book, which every call that is lent a site judges before the log and the site.
 abbrev pub forRules : ℕ → ℕ → List ℕ → Bool → Demands
-forRules sites faults book sized = sized else Size ⨾ goodTable sites faults 0 else Table ⨾ isTaken (judgeBook book) else Book ⨾ granted
+forRules sites faults book sized = forFirst sites faults sized then forBook book
 
--- After them: the book, the log's form, and the site, for so many log entries.
-abbrev pub forLent : ℕ → List ℕ → Bool → ℕ → List ℕ → Demands
-forLent sites book whole entries site =
-    isTaken (judgeBook book) else Book
-    ⨾ whole else Form
-    ⨾ goodSite sites (length (commandsOf book)) entries site else Range
-    ⨾ granted
-
--- The noted places after a walk through a book: those that it comes to, where there is room for those of any book; else none are noted.
-abbrev pub notedIn : List ℕ → List ℕ → List ℕ
-notedIn book places = pick (leb maxCommands (length places)) (sets places 0 (walkedPlaces book)) places
-
--- The noted places after a call was judged: those of a walk through the book, where it came to the book.
+-- The noted places after a call was judged: those that a walk through the book reads, where sizes and table let it come to the book.
 abbrev pub placesAfter : ℕ → ℕ → List ℕ → Bool → List ℕ → List ℕ
-placesAfter sites faults book sized places = pick (isTaken (verdict (forFirst sites faults sized))) (notedIn book places) places
+placesAfter sites faults book sized places = pick (isTaken (verdict (forFirst sites faults sized))) (sets places 0 (notedPlaces book)) places
 
 -- How many rows the table of sets heard of a lent site has.
 abbrev pub spanIn : List ℕ → ℕ
@@ -104,19 +95,15 @@ module _ (sites faults : ℕ) (book : List ℕ) where
   -- What a call that is lent a site judges. The other buffers that it is lent are long enough or not.
   abbrev pub forSite : Bool → List ℕ → Demands
   forSite enough site =
-      enough && leb siteSize (length site) else Size
-      ⨾ goodTable sites faults 0 else Table
-      ⨾ isTaken (judgeBook book) else Book
-      ⨾ goodSite sites (length (commandsOf book)) anyPosition (take siteSize site) else Range
+      forRules sites faults book (enough && leb siteSize (length site))
+      then goodSite sites (length (commandsOf book)) anyPosition (take siteSize site) else Range
       ⨾ granted
 
   -- What a call that is lent a site and the log judges: also the log's form, the site's position in it, and the entries before that.
   abbrev pub forSiteAndLog : Bool → List ℕ → List ℕ → Demands
   forSiteAndLog enough site log =
-      enough && leb siteSize (length site) else Size
-      ⨾ goodTable sites faults 0 else Table
-      ⨾ isTaken (judgeBook book) else Book
-      ⨾ isWhole log else Form
+      forRules sites faults book (enough && leb siteSize (length site))
+      then isWhole log else Form
       ⨾ goodSite sites (length (commandsOf book)) (entriesIn log) (take siteSize site) else Range
       ⨾ goodTo log sites (length (commandsOf book)) (siteIn site .position) else Range
       ⨾ granted

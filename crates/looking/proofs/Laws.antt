@@ -18,8 +18,10 @@ use Rattle.theory.specs.Machine.{Delivery}
 use Rattle.theory.specs.Counting.{last-or-below}
 use Rattle.wire.specs.Wire.{bytes, readLe, splice}
 use Rattle.signed.proofs.Laws.{bytes-signed}
+use Rattle.refusals.specs.declared.Refusal.{Refusal}
 use Rattle.refusals.specs.declared.Refusal.the-variants.{Range}
-use Rattle.refusals.specs.Refusals.{codeOf}
+use Rattle.refusals.specs.Refusals.{numberOf, codeOf}
+use Rattle.table.specs.declared.Rules.{Rules}
 use Rattle.sets.specs.declared.Set.{Set}
 use Rattle.sets.specs.Sets.{capacity, readSet}
 use Rattle.register.specs.declared.Bike.{Bike}
@@ -33,9 +35,11 @@ use Rattle.layout.specs.Good.{Good}
 use Rattle.layout.proofs.Header.{next}
 use Rattle.layout.proofs.Deliveries.{length-deliveries}
 use Rattle.judging.specs.Outcomes.{outcome, _then_}
-use Rattle.judging.specs.Judging.{systemOf, siteIn, forSite}
+use Rattle.judging.specs.declared.Judgement.{Judgement}
+use Rattle.judging.specs.declared.Judgement.the-variants as judgement
+use Rattle.judging.specs.Judging.{systemOf, siteIn, rulesOf, judgedAs, numberIn, forSite}
 use Rattle.judging.proofs.Demands.{then-refused, code-refused, code-taken, last-refused, last-taken}
-use Rattle.judging.proofs.Laws.{Judged, site-judged}
+use Rattle.judging.proofs.Laws.{Judged, site-judged, good-code, refused-code}
 use Rattle.looking.specs.Looking.{statusSize, statusBytes, foundBytes, statusCall, bikeCall, deliveryCall}
 
 -- ---- what is written
@@ -107,14 +111,20 @@ module _ (n f : ℕ) (book site : List ℕ) where
 
   -- ---- the status
 
-  module _ (o : List ℕ) {k : ℕ} (q : k ≡ codeOf (verdict (forSite n f book (leb statusSize (length o)) site))) where
-    pub status-refused : (k ≡ 0 → ⊥) → outcome k o ≡ statusCall n f book site o
+  module _ (o : List ℕ) {j : Judgement}
+      (e : j ≡ judgedAs (verdict (forSite n f book (leb statusSize (length o)) site)) (rulesOf n f book)) where
+    pub status-refused : {r : Refusal} {k : ℕ} → j ≡ judgement.Refused r → k ≡ numberIn j → outcome k o ≡ statusCall n f book site o
     unfolding statusCall
-    status-refused z = code-refused (verdict (forSite n f book (leb statusSize (length o)) site)) _ o q z
+    status-refused h ek =
+        let w = refused-code (verdict (forSite n f book (leb statusSize (length o)) site)) (rulesOf n f book) e h ek in
+        code-refused (verdict (forSite n f book (leb statusSize (length o)) site)) _ o (w .0) (w .1)
 
-    module _ (z : k ≡ 0) where
+    module _ {x : Rules} (h : j ≡ judgement.Good x) where
+      status-code : 0 ≡ codeOf (verdict (forSite n f book (leb statusSize (length o)) site))
+      status-code = good-code (verdict (forSite n f book (leb statusSize (length o)) site)) (rulesOf n f book) e h
+
       judged : (leb statusSize (length o) ≡ true) × Judged n f book site
-      judged = site-judged n f book (leb statusSize (length o)) site q z
+      judged = site-judged n f book (leb statusSize (length o)) site status-code refl
 
       pub status-sized : siteSize ≤ length site
       status-sized = judged .1 .sized
@@ -133,58 +143,70 @@ module _ (n f : ℕ) (book site : List ℕ) where
       unfolding statusCall
       status-taken e =
           (λ i. outcome 0 ((e ∙ ap (splice o 0) (status-seen (judged .1 .good))) i))
-          ∙ code-taken (verdict (forSite n f book (leb statusSize (length o)) site)) _ o q z
+          ∙ code-taken (verdict (forSite n f book (leb statusSize (length o)) site)) _ o status-code refl
 
   -- ---- a bike
 
-  module _ (bike : ℕ) (o : List ℕ) {k : ℕ} (q : k ≡ codeOf (verdict (forSite n f book (leb bikeSize (length o)) site))) where
-    pub bike-refused : (k ≡ 0 → ⊥) → outcome k o ≡ bikeCall n f book site bike o
+  module _ (bike : ℕ) (o : List ℕ) {j : Judgement}
+      (e : j ≡ judgedAs (verdict (forSite n f book (leb bikeSize (length o)) site)) (rulesOf n f book)) where
+    pub bike-refused : {r : Refusal} {k : ℕ} → j ≡ judgement.Refused r → k ≡ numberIn j → outcome k o ≡ bikeCall n f book site bike o
     unfolding bikeCall
-    bike-refused z = then-refused (forSite n f book (leb bikeSize (length o)) site) (ltb bike bikes else Range ⨾ granted) _ o q z
+    bike-refused h ek =
+        let w = refused-code (verdict (forSite n f book (leb bikeSize (length o)) site)) (rulesOf n f book) e h ek in
+        then-refused (forSite n f book (leb bikeSize (length o)) site) (ltb bike bikes else Range ⨾ granted) _ o (w .0) (w .1)
 
-    module _ (z : k ≡ 0) where
+    module _ {x : Rules} (h : j ≡ judgement.Good x) where
+      bike-code : 0 ≡ codeOf (verdict (forSite n f book (leb bikeSize (length o)) site))
+      bike-code = good-code (verdict (forSite n f book (leb bikeSize (length o)) site)) (rulesOf n f book) e h
+
       pub bike-sized : siteSize ≤ length site
-      bike-sized = site-judged n f book (leb bikeSize (length o)) site q z .1 .sized
+      bike-sized = site-judged n f book (leb bikeSize (length o)) site bike-code refl .1 .sized
 
       pub bike-room : bikeSize ≤ length o
-      bike-room = leb-true bikeSize (length o) (site-judged n f book (leb bikeSize (length o)) site q z .0)
+      bike-room = leb-true bikeSize (length o) (site-judged n f book (leb bikeSize (length o)) site bike-code refl .0)
 
-      pub bike-range : bikes ≤ bike → outcome 4 o ≡ bikeCall n f book site bike o
+      pub bike-range : {k : ℕ} → bikes ≤ bike → k ≡ numberOf Range → outcome k o ≡ bikeCall n f book site bike o
       unfolding bikeCall
-      bike-range h = last-refused (forSite n f book (leb bikeSize (length o)) site) (ltb bike bikes) Range _ o q z (le-ltb bike bikes h)
+      bike-range h ek = (λ i. outcome (ek i) o) ∙ last-refused (forSite n f book (leb bikeSize (length o)) site) (ltb bike bikes) Range _ o bike-code refl (le-ltb bike bikes h)
 
       pub bike-taken : bike < bikes → {l : List ℕ} → l ≡ splice o 0 (bikeBytes (registerOf (take siteSize site) registerPlace bike)) → outcome 0 l ≡ bikeCall n f book site bike o
       unfolding bikeCall
       bike-taken h e =
           (λ i. outcome 0 (e i))
-          ∙ last-taken (forSite n f book (leb bikeSize (length o)) site) (ltb bike bikes) Range _ o q z (lt-ltb bike bikes h)
+          ∙ last-taken (forSite n f book (leb bikeSize (length o)) site) (ltb bike bikes) Range _ o bike-code refl (lt-ltb bike bikes h)
 
   -- ---- a delivery
 
-  module _ (i : ℕ) (o : List ℕ) {k : ℕ} (q : k ≡ codeOf (verdict (forSite n f book (leb deliverySize (length o)) site))) where
-    pub delivery-refused : (k ≡ 0 → ⊥) → outcome k o ≡ deliveryCall n f book site i o
+  module _ (i : ℕ) (o : List ℕ) {j : Judgement}
+      (e : j ≡ judgedAs (verdict (forSite n f book (leb deliverySize (length o)) site)) (rulesOf n f book)) where
+    pub delivery-refused : {r : Refusal} {k : ℕ} → j ≡ judgement.Refused r → k ≡ numberIn j → outcome k o ≡ deliveryCall n f book site i o
     unfolding deliveryCall
-    delivery-refused z =
+    delivery-refused h ek =
+        let w = refused-code (verdict (forSite n f book (leb deliverySize (length o)) site)) (rulesOf n f book) e h ek in
         then-refused (forSite n f book (leb deliverySize (length o)) site)
-        (isSome (nth (deliveriesOf (readLe 2 (take siteSize site) countPlace) (take siteSize site)) i) else Range ⨾ granted) _ o q z
+        (isSome (nth (deliveriesOf (readLe 2 (take siteSize site) countPlace) (take siteSize site)) i) else Range ⨾ granted) _ o (w .0) (w .1)
 
-    module _ (z : k ≡ 0) where
+    module _ {x : Rules} (h : j ≡ judgement.Good x) where
+      delivery-code : 0 ≡ codeOf (verdict (forSite n f book (leb deliverySize (length o)) site))
+      delivery-code = good-code (verdict (forSite n f book (leb deliverySize (length o)) site)) (rulesOf n f book) e h
+
       pub delivery-sized : siteSize ≤ length site
-      delivery-sized = site-judged n f book (leb deliverySize (length o)) site q z .1 .sized
+      delivery-sized = site-judged n f book (leb deliverySize (length o)) site delivery-code refl .1 .sized
 
       pub delivery-room : deliverySize ≤ length o
-      delivery-room = leb-true deliverySize (length o) (site-judged n f book (leb deliverySize (length o)) site q z .0)
+      delivery-room = leb-true deliverySize (length o) (site-judged n f book (leb deliverySize (length o)) site delivery-code refl .0)
 
       module _ {count : ℕ} (ec : count ≡ readLe 2 (take siteSize site) countPlace) where
         pub delivery-below : i < count → i < capacity
         unfolding headOf
-        delivery-below h = let r = site-judged n f book (leb deliverySize (length o)) site q z .1 .good .head .room in omega arith
+        delivery-below h = let r = site-judged n f book (leb deliverySize (length o)) site delivery-code refl .1 .good .head .room in omega arith
 
-        pub delivery-range : count ≤ i → outcome 4 o ≡ deliveryCall n f book site i o
+        pub delivery-range : {k : ℕ} → count ≤ i → k ≡ numberOf Range → outcome k o ≡ deliveryCall n f book site i o
         unfolding deliveryCall
-        delivery-range h =
-            last-refused (forSite n f book (leb deliverySize (length o)) site)
-            (isSome (nth (deliveriesOf (readLe 2 (take siteSize site) countPlace) (take siteSize site)) i)) Range _ o q z
+        delivery-range h ek =
+            (λ j. outcome (ek j) o)
+            ∙ last-refused (forSite n f book (leb deliverySize (length o)) site)
+            (isSome (nth (deliveriesOf (readLe 2 (take siteSize site) countPlace) (take siteSize site)) i)) Range _ o delivery-code refl
             (ap isSome (nth-past (deliveriesOf (readLe 2 (take siteSize site) countPlace) (take siteSize site)) i
             (let e = length-deliveries (readLe 2 (take siteSize site) countPlace) (take siteSize site) in omega arith)))
 
@@ -195,5 +217,5 @@ module _ (n f : ℕ) (book site : List ℕ) where
             let found = nth-below (readLe 2 (take siteSize site) countPlace) i (take siteSize site) (omega arith) in
             (λ j. outcome 0 ((e ∙ ap (λ (x : Option (Delivery ℤ)). splice o 0 (foundBytes x)) (sym found)) j))
             ∙ last-taken (forSite n f book (leb deliverySize (length o)) site)
-            (isSome (nth (deliveriesOf (readLe 2 (take siteSize site) countPlace) (take siteSize site)) i)) Range _ o q z
+            (isSome (nth (deliveriesOf (readLe 2 (take siteSize site) countPlace) (take siteSize site)) i)) Range _ o delivery-code refl
             (ap isSome found)

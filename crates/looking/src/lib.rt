@@ -10,7 +10,9 @@ ghost use Rattle.register.specs.Lent.{bikeSize, registerOf, bikeBytes};
 ghost use Rattle.layout.specs.Layout.{siteSize, roundPlace, phasePlace, countPlace, positionPlace, registerPlace, deliverySize, deliveryOf, deliveryBytes};
 ghost use Rattle.judging.specs.Outcomes.{outcome};
 ghost use Rattle.looking.specs.Looking.{statusSize, statusCall, bikeCall, deliveryCall};
+use judging::Judgement;
 use layout::Site;
+use refusals::Refusal;
 use register::Bike;
 
 // The bytes of a status: round, phase, number of deliveries, log position.
@@ -38,9 +40,10 @@ pub fn status(sites: usize, faults: usize, book: &[u8], site: &[u8], out: &mut [
     ensures { λ r. ⌜ outcome r (now (out .exit)) ≡ statusCall sites faults (now (book .entry)) (now (site .entry)) (now (out .entry)) ⌝ }
 {
     let enough = out.len() >= STATUS_BYTES;
-    let judged = judging::judge_site(enough, sites, faults, book, site);
-    if judged.code != 0 {
-        return judged.code;
+    let mut places = [0u16; commands::MAX_COMMANDS];
+    let judged = judging::judge_site(enough, sites, faults, book, site, &mut places);
+    if let Judgement::Refused(_) = judged {
+        return judging::number(judged);
     }
     write_status(&site[..Site::SIZE], out);
     0
@@ -68,12 +71,13 @@ pub fn bike(
     ensures { λ r. ⌜ outcome r (now (out .exit)) ≡ bikeCall sites faults (now (book .entry)) (now (site .entry)) bike (now (out .entry)) ⌝ }
 {
     let enough = out.len() >= Bike::SIZE;
-    let judged = judging::judge_site(enough, sites, faults, book, site);
-    if judged.code != 0 {
-        return judged.code;
+    let mut places = [0u16; commands::MAX_COMMANDS];
+    let judged = judging::judge_site(enough, sites, faults, book, site, &mut places);
+    if let Judgement::Refused(_) = judged {
+        return judging::number(judged);
     }
     if bike >= Bike::COUNT {
-        return judging::REFUSED_RANGE;
+        return refusals::number(Refusal::Range);
     }
     write_bike(&site[..Site::SIZE], bike, out);
     0
@@ -112,12 +116,13 @@ pub fn delivery(
     ensures { λ r. ⌜ outcome r (now (out .exit)) ≡ deliveryCall sites faults (now (book .entry)) (now (site .entry)) k (now (out .entry)) ⌝ }
 {
     let enough = out.len() >= Site::DELIVERY;
-    let judged = judging::judge_site(enough, sites, faults, book, site);
-    if judged.code != 0 {
-        return judged.code;
+    let mut places = [0u16; commands::MAX_COMMANDS];
+    let judged = judging::judge_site(enough, sites, faults, book, site, &mut places);
+    if let Judgement::Refused(_) = judged {
+        return judging::number(judged);
     }
     if k >= count(&site[..Site::SIZE]) {
-        return judging::REFUSED_RANGE;
+        return refusals::number(Refusal::Range);
     }
     write_delivery(&site[..Site::SIZE], k, out);
     0

@@ -18,10 +18,10 @@ ghost use Rattle.layout.specs.Layout.{siteSize, headOf, view};
 ghost use Rattle.judging.specs.Outcomes.{outcome};
 ghost use Rattle.turning.specs.Turning.{turnSize, buffers, NonePast, acknowledgmentBytes, proposalBytes, entryOf, sent, turnCall};
 use entries::Entry;
-use judging::REFUSED_DISABLED;
-use judging::REFUSED_RANGE;
+use judging::Judgement;
 use layout::Proposal;
 use layout::Site;
+use refusals::Refusal;
 use sets::Set;
 use site::Turn;
 
@@ -38,63 +38,25 @@ const SET: usize = 1;
 
 const ENTRY: usize = 9;
 
-// Whether no two undelivered commands of a site conflict.
-fn is_calm(book: &[u8], places: &[u16], site: &[u8]) -> bool
-    requires { ⌜ (take (length (commandsOf (now book))) (now places) ≡ placesOf (now book)) × (length (now site) ≡ siteSize)
-        × (withinOf (headOf (now site) .received) (length (commandsOf (now book))) ≡ true) ⌝ }
-    ensures { λ r. ⌜ ((t : SiteTable) → r ≡ protocol.acknowledges (dash t (commandsOf (now (book .entry)))) (view t (commandsOf (now (book .entry))) (now (site .entry)))) ⌝ }
-{
-    let received = Set::read(site, Site::RECEIVED);
-    let delivered = Set::read(site, Site::DELIVERED);
-    calm::is_free_in(book, places, received.without(delivered))
-}
-
 // The round of a site.
 fn round_of(site: &[u8]) -> usize
     requires { ⌜ length (now site) ≡ siteSize ⌝ }
     ensures { λ r. ⌜ (r ≡ headOf (now (site .entry)) .round) × (r < 256) ⌝ }
 {
-    let round = wire::get1(site, Site::ROUND);
+    let round = layout::round(site);
     round as usize
 }
 
-// How many entries of a round a site has among those that it has read, which are counted. None of them is of a round past 32.
-fn read_entries(counts: &[u8], own: usize, round: usize) -> usize
-    requires { ⌜ (length (now counts) ≡ cells) × (own < maxSites) × (1 ≤ round) ⌝ }
-    ensures { λ r. ⌜ ((log : List ℕ) (k : ℕ) → Counting log k (now (counts .entry)) → NonePast log k → r ≡ recovery.entries own round (logTo log k)) ⌝ }
+// The site takes its turn: conflicts are looked for among its undelivered commands, its entries of the round in the whole log.
+fn take_turn(site: &mut [u8], log: &[u8], rows: &[u64], own: usize) -> Turn
+    requires { ⌜ (length (now site) ≡ siteSize) × (length (now rows) ≡ capacity) ⌝ }
+    ensures { λ r. ⌜ TurnTaken (now (rows .entry)) (now (log .entry)) own (now (site .entry)) r (now (site .exit)) ⌝ }
 {
-    if round > Entry::ROUNDS {
-        return 0;
-    }
-    entries::counted(counts, own, round)
-}
-
-// How many entries of its round a site has in the log: those that it has read are counted, the others are looked at.
-fn own_entries(log: &[u8], own: usize, round: usize, position: usize, counts: &[u8]) -> usize
-    requires { ⌜ Counting (now log) position (now counts) × NonePast (now log) position × (own < maxSites) × (1 ≤ round) × (position ≤ length (now log) / entrySize) ⌝ }
-    ensures { λ r. ⌜ r ≡ recovery.entries own round (logTo (now (log .entry)) (length (now (log .entry)) / entrySize)) ⌝ }
-{
+    let free = calm::is_free(rows, site::undelivered(&site[..]));
+    let round = round_of(&site[..]);
     let n = log.len() / Entry::BYTES;
-    let read = read_entries(counts, own, round);
-    entries::entries_since(log, position, read, n, own, round)
-}
-
-// Whether a site that proposes has two entries of its round in the log. They are not looked for where it acknowledges.
-fn is_third(
-    free: bool,
-    log: &[u8],
-    own: usize,
-    round: usize,
-    position: usize,
-    counts: &[u8],
-) -> bool
-    requires { ⌜ Counting (now log) position (now counts) × NonePast (now log) position × (own < maxSites) × (1 ≤ round) × (position ≤ length (now log) / entrySize) ⌝ }
-    ensures { λ r. ⌜ r ≡ (not free && leb 2 (recovery.entries own round (logOf (now (log .entry))))) ⌝ }
-{
-    if free {
-        return false;
-    }
-    own_entries(log, own, round, position, counts) >= 2
+    let third = entries::entries_of(log, n, own, round) >= 2;
+    site::take_turn(site, free, third)
 }
 
 // An acknowledgment is written.
@@ -163,9 +125,8 @@ pub fn turn(
     ensures { λ r. ⌜ outcome r (buffers (now (site .exit)) (now (out .exit))) ≡ turnCall sites faults (now (book .entry)) (now (site .entry)) (now (log .entry)) own (now (out .entry)) ⌝ }
 {
     let enough = out.len() >= TURN_BYTES;
-    let mut places = [0u16; 64];
-    let mut counts = [0u8; entries::CELLS];
-    let judged = judging::note_and_count(
+    let mut places = [0u16; commands::MAX_COMMANDS];
+    let judged = judging::judge_site_and_log(
         enough,
         sites,
         faults,
@@ -173,21 +134,16 @@ pub fn turn(
         &site[..],
         log,
         &mut places,
-        &mut counts,
     );
-    if judged.code != 0 {
-        return judged.code;
-    }
+    let Judgement::Good(rules) = judged else {
+        return judging::number(judged);
+    };
     if own >= sites {
-        return REFUSED_RANGE;
+        return refusals::number(Refusal::Range);
     }
-    if !site::has_turn(&site[..Site::SIZE]) {
-        return REFUSED_DISABLED;
-    }
-    let free = is_calm(book, &places, &site[..Site::SIZE]);
+    let mut rows = [0u64; commands::MAX_COMMANDS];
+    conflicts::conflict_rows(book, &places, rules.commands, &mut rows);
     let round = round_of(&site[..Site::SIZE]);
-    let position = judging::position_of(&site[..Site::SIZE]);
-    let third = is_third(free, log, own, round, position, &counts);
-    let answer = site::take_turn(&mut site[..Site::SIZE], free, third);
+    let answer = take_turn(&mut site[..Site::SIZE], log, &rows, own);
     send(out, own, round, answer)
 }

@@ -1,8 +1,8 @@
 -- `judging::judge_table`: 0, or the number of the table's refusal.
 -- Assumes nothing.
+use borrow.Author.Needs.{needs}
 use mathlib.Core.Path.{sym, _∙_}
 use Rattle.judging.proofs.Laws.{table-good, table-refused}
-use borrow.Author.Needs.{needs}
 use Rattle.judging.proofs.judge_table.Statement.{statement}
 use Rattle.judging.proofs.judge_table.Tie as tie
 
