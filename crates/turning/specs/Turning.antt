@@ -2,7 +2,7 @@
 -- Assumes nothing.
 use mathlib.Core.Path.{_≡_}
 use mathlib.Core.List.{List, _++_}
-use Prim.Native.Nat.{ℕ, _<_}
+use Prim.Native.Nat.{ℕ}
 use lib.Dec.{leb, ltb}
 use lib.ListN.{length}
 use Rattle.theory.specs.Sets.{pick}
@@ -11,13 +11,17 @@ use Rattle.refusals.specs.declared.Refusal.the-variants.{Range}
 use Rattle.refusals.specs.Refusals.{numberOf}
 use Rattle.sets.specs.declared.Set.{Set}
 use Rattle.sets.specs.Sets.{capacity, setOf, setBytes}
+use Rattle.table.specs.declared.SiteTable.{SiteTable}
+use Rattle.commands.specs.Book.{commandsOf}
+use Rattle.conflicts.specs.Conflicts.{conflictRows}
 use Rattle.protocol.specs.System.{System, _else_⨾_, verdict}
-use Rattle.protocol.specs.Recovery.{entries}
 use Rattle.protocol.specs.Site.{Site, undelivered, unacknowledged, acknowledges, acknowledge, propose, forTurn}
-use Rattle.system.specs.Dash.{lastRound}
 use Rattle.entries.specs.declared.Entry.{Entry}
-use Rattle.entries.specs.Entries.{logTo, logOf, entryBytes}
+use Rattle.entries.specs.Entries.{logOf, entryBytes}
 use Rattle.layout.specs.declared.Proposal.{Proposal}
+use Rattle.layout.specs.Layout.{view}
+use Rattle.layout.specs.Good.{Good}
+use Rattle.site.specs.Steps.{Turned}
 use Rattle.site.specs.declared.Turn.{Turn}
 use Rattle.site.specs.declared.Turn.the-variants as turn
 use Rattle.judging.specs.Outcomes.{Outcome, outcome, answered, _then_}
@@ -35,9 +39,11 @@ pub record Buffers : Type 0 where
 abbrev pub buffers : List ℕ → List ℕ → Buffers
 buffers s t = record { site = s; turn = t }
 
--- No site has any of the first k entries in a round past the last.
-abbrev pub NonePast : List ℕ → ℕ → Type 0
-NonePast log k = (j r : ℕ) → lastRound < r → entries j r (logTo log k) ≡ 0
+-- The turn of site number `own` with the bytes b, by the rows of a book and a whole log.
+abbrev pub TurnTaken : (rows log : List ℕ) (own : ℕ) (b : List ℕ) → Turn → List ℕ → Type 0
+TurnTaken rows log own b r b′ =
+    (t : SiteTable) (book : List ℕ) → rows ≡ conflictRows book → Good (t .sites) (length (commandsOf book)) b
+    → Turned t (commandsOf book) own (logOf log) (view t (commandsOf book) b) b r b′
 
 -- An acknowledgment: 1, and the set.
 unfoldable pub acknowledgmentBytes : Set → List ℕ

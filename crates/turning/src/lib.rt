@@ -1,22 +1,12 @@
 // The call of a turn: the site acknowledges what it received, or proposes where that has a conflict, and what it sends is written.
-ghost use mathlib.Core.Bool.{true, not, _&&_};
-ghost use mathlib.Core.List.{List};
 ghost use mathlib.Core.Path.{_≡_};
-ghost use Prim.Native.Nat.{ℕ, _/_, _≤_, _<_};
-ghost use lib.Dec.{leb};
-ghost use lib.ListN.{length, take};
+ghost use Prim.Native.Nat.{_≤_, _<_};
+ghost use lib.ListN.{length};
 ghost use Rattle.wire.specs.Wire.{splice};
-ghost use Rattle.sets.specs.Sets.{withinOf};
-ghost use Rattle.table.specs.declared.SiteTable.{SiteTable};
-ghost use Rattle.table.specs.Table.{maxSites};
-ghost use Rattle.commands.specs.Book.{commandsOf, placesOf};
-ghost use Rattle.protocol.specs.Recovery as recovery;
-ghost use Rattle.protocol.specs.Site as protocol;
-ghost use Rattle.system.specs.Dash.{dash};
-ghost use Rattle.entries.specs.Entries.{entrySize, logTo, logOf, cells, Counting};
-ghost use Rattle.layout.specs.Layout.{siteSize, headOf, view};
+ghost use Rattle.sets.specs.Sets.{capacity};
+ghost use Rattle.layout.specs.Layout.{siteSize, headOf};
 ghost use Rattle.judging.specs.Outcomes.{outcome};
-ghost use Rattle.turning.specs.Turning.{turnSize, buffers, NonePast, acknowledgmentBytes, proposalBytes, entryOf, sent, turnCall};
+ghost use Rattle.turning.specs.Turning.{turnSize, buffers, TurnTaken, acknowledgmentBytes, proposalBytes, entryOf, sent, turnCall};
 use entries::Entry;
 use judging::Judgement;
 use layout::Proposal;
