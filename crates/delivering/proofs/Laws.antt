@@ -9,11 +9,13 @@ use lib.Dec.{leb, ltb}
 use lib.ListN.{length, take, drop, getD}
 use borrow.Author.Tests.{lt-ltb, le-ltb}
 use Rattle.theory.specs.Counting.{left, right, not-true, all-at}
-use Rattle.refusals.specs.declared.Refusal.the-variants.{Range, Disabled, Size}
+use Rattle.refusals.specs.declared.Refusal.{Refusal}
+use Rattle.refusals.specs.declared.Refusal.the-variants.{Range}
 use Rattle.refusals.specs.declared.Verdict.{Verdict}
-use Rattle.refusals.specs.Refusals.{codeOf}
+use Rattle.refusals.specs.Refusals.{numberOf, codeOf}
 use Rattle.sets.specs.declared.Set.{Set}
 use Rattle.sets.specs.Sets.{withinOf}
+use Rattle.table.specs.declared.Rules.{Rules}
 use Rattle.table.specs.declared.SiteTable.{SiteTable}
 use Rattle.table.specs.Table.{isGood}
 use Rattle.commands.specs.Book.{maxCommands, commandsOf}
@@ -35,27 +37,33 @@ use Rattle.layout.specs.Layout.{siteSize, headOf, isWaiting, view}
 use Rattle.layout.specs.Good.{Good}
 use Rattle.deliver.specs.Delivering.{Noted}
 use Rattle.ending.specs.Ending.{RoundEnded}
-use Rattle.ending.proofs.Verdicts.{waits-same}
 use Rattle.ending.proofs.Telling.{told-none, told-decided}
 use Rattle.judging.specs.Outcomes.{outcome, answered, _then_}
-use Rattle.judging.specs.Judging.{tableOf, systemOf, spanIn, siteIn, withSite, forSite, forSiteAndLog, placesAfter}
+use Rattle.judging.specs.declared.Judgement.{Judgement}
+use Rattle.judging.specs.declared.Judgement.the-variants as judgement
+use Rattle.judging.specs.Judging.{tableOf, systemOf, spanIn, siteIn, withSite, rulesOf, judgedAs, numberIn, forSite, forSiteAndLog, placesAfter}
 use Rattle.judging.proofs.Demands.{then-taken, then-refused, answered-refused}
-use Rattle.judging.proofs.Laws.{Judged, JudgedLog, site-judged, log-judged, site-noted, log-noted}
+use Rattle.judging.proofs.Laws.{Judged, JudgedLog, site-judged, log-judged, site-noted, log-noted, good-taken, good-code, good-rules, refused-code}
 use Rattle.judging.proofs.Steps.{carried}
 use Rattle.delivering.specs.Delivering.{FastDelivered, Ended, fastDeliveryCall, roundEndCall}
 
 -- ---- a fast delivery
 
-module _ (n f : ℕ) (book site : List ℕ) (m : ℕ) {k : ℕ} (q : k ≡ codeOf (verdict (forSite n f book true site))) where
-  pub fast-refused : (k ≡ 0 → ⊥) → outcome k site ≡ fastDeliveryCall n f book site m
+module _ (n f : ℕ) (book site : List ℕ) (m : ℕ) {j : Judgement}
+    (e : j ≡ judgedAs (verdict (forSite n f book true site)) (rulesOf n f book)) where
+  pub fast-refused : {r : Refusal} {k : ℕ} → j ≡ judgement.Refused r → k ≡ numberIn j → outcome k site ≡ fastDeliveryCall n f book site m
   unfolding fastDeliveryCall
-  fast-refused z =
+  fast-refused h ek =
+      let w = refused-code (verdict (forSite n f book true site)) (rulesOf n f book) e h ek in
       then-refused (forSite n f book true site)
-      (ltb m (length (commandsOf book)) else Range ⨾ protocol.forFastDelivery (systemOf n f book) m (siteIn n f book site)) _ site q z
+      (ltb m (length (commandsOf book)) else Range ⨾ protocol.forFastDelivery (systemOf n f book) m (siteIn n f book site)) _ site (w .0) (w .1)
 
-  module _ (z : k ≡ 0) where
+  module _ {x : Rules} (h : j ≡ judgement.Good x) where
+    code : 0 ≡ codeOf (verdict (forSite n f book true site))
+    code = good-code (verdict (forSite n f book true site)) (rulesOf n f book) e h
+
     judged : Judged n f book site
-    judged = site-judged n f book true site q z .1
+    judged = site-judged n f book true site code refl .1
 
     pub fast-sized : siteSize ≤ length site
     fast-sized = judged .sized
@@ -65,50 +73,54 @@ module _ (n f : ℕ) (book site : List ℕ) (m : ℕ) {k : ℕ} (q : k ≡ codeO
         ≡ verdict (t else Range ⨾ protocol.forFastDelivery (systemOf n f book) m (siteIn n f book site))
     first t e =
         then-taken (forSite n f book true site)
-        (ltb m (length (commandsOf book)) else Range ⨾ protocol.forFastDelivery (systemOf n f book) m (siteIn n f book site)) q z
+        (ltb m (length (commandsOf book)) else Range ⨾ protocol.forFastDelivery (systemOf n f book) m (siteIn n f book site)) code refl
         ∙ (λ i. verdict (e i else Range ⨾ protocol.forFastDelivery (systemOf n f book) m (siteIn n f book site)))
 
-    module _ {commands : ℕ} (e : commands ≡ length (commandsOf book)) where
-      pub fast-range : commands ≤ m → outcome 4 site ≡ fastDeliveryCall n f book site m
-      unfolding fastDeliveryCall
-      fast-range h = answered-refused Range _ site (first false (le-ltb m (length (commandsOf book)) (omega arith)))
+    counted : x .commands ≡ length (commandsOf book)
+    counted = good-rules n f book (verdict (forSite n f book true site)) e h .1
 
-      pub fast-ready : m < commands → (places : List ℕ) {after : List ℕ} → maxCommands ≤ length places → after ≡ placesAfter n f book (leb siteSize (length site)) places
-          → Good n commands (take siteSize site) × (isGood (tableOf n f) ≡ true) × Noted book after × (length (commandsOf book) ≡ commands) × (m < commands)
-      fast-ready h places room en =
-          (subst (λ (k : ℕ). Good n k (take siteSize site)) (sym e) (judged .good), judged .table, site-noted n f book true site places room en q z, sym e, h)
+    pub fast-range : {k : ℕ} → x .commands ≤ m → k ≡ numberOf Range → outcome k site ≡ fastDeliveryCall n f book site m
+    unfolding fastDeliveryCall
+    fast-range l ek = let c = counted in (λ i. outcome (ek i) site) ∙ answered-refused Range _ site (first false (le-ltb m (length (commandsOf book)) (omega arith)))
 
-      pub fast-done : m < commands → ((i : ℕ) → getD site i 0 < 256) → {r : Verdict} {b : List ℕ} {code : ℕ}
-          → FastDelivered (tableOf n f) (commandsOf book) m (take siteSize site) r b → code ≡ codeOf r → outcome code (b ++ drop siteSize site) ≡ fastDeliveryCall n f book site m
-      unfolding fastDeliveryCall
-      fast-done h small o ek =
-          carried n f book site (judged .good) small (verdict (protocol.forFastDelivery (systemOf n f book) m (siteIn n f book site)))
-          (protocol.deliverFast (systemOf n f book) m (siteIn n f book site)) o ek
-          ∙ (λ i. answered (sym (first true (lt-ltb m (length (commandsOf book)) (omega arith))) i)
-          (withSite n f book (spanIn site) site (protocol.deliverFast (systemOf n f book) m (siteIn n f book site))) site)
+    tabled : x .table ≡ tableOf n f
+    tabled = good-rules n f book (verdict (forSite n f book true site)) e h .0
+
+    pub fast-ready : m < x .commands → (places : List ℕ) {after : List ℕ} → maxCommands ≤ length places → after ≡ placesAfter n f book (leb siteSize (length site)) places
+        → Good (x .table .sites) (x .commands) (take siteSize site) × (isGood (x .table) ≡ true) × Noted book after × (length (commandsOf book) ≡ x .commands) × (m < x .commands)
+    fast-ready l places room en = (
+      subst (λ (t : SiteTable). Good (t .sites) (x .commands) (take siteSize site)) (sym tabled) (subst (λ (k : ℕ). Good n k (take siteSize site)) (sym counted) (judged .good)),
+      subst (λ (t : SiteTable). isGood t ≡ true) (sym tabled) (judged .table),
+      site-noted n f book true site places room en code refl,
+      sym counted,
+      l,
+    )
+
+    pub fast-done : m < x .commands → ((i : ℕ) → getD site i 0 < 256) → {r : Verdict} {b : List ℕ} {number : ℕ}
+        → FastDelivered (x .table) (commandsOf book) m (take siteSize site) r b → number ≡ codeOf r → outcome number (b ++ drop siteSize site) ≡ fastDeliveryCall n f book site m
+    unfolding fastDeliveryCall
+    fast-done l small {r} {b} o ek =
+        let c = counted in
+        carried n f book site (judged .good) small (verdict (protocol.forFastDelivery (systemOf n f book) m (siteIn n f book site)))
+        (protocol.deliverFast (systemOf n f book) m (siteIn n f book site)) (subst (λ (t : SiteTable). FastDelivered t (commandsOf book) m (take siteSize site) r b) tabled o) ek
+        ∙ (λ i. answered (sym (first true (lt-ltb m (length (commandsOf book)) (omega arith))) i)
+        (withSite n f book (spanIn site) site (protocol.deliverFast (systemOf n f book) m (siteIn n f book site))) site)
 
 -- ---- a round that ends
 
 -- The decision of the site's round at the site's position.
-pub decided-by : (t : SiteTable) (rows log : List ℕ) {p r : ℕ} (b : List ℕ) {d : Decision} → p ≡ headOf b .position → r ≡ headOf b .round
+pub decided-by : (t : SiteTable) (book log : List ℕ) {rows : List ℕ} {p r : ℕ} (b : List ℕ) {d : Decision} → rows ≡ conflictRows book → p ≡ headOf b .position → r ≡ headOf b .round
     → d ≡ decisionOf (rowsSystem t rows) (recovery.decide (rowsSystem t rows) r (logTo log p))
-    → d ≡ decisionOf (rowsSystem t rows) (recovery.decide (rowsSystem t rows) (headOf b .round) (logTo log (headOf b .position)))
-decided-by t rows log b ep er ed = ed ∙ (λ i. decisionOf (rowsSystem t rows) (recovery.decide (rowsSystem t rows) (er i) (logTo log (ep i))))
+    → d ≡ decisionOf (rowsSystem t (conflictRows book)) (recovery.decide (rowsSystem t (conflictRows book)) (headOf b .round) (logTo log (headOf b .position)))
+decided-by t book log b ew ep er ed = ed ∙ (λ i. decisionOf (rowsSystem t (ew i)) (recovery.decide (rowsSystem t (ew i)) (er i) (logTo log (ep i))))
 
--- The entries of a good log are in range, and their NC sets within the book.
+-- The entries of a good log are in range.
 module _ (t : SiteTable) (book log : List ℕ) {commands : ℕ} (count : length (commandsOf book) ≡ commands) (k : ℕ) (good : goodTo log (t .sites) commands k ≡ true) where
   good-range : (p : ℕ) → p < k → inRangeOf (t .sites) (length (commandsOf book)) (entryOf log p) ≡ true
   good-range p l =
       ap (λ (n : ℕ). inRangeOf (t .sites) n (entryOf log p)) count
       ∙ left (inRangeOf (t .sites) commands (entryOf log p)) (ltb (entries (entryOf log p .site) (entryOf log p .round) (logTo log p)) 2)
       (all-at k (goodAt log (t .sites) commands) good p l)
-
-  pub good-nc : (p : ℕ) → p < k → withinOf (entryOf log p .nc) (length (commandsOf book)) ≡ true
-  good-nc p l =
-      let e = entryOf log p in
-      let n = length (commandsOf book) in
-      right (numbersOf (t .sites) (e .site) (e .round)) (withinOf (e .nc) n)
-      (left (numbersOf (t .sites) (e .site) (e .round) && withinOf (e .nc) n) (withinOf (e .c) n) (good-range p l))
 
 module _ (t : SiteTable) (table : isGood t ≡ true) (book log b : List ℕ) {commands : ℕ} (count : length (commandsOf book) ≡ commands)
     (small : (i : ℕ) → getD log i 0 < 256)
@@ -143,52 +155,46 @@ module _ (t : SiteTable) (table : isGood t ≡ true) (book log b : List ℕ) {co
         o t (logOf log) good-book
         (told-decided t table book (conflictRows book) log small (headOf b .position) (headOf b .round) room logged refl ed (view t (commandsOf book) b) (logOf log) read refl s h)
 
-module _ (n f : ℕ) (book site log : List ℕ) {k : ℕ} (q : k ≡ codeOf (verdict (forSiteAndLog n f book true site log))) where
-  pub end-refused : (k ≡ 0 → ⊥) → outcome k site ≡ roundEndCall n f book site log
+module _ (n f : ℕ) (book site log : List ℕ) {j : Judgement}
+    (e : j ≡ judgedAs (verdict (forSiteAndLog n f book true site log)) (rulesOf n f book)) where
+  pub end-refused : {r : Refusal} {k : ℕ} → j ≡ judgement.Refused r → k ≡ numberIn j → outcome k site ≡ roundEndCall n f book site log
   unfolding roundEndCall
-  end-refused z =
-      then-refused (forSiteAndLog n f book true site log) (protocol.forRoundEnd (systemOf n f book) (siteIn n f book site) (logOf log)) _ site q z
+  end-refused h ek =
+      let w = refused-code (verdict (forSiteAndLog n f book true site log)) (rulesOf n f book) e h ek in
+      then-refused (forSiteAndLog n f book true site log) (protocol.forRoundEnd (systemOf n f book) (siteIn n f book site) (logOf log)) _ site (w .0) (w .1)
 
-  module _ (z : k ≡ 0) where
+  module _ {x : Rules} (h : j ≡ judgement.Good x) where
+    end-code : 0 ≡ codeOf (verdict (forSiteAndLog n f book true site log))
+    end-code = good-code (verdict (forSiteAndLog n f book true site log)) (rulesOf n f book) e h
+
     judged-log : Judged n f book site × JudgedLog n f book site log
-    judged-log = let j = log-judged n f book true site log q z in (j .1, j .2)
+    judged-log = let j = log-judged n f book true site log end-code refl in (j .1, j .2)
 
     pub end-sized : siteSize ≤ length site
     end-sized = judged-log .0 .sized
 
-    pub end-disabled : {w : Bool} → w ≡ isWaiting (headOf (take siteSize site) .phase) → not w ≡ true → outcome 6 site ≡ roundEndCall n f book site log
-    unfolding roundEndCall
-    end-disabled {w} e h =
-        answered-refused Disabled _ site
-        (then-taken (forSiteAndLog n f book true site log) (protocol.forRoundEnd (systemOf n f book) (siteIn n f book site) (logOf log)) q z
-        ∙ (λ i.
-        verdict
-        ((sym (e ∙ waits-same (headOf (take siteSize site) .phase)) ∙ not-true w h) i else Disabled
-        ⨾ protocol.isSome (protocol.decision (systemOf n f book) (siteIn n f book site) (logOf log)) else Disabled
-        ⨾ protocol.room (systemOf n f book) (siteIn n f book site)
-        (length (protocol.due (systemOf n f book) (protocol.tallyOr (protocol.decision (systemOf n f book) (siteIn n f book site) (logOf log))) (siteIn n f book site))) else Size
-        ⨾ granted)))
+    ruled : x ≡ rulesOf n f book
+    ruled = good-taken (verdict (forSiteAndLog n f book true site log)) (rulesOf n f book) e h .1
 
-    pub end-ready : {commands : ℕ} → commands ≡ length (commandsOf book) → (places : List ℕ) {after : List ℕ} → maxCommands ≤ length places
-        → after ≡ placesAfter n f book (leb siteSize (length site)) places
-        → Good n commands (take siteSize site) × (isGood (tableOf n f) ≡ true) × Noted book after × (length (commandsOf book) ≡ commands)
-        × (headOf (take siteSize site) .position ≤ length log / entrySize) × (goodTo log n commands (headOf (take siteSize site) .position) ≡ true)
-    end-ready e places room en = (
-      subst (λ (k : ℕ). Good n k (take siteSize site)) (sym e) (judged-log .0 .good),
-      judged-log .0 .table,
-      log-noted n f book true site places room en log q z,
-      sym e,
+    pub end-ready : (places : List ℕ) {after : List ℕ} → maxCommands ≤ length places → after ≡ placesAfter n f book (leb siteSize (length site)) places
+        → Good (x .table .sites) (x .commands) (take siteSize site) × (isGood (x .table) ≡ true) × Noted book after × (length (commandsOf book) ≡ x .commands)
+        × (headOf (take siteSize site) .position ≤ length log / entrySize) × (goodTo log (x .table .sites) (x .commands) (headOf (take siteSize site) .position) ≡ true)
+    end-ready places room en = (
+      subst (λ (y : Rules). Good (y .table .sites) (y .commands) (take siteSize site)) (sym ruled) (judged-log .0 .good),
+      subst (λ (y : Rules). isGood (y .table) ≡ true) (sym ruled) (judged-log .0 .table),
+      log-noted n f book true site places room en log end-code refl,
+      sym (ap (λ (y : Rules). y .commands) ruled),
       judged-log .1 .position,
-      subst (λ (k : ℕ). goodTo log n k (headOf (take siteSize site) .position) ≡ true) (sym e) (judged-log .1 .before),
+      subst (λ (y : Rules). goodTo log (y .table .sites) (y .commands) (headOf (take siteSize site) .position) ≡ true) (sym ruled) (judged-log .1 .before),
     )
 
-    pub end-done : ((i : ℕ) → getD site i 0 < 256) → {r : Verdict} {b : List ℕ} {code : ℕ}
-        → Ended (tableOf n f) (commandsOf book) (logOf log) (take siteSize site) r b → code ≡ codeOf r → outcome code (b ++ drop siteSize site) ≡ roundEndCall n f book site log
+    pub end-done : ((i : ℕ) → getD site i 0 < 256) → {r : Verdict} {b : List ℕ} {number : ℕ}
+        → Ended (x .table) (commandsOf book) (logOf log) (take siteSize site) r b → number ≡ codeOf r → outcome number (b ++ drop siteSize site) ≡ roundEndCall n f book site log
     unfolding roundEndCall
-    end-done small o ek =
+    end-done small {r} {b} o ek =
         carried n f book site (judged-log .0 .good) small (verdict (protocol.forRoundEnd (systemOf n f book) (siteIn n f book site) (logOf log)))
-        (protocol.finish (systemOf n f book) (protocol.tallyOr (protocol.decision (systemOf n f book) (siteIn n f book site) (logOf log))) (siteIn n f book site)) o ek
+        (protocol.finish (systemOf n f book) (protocol.tallyOr (protocol.decision (systemOf n f book) (siteIn n f book site) (logOf log))) (siteIn n f book site)) (subst (λ (y : Rules). Ended (y .table) (commandsOf book) (logOf log) (take siteSize site) r b) ruled o) ek
         ∙ (λ i. answered
-        (sym (then-taken (forSiteAndLog n f book true site log) (protocol.forRoundEnd (systemOf n f book) (siteIn n f book site) (logOf log)) q z) i)
+        (sym (then-taken (forSiteAndLog n f book true site log) (protocol.forRoundEnd (systemOf n f book) (siteIn n f book site) (logOf log)) end-code refl) i)
         (withSite n f book (spanIn site) site
         (protocol.finish (systemOf n f book) (protocol.tallyOr (protocol.decision (systemOf n f book) (siteIn n f book site) (logOf log))) (siteIn n f book site))) site)

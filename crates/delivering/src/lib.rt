@@ -1,17 +1,12 @@
 // The calls that deliver at a lent site: a command fast, and the end of a round.
 ghost use mathlib.Core.Path.{_≡_};
 ghost use mathlib.Core.Bool.{true};
-ghost use Prim.Native.Nat.{ℕ, _*_, _/_, _≤_, _<_};
+ghost use Prim.Native.Nat.{_/_, _≤_};
 ghost use lib.ListN.{length};
-ghost use Rattle.sets.specs.Sets.{withinOf};
 ghost use Rattle.table.specs.Table.{isGood};
 ghost use Rattle.commands.specs.Book.{commandsOf};
-ghost use Rattle.conflicts.specs.Conflicts.{conflictRows};
-ghost use Rattle.protocol.specs.Recovery as recovery;
-ghost use Rattle.calm.specs.Rows.{rowsSystem};
-ghost use Rattle.entries.specs.Entries.{entrySize, entryOf, logTo, logOf, goodTo};
-ghost use Rattle.recovery.specs.Decisions.{decisionOf};
-ghost use Rattle.layout.specs.Layout.{siteSize, headOf};
+ghost use Rattle.entries.specs.Entries.{entrySize, logOf, goodTo};
+ghost use Rattle.layout.specs.Layout.{headOf};
 ghost use Rattle.layout.specs.Good.{Good};
 ghost use Rattle.deliver.specs.Delivering.{Noted};
 ghost use Rattle.judging.specs.Outcomes.{outcome};

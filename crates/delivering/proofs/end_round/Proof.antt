@@ -1,64 +1,89 @@
--- `delivering::end_round`: the round ends with the decided sets, or undecided.
--- Assumes nothing.
-use mathlib.Core.Path.{_≡_, refl, sym, subst}
-use mathlib.Core.Bool.{true, false}
-use native.Mathlib.Omega.{arith}
-use denote.Ref.{now}
-use Rattle.theory.specs.Counting.{never}
-use Rattle.sets.specs.declared.Set.{Set}
-use Rattle.sets.specs.Sets.{withinOf}
-use Rattle.layout.proofs.Tables.{within-empty}
-use Rattle.delivering.proofs.Laws.{good-nc, within-sets, ended-undecided, ended-decided}
 use borrow.Author.Needs.{needs}
 use Rattle.delivering.proofs.end_round.Statement.{statement}
 use Rattle.delivering.proofs.end_round.Tie as tie
+use Rattle.delivering.proofs.end_round.Reads as reads
+use Rattle.delivering.proofs.end_round.Lts as lts
+use Rattle.conflicts.proofs.conflict_rows.Reads as conflict-rows-reads
+use Rattle.ending.proofs.round_end.Reads as round-end-reads
+use Rattle.judging.proofs.position_of.Reads as position-of-reads
+use Rattle.layout.proofs.round.Reads as round-reads
+use Rattle.recovery.proofs.decide.Reads as decide-reads
+use Rattle.sets.proofs.Set.empty.Reads as empty-reads
 
+-- src/lib.rt:69:54
+slice-aggregate-conflict-rows : tie.Need-slice-aggregate-conflict-rows
+slice-aggregate-conflict-rows c = search needs
+
+-- src/lib.rt:69:5
+conflict-rows-requires : tie.Need-conflict-rows-requires
+conflict-rows-requires c κs = search needs
+
+-- src/lib.rt:70:9
+position-of-requires : tie.Need-position-of-requires
+position-of-requires c κs = search needs
+
+-- src/lib.rt:71:17
+round-requires : tie.Need-round-requires
+round-requires c κs = search needs
+
+-- src/lib.rt:71:17
+cast-round : tie.Need-cast-round
+cast-round c = search needs
+
+-- src/lib.rt:72:66
+slice-aggregate-decide : tie.Need-slice-aggregate-decide
+slice-aggregate-decide c = search needs
+
+-- src/lib.rt:72:9
 decide-requires : tie.Need-decide-requires
-decide-requires c κs =
-    let s = c .before .before .before .before .before in
-    (search needs, s .pre .1, omega (arith, s .pre .4), s .pre .2, good-nc (s .args .table) (now (s .args .book)) (now (s .args .log)) (s .pre .3) _ (s .pre .5))
+decide-requires c κs = search needs
 
+-- src/lib.rt:75:17
 enum-told : tie.Need-enum-told
 enum-told c = search needs
 
+-- src/lib.rt:75:17
 empty-requires : tie.Need-empty-requires
 empty-requires c κs = search needs
 
+-- src/lib.rt:76:13
 round-end-requires : tie.Need-round-end-requires
-round-end-requires c κs =
-    let s = c .before .before .before .before .before .before .before .before .before .before in
-    let w = subst (λ (x : Set). withinOf x (s .args .commands) ≡ true) (sym (c .before .empty .ensures)) (within-empty (s .args .commands)) in
-    ((s .args .table .sites, s .pre .0), s .pre .2, s .pre .3, w, w, λ r. absurd (never false r refl))
+round-end-requires c κs = ?
 
+-- src/lib.rt:78:27
 enum-known-decision : tie.Need-enum-known-decision
 enum-known-decision c = search needs
 
+-- src/lib.rt:81:13
 round-end-requires-2 : tie.Need-round-end-requires-2
-round-end-requires-2 c κs =
-    let s = c .before .before .before .before .before .before .before .before .before .before .before .before in
-    let w = within-sets (s .args .table) (s .pre .1) (now (s .args .book)) (now (s .args .log)) (now (s .args .site)) (s .pre .3) (λ i. c .before .before .before .before .before .before .before .before .shared-slice-known3 .given i .fits) (s .pre .4) (s .pre .5) (c .before .before .before .before .before .before .decide .ensures) _ (c .before .before .before .before .decision .given .1) in
-    ((s .args .table .sites, s .pre .0), s .pre .2, s .pre .3, w .0, w .1, λ r. absurd (never false r refl))
+round-end-requires-2 c κs = ?
 
+-- src/lib.rt:54:1
 same-length : tie.Need-same-length
 same-length c = search needs
 
+-- src/lib.rt:54:1
 returns : tie.Need-returns
-returns c =
-    let s = c .before .before .before .before .before .before .before .before .before .before .before .before .before in
-    ended-undecided (s .args .table) (s .pre .1) (now (s .args .book)) (now (s .args .log)) (now (s .args .site)) (s .pre .3) (λ i. c .before .before .before .before .before .before .before .before .before .shared-slice-known3 .given i .fits) (s .pre .4) (s .pre .5) (c .before .before .before .before .before .before .before .decide .ensures) (s .pre .0) (c .before .before .before .before .before .enum-told .given .1) (c .before .before .round-end .ensures)
+returns c = ?
 
+-- src/lib.rt:54:1
 same-length-2 : tie.Need-same-length-2
 same-length-2 c = search needs
 
+-- src/lib.rt:54:1
 returns-2 : tie.Need-returns-2
-returns-2 c =
-    let s = c .before .before .before .before .before .before .before .before .before .before .before .before .before .before .before in
-    ended-decided (s .args .table) (s .pre .1) (now (s .args .book)) (now (s .args .log)) (now (s .args .site)) (s .pre .3) (λ i. c .before .before .before .before .before .before .before .before .before .before .before .shared-slice-known3 .given i .fits) (s .pre .4) (s .pre .5) (c .before .before .before .before .before .before .before .before .before .decide .ensures) (s .pre .0) _ (c .before .before .before .before .before .before .before .decision .given .1) (c .before .before .round-end2 .ensures)
+returns-2 c = ?
 
 pub end-round-spec : {M : Type 1} → statement M
 end-round-spec =
     tie.close
     (tie.spec
+    slice-aggregate-conflict-rows
+    conflict-rows-requires
+    position-of-requires
+    round-requires
+    cast-round
+    slice-aggregate-decide
     decide-requires
     enum-told
     empty-requires
