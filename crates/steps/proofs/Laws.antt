@@ -2,7 +2,7 @@
 -- Assumes nothing.
 use mathlib.Core.Path.{_≡_, refl, sym, ap, subst, _∙_}
 use mathlib.Core.List.{List, _++_}
-use Prim.Native.Nat.{ℕ, _+_, _-_, _≤_, _<_}
+use Prim.Native.Nat.{ℕ, zero, suc, _+_, _-_, _≤_, _<_}
 use native.Mathlib.Decide.{decLt}
 use native.Mathlib.Omega.{arith}
 use borrow.Author.Tests.{le-leb, lt-leb}
@@ -33,10 +33,14 @@ uncut-same s {t} {u} e f =
       | no h ↦ ap (uncut s) (f (omega arith))
     ]
 
--- The codes end with 0A.
-pub no-code : (s : List ℕ) (k : ℕ) → 10 < k → Unreadable ≡ readAs k s
+next : {n k : ℕ} → n < k → (k ≡ suc n → ⊥) → suc n < k
+next h e = omega arith
+
+-- The codes are 01 to 0A.
+pub no-code : (s : List ℕ) (k : ℕ) → (k ≡ 1 → ⊥) → (k ≡ 2 → ⊥) → (k ≡ 3 → ⊥) → (k ≡ 4 → ⊥) → (k ≡ 5 → ⊥) → (k ≡ 6 → ⊥) → (k ≡ 7 → ⊥) → (k ≡ 8 → ⊥) → (k ≡ 9 → ⊥) → (k ≡ 10 → ⊥) → Unreadable ≡ readAs k s
 unfolding readAs
-no-code s k h = sym (List·getD-eq-default (byCode s) Unreadable h)
+no-code s zero n₁ n₂ n₃ n₄ n₅ n₆ n₇ n₈ n₉ n₁₀ = refl
+no-code s (suc k) n₁ n₂ n₃ n₄ n₅ n₆ n₇ n₈ n₉ n₁₀ = sym (List·getD-eq-default (byCode s) Unreadable (next (next (next (next (next (next (next (next (next (next (omega arith) n₁) n₂) n₃) n₄) n₅) n₆) n₇) n₈) n₉) n₁₀))
 
 -- The step that stands at a position is read from the bytes from there on.
 module _ (s : List ℕ) (at : ℕ) where

@@ -176,7 +176,10 @@ pub fn read_step(bytes: &[u8], at: usize) -> Reading
     let command = operand(rest, 2);
     match code {
         1 => uncut_step(rest, Step::Command { site, command }),
-        2..=5 => uncut_step(rest, message(rest, code)),
+        2 => uncut_step(rest, message(rest, 2)),
+        3 => uncut_step(rest, message(rest, 3)),
+        4 => uncut_step(rest, message(rest, 4)),
+        5 => uncut_step(rest, message(rest, 5)),
         6 => uncut_step(rest, entry(rest)),
         7 => uncut_step(rest, Step::Turn { site }),
         8 => uncut_step(rest, Step::FastDelivery { site, command }),

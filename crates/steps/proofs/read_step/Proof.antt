@@ -1,7 +1,6 @@
 -- `steps::read_step`: the code says which step it is.
 -- Assumes nothing.
 use borrow.Author.Needs.{needs}
-use native.Mathlib.Omega.{arith}
 use denote.Ref.{now}
 use mathlib.Core.Path.{refl, ap, _∙_}
 use Rattle.steps.specs.declared.Step.the-variants.{Command, Turn, FastDelivery, LogRead, RoundEnd}
@@ -31,29 +30,47 @@ operand-requires-3 c κs = search needs
 uncut-step-requires : tie.Need-uncut-step-requires
 uncut-step-requires c κs = search needs
 
-entry-requires : tie.Need-entry-requires
-entry-requires c κs = search needs
+message-requires : tie.Need-message-requires
+message-requires c κs = search needs
 
 uncut-step-requires-2 : tie.Need-uncut-step-requires-2
 uncut-step-requires-2 c κs = search needs
 
+message-requires-2 : tie.Need-message-requires-2
+message-requires-2 c κs = search needs
+
 uncut-step-requires-3 : tie.Need-uncut-step-requires-3
 uncut-step-requires-3 c κs = search needs
+
+message-requires-3 : tie.Need-message-requires-3
+message-requires-3 c κs = search needs
 
 uncut-step-requires-4 : tie.Need-uncut-step-requires-4
 uncut-step-requires-4 c κs = search needs
 
+message-requires-4 : tie.Need-message-requires-4
+message-requires-4 c κs = search needs
+
 uncut-step-requires-5 : tie.Need-uncut-step-requires-5
 uncut-step-requires-5 c κs = search needs
+
+entry-requires : tie.Need-entry-requires
+entry-requires c κs = search needs
 
 uncut-step-requires-6 : tie.Need-uncut-step-requires-6
 uncut-step-requires-6 c κs = search needs
 
-message-requires : tie.Need-message-requires
-message-requires c κs = search needs
-
 uncut-step-requires-7 : tie.Need-uncut-step-requires-7
 uncut-step-requires-7 c κs = search needs
+
+uncut-step-requires-8 : tie.Need-uncut-step-requires-8
+uncut-step-requires-8 c κs = search needs
+
+uncut-step-requires-9 : tie.Need-uncut-step-requires-9
+uncut-step-requires-9 c κs = search needs
+
+uncut-step-requires-10 : tie.Need-uncut-step-requires-10
+uncut-step-requires-10 c κs = search needs
 
 returns : tie.Need-returns
 unfolding readAs
@@ -66,54 +83,67 @@ returns-2 : tie.Need-returns-2
 returns-2 c =
     let o = c .before .before .before in
     let a = o .before .before .before .before .before .args in
-    part-read (now (a .bytes)) (a .at) 6 (o .before .before .operand .ensures) (c .before .before .match .keys2) (c .uncut-step2 .ensures ∙ c .before .entry .ensures)
+    part-read (now (a .bytes)) (a .at) 2 (o .before .before .operand .ensures) (c .before .before .match .keys2) (c .uncut-step2 .ensures ∙ c .before .message .ensures)
 
 returns-3 : tie.Need-returns-3
-unfolding readAs
 returns-3 c =
-    let o = c .before .before in
+    let o = c .before .before .before in
     let a = o .before .before .before .before .before .args in
-    part-read (now (a .bytes)) (a .at) 7 (o .before .before .operand .ensures) (c .before .match .keys3) (c .uncut-step3 .ensures ∙ ap (uncut _) (λ k. Turn (o .before .operand2 .ensures k)))
+    part-read (now (a .bytes)) (a .at) 3 (o .before .before .operand .ensures) (c .before .before .match .keys3) (c .uncut-step3 .ensures ∙ c .before .message2 .ensures)
 
 returns-4 : tie.Need-returns-4
-unfolding readAs
 returns-4 c =
-    let o = c .before .before in
+    let o = c .before .before .before in
     let a = o .before .before .before .before .before .args in
-    part-read (now (a .bytes)) (a .at) 8 (o .before .before .operand .ensures) (c .before .match .keys4) (c .uncut-step4 .ensures ∙ ap (uncut _) (λ k. FastDelivery (o .before .operand2 .ensures k) (o .operand3 .ensures k)))
+    part-read (now (a .bytes)) (a .at) 4 (o .before .before .operand .ensures) (c .before .before .match .keys4) (c .uncut-step4 .ensures ∙ c .before .message3 .ensures)
 
 returns-5 : tie.Need-returns-5
-unfolding readAs
 returns-5 c =
-    let o = c .before .before in
+    let o = c .before .before .before in
     let a = o .before .before .before .before .before .args in
-    part-read (now (a .bytes)) (a .at) 9 (o .before .before .operand .ensures) (c .before .match .keys5) (c .uncut-step5 .ensures ∙ ap (uncut _) (λ k. LogRead (o .before .operand2 .ensures k)))
+    part-read (now (a .bytes)) (a .at) 5 (o .before .before .operand .ensures) (c .before .before .match .keys5) (c .uncut-step5 .ensures ∙ c .before .message4 .ensures)
 
 returns-6 : tie.Need-returns-6
-unfolding readAs
 returns-6 c =
-    let o = c .before .before in
+    let o = c .before .before .before in
     let a = o .before .before .before .before .before .args in
-    part-read (now (a .bytes)) (a .at) 10 (o .before .before .operand .ensures) (c .before .match .keys6) (c .uncut-step6 .ensures ∙ ap (uncut _) (λ k. RoundEnd (o .before .operand2 .ensures k)))
+    part-read (now (a .bytes)) (a .at) 6 (o .before .before .operand .ensures) (c .before .before .match .keys6) (c .uncut-step6 .ensures ∙ c .before .entry .ensures)
 
 returns-7 : tie.Need-returns-7
+unfolding readAs
 returns-7 c =
-    let o = c .before .before .before .before .before in
+    let o = c .before .before in
     let a = o .before .before .before .before .before .args in
-    part-read (now (a .bytes)) (a .at) _ (o .before .before .operand .ensures) refl (c .uncut-step7 .ensures ∙ c .before .message .ensures)
+    part-read (now (a .bytes)) (a .at) 7 (o .before .before .operand .ensures) (c .before .match .keys7) (c .uncut-step7 .ensures ∙ ap (uncut _) (λ k. Turn (o .before .operand2 .ensures k)))
 
 returns-8 : tie.Need-returns-8
 unfolding readAs
 returns-8 c =
     let o = c .before .before in
     let a = o .before .before .before .before .before .args in
-    part-read (now (a .bytes)) (a .at) 0 (o .before .before .operand .ensures) (omega arith) refl
+    part-read (now (a .bytes)) (a .at) 8 (o .before .before .operand .ensures) (c .before .match .keys8) (c .uncut-step8 .ensures ∙ ap (uncut _) (λ k. FastDelivery (o .before .operand2 .ensures k) (o .operand3 .ensures k)))
 
 returns-9 : tie.Need-returns-9
+unfolding readAs
 returns-9 c =
-    let o = c .before .before .before in
+    let o = c .before .before in
     let a = o .before .before .before .before .before .args in
-    part-read (now (a .bytes)) (a .at) _ (o .before .before .operand .ensures) refl (no-code _ _ (omega arith))
+    part-read (now (a .bytes)) (a .at) 9 (o .before .before .operand .ensures) (c .before .match .keys9) (c .uncut-step9 .ensures ∙ ap (uncut _) (λ k. LogRead (o .before .operand2 .ensures k)))
+
+returns-10 : tie.Need-returns-10
+unfolding readAs
+returns-10 c =
+    let o = c .before .before in
+    let a = o .before .before .before .before .before .args in
+    part-read (now (a .bytes)) (a .at) 10 (o .before .before .operand .ensures) (c .before .match .keys10) (c .uncut-step10 .ensures ∙ ap (uncut _) (λ k. RoundEnd (o .before .operand2 .ensures k)))
+
+returns-11 : tie.Need-returns-11
+returns-11 c =
+    let o = c .before in
+    let a = o .before .before .before .before .before .args in
+    let r = c .match .rest in
+    part-read (now (a .bytes)) (a .at) _ (o .before .before .operand .ensures) refl
+    (no-code _ _ (r .0 .0 .0 .0 .0 .0 .0 .0 .0 .1) (r .0 .0 .0 .0 .0 .0 .0 .0 .1) (r .0 .0 .0 .0 .0 .0 .0 .1) (r .0 .0 .0 .0 .0 .0 .1) (r .0 .0 .0 .0 .0 .1) (r .0 .0 .0 .0 .1) (r .0 .0 .0 .1) (r .0 .0 .1) (r .0 .1) (r .1))
 
 pub read-step-spec : {M : Type 1} → statement M
 read-step-spec =
@@ -126,14 +156,20 @@ read-step-spec =
     operand-requires-2
     operand-requires-3
     uncut-step-requires
-    entry-requires
-    uncut-step-requires-2
-    uncut-step-requires-3
-    uncut-step-requires-4
-    uncut-step-requires-5
-    uncut-step-requires-6
     message-requires
+    uncut-step-requires-2
+    message-requires-2
+    uncut-step-requires-3
+    message-requires-3
+    uncut-step-requires-4
+    message-requires-4
+    uncut-step-requires-5
+    entry-requires
+    uncut-step-requires-6
     uncut-step-requires-7
+    uncut-step-requires-8
+    uncut-step-requires-9
+    uncut-step-requires-10
     returns
     returns-2
     returns-3
@@ -142,4 +178,6 @@ read-step-spec =
     returns-6
     returns-7
     returns-8
-    returns-9)
+    returns-9
+    returns-10
+    returns-11)
