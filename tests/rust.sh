@@ -1,6 +1,6 @@
 #!/usr/bin/env bash
 # The tests in Rust: the reference's own; the proved program against it on random runs; the one-site engine against it on random calls;
-# and the tuned program and calls of the benchmark against both. Closes with 'N passed, M failed'.
+# and the benchmark's tuned program against it. Closes with 'N passed, M failed'.
 set -u
 cd "$(dirname "$0")/.." || exit 1
 export CARGO_TARGET_DIR="$PWD/target/cargo"
@@ -23,7 +23,7 @@ rt staticlib host || status=1
 tests reference
 tests tests/compare --features archive
 tests tests/compare --features host --test engine
-tests bench --features host
+tests bench
 
 passed=$(awk '/^test result:/ { n += $4 } END { print n + 0 }' "$log")
 failed=$(awk '/^test result:/ { n += $6 } END { print n + 0 }' "$log")

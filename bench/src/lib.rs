@@ -9,6 +9,5 @@ pub mod programs;
 pub mod proved;
 pub mod table;
 pub mod tuned;
-pub mod tuned_calls;
 pub mod workloads;
 pub mod writer;

@@ -1,5 +1,5 @@
-//! Prints the times of the reference, the tuned and, with the features `archive` and `host`, the proved program:
-//! first whole runs, then single calls of one site.
+//! Prints times: of whole runs in the reference, the tuned and, with the feature `archive`, the proved program; of
+//! single calls of one site in the reference and, with the feature `host`, the proved library.
 
 use bench::calls::cases::{self, Case};
 use bench::calls::engines::{self, Named, Nothing};
@@ -21,35 +21,33 @@ static ALLOCATOR: Counting = Counting;
 type Programs = [Box<dyn Measured>];
 
 /// Which times are divided by which, by the programs' places.
-fn ratios(programs: usize) -> &'static [(usize, usize)] {
-    match programs {
-        2 => &[(0, 1)],
-        _ => &[(2, 1), (2, 0), (0, 1)],
+fn ratios(names: &[&str]) -> &'static [(usize, usize)] {
+    match names {
+        ["reference", "tuned", "proved"] => &[(2, 1), (2, 0), (0, 1)],
+        ["reference", "tuned"] => &[(0, 1)],
+        ["reference", "proved"] => &[(1, 0)],
+        _ => &[],
     }
-}
-
-/// A table of times of these programs, after the columns that say what is measured.
-fn times_table(title: &str, first: &[&str], names: &[&str]) -> Table {
-    let mut table = Table::new(title, first);
-    table.columns.extend(names.iter().map(|name| String::from(*name)));
-    let ratios = ratios(names.len()).iter();
-    table.columns.extend(ratios.map(|(over, under)| format!("{}/{}", names[*over], names[*under])));
-    table
 }
 
 /// None where a difference of times came out as nothing.
-fn ratio(over: f64, under: f64) -> String {
-    if over > 0.0 && under > 0.0 {
-        format!("{:.2}", over / under)
-    } else {
-        String::from("-")
-    }
+fn ratio(over: f64, under: f64) -> Option<f64> {
+    (over > 0.0 && under > 0.0).then(|| over / under)
 }
 
-/// The cells of times and of their ratios.
-fn cells(times: &[f64]) -> Vec<String> {
-    let ratios = ratios(times.len()).iter().map(|(over, under)| ratio(times[*over], times[*under]));
-    times.iter().map(|time| format!("{time:.1}")).chain(ratios).collect()
+/// A table of times of these programs and of their ratios, after the columns that say what is measured.
+fn times_table(title: &str, first: &[&str], names: &[&str], rows: Vec<Vec<String>>, times: &[Vec<f64>]) -> Table {
+    let mut table = Table::new(title, first);
+    let ratios = ratios(names);
+    table.columns.extend(names.iter().map(|name| String::from(*name)));
+    table.columns.extend(ratios.iter().map(|(over, under)| format!("{}/{}", names[*over], names[*under])));
+    for (mut row, times) in rows.into_iter().zip(times) {
+        row.extend(times.iter().map(|time| format!("{time:.1}")));
+        let ratios = ratios.iter().map(|(over, under)| ratio(times[*over], times[*under]));
+        row.extend(ratios.map(|ratio| ratio.map_or(String::from("-"), |ratio| format!("{ratio:.2}"))));
+        table.rows.push(row);
+    }
+    table
 }
 
 /// What is measured: programs and engines, and the rows of both tables.
@@ -94,22 +92,23 @@ impl Bench {
 
 fn runs_table(bench: &Bench, times: &[Vec<f64>]) -> Table {
     let names: Vec<&str> = bench.programs.iter().map(|program| program.name()).collect();
-    let mut table = times_table("Runs: nanoseconds a step; ratios of these", &["workload", "steps"], &names);
-    for (workload, times) in bench.workloads.iter().zip(times) {
-        let first = [workload.name.clone(), workload.steps.to_string()];
-        table.rows.push(first.into_iter().chain(cells(times)).collect());
-    }
-    table
+    let row = |workload: &Workload| vec![workload.name.clone(), workload.steps.to_string()];
+    let rows = bench.workloads.iter().map(row).collect();
+    times_table("Runs: nanoseconds a step; ratios of these", &["workload", "steps"], &names, rows, times)
+}
+
+/// What the proved program is judged by: the ratios of its times to those of the tuned one.
+fn verdict(times: &[Vec<f64>]) -> String {
+    let ratios: Vec<f64> = times.iter().filter_map(|times| ratio(*times.get(2)?, times[1])).collect();
+    let mean = ratios.iter().sum::<f64>() / ratios.len() as f64;
+    let greatest = ratios.iter().copied().fold(0.0, f64::max);
+    format!("proved/tuned of {} rows: mean {mean:.2}, greatest {greatest:.2}", ratios.len())
 }
 
 fn calls_table(bench: &Bench, times: &[Vec<f64>]) -> Table {
     let names: Vec<&str> = bench.engines.iter().map(|named| named.name).collect();
-    let title = "Single calls of one site: nanoseconds a call; ratios of these";
-    let mut table = times_table(title, &["call"], &names);
-    for (case, times) in bench.cases.iter().zip(times) {
-        table.rows.push([case.name.clone()].into_iter().chain(cells(times)).collect());
-    }
-    table
+    let rows = bench.cases.iter().map(|case| vec![case.name.clone()]).collect();
+    times_table("Single calls of one site: nanoseconds a call; their ratio", &["call"], &names, rows, times)
 }
 
 /// What each program holds: fixed buffers, and the most of the heap in any run.
@@ -157,8 +156,7 @@ fn memory_of_calls(engines: &mut [Named], cases: &[Case]) -> Table {
 fn main() {
     let milliseconds = number("BENCH_MILLISECONDS", 1);
     let turns = number("BENCH_TURNS", 31).max(1) as usize;
-    let overlap = number("BENCH_OVERLAP", 0) != 0;
-    let effort = Effort { turns, turn: Duration::from_millis(milliseconds), overlap };
+    let effort = Effort { turns, turn: Duration::from_millis(milliseconds) };
     let mut bench = Bench::new(&text("BENCH_ROWS"));
     if processes::takes_times() {
         print!("{}", processes::to_text(&bench.times(effort)));
@@ -167,7 +165,7 @@ fn main() {
     let processes = number("BENCH_PROCESSES", 5).max(1) as usize;
     let times = processes::combined(&processes::take_times(processes), &bench.choices());
     let (of_runs, of_calls) = times.split_at(bench.workloads.len());
-    println!("{}", runs_table(&bench, of_runs));
+    println!("{}\n{}\n", runs_table(&bench, of_runs), verdict(of_runs));
     println!("{}", calls_table(&bench, of_calls));
     println!("{}", memory(&mut bench.programs, &bench.workloads));
     println!("{}", memory_of_calls(&mut bench.engines, &bench.cases));

@@ -12,8 +12,6 @@ pub struct Effort {
     pub turns: usize,
     /// About how long one turn takes.
     pub turn: Duration,
-    /// Whether a single call may begin before the one before it has ended.
-    pub overlap: bool,
 }
 
 /// Seconds for playing all the runs once, the mean of so many times.

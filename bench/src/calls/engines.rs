@@ -1,6 +1,5 @@
 //! The engines that are measured.
 
-use crate::tuned_calls::TUNED;
 use compare::expected::expected;
 use compare::lent_calls::{Call, Engine, Lent};
 use compare::lent_check::write_outcome;
@@ -37,8 +36,7 @@ pub struct Named {
 pub fn all() -> Vec<Named> {
     vec![
         Named { name: "reference", engine: Box::new(Reference) },
-        Named { name: "tuned", engine: Box::new(TUNED) },
         #[cfg(feature = "host")]
-        Named { name: "proved", engine: Box::new(compare::engine::HOST) },
+        Named { name: "proved", engine: Box::new(compare::engine::Host) },
     ]
 }

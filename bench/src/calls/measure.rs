@@ -2,49 +2,48 @@
 
 use super::cases::Case;
 use super::engines::{Named, Nothing, Reference};
-use super::restore::Restore;
 use crate::measure::Effort;
 use compare::lent_calls::{Engine, Lent};
 use std::hint::black_box;
+use std::ops::Range;
 use std::time::Instant;
 
-/// Waits until all that was begun has ended, so that a call is timed by itself. Where calls overlap, a function of two
-/// instructions came out at 0.5 to 1.7 nanoseconds, by the process, and one of twenty at 1.1.
-#[cfg(target_arch = "x86_64")]
-fn settle() {
-    // SAFETY: the instruction is part of the machine's base set.
-    unsafe { core::arch::x86_64::_mm_lfence() };
+/// From the first to the last 8 bytes of a lent site that a call changes.
+fn changed(before: &[u8], after: &[u8]) -> Range<usize> {
+    let words = || before.chunks(8).zip(after.chunks(8));
+    let Some(first) = words().position(|(old, new)| old != new) else {
+        return 0..0;
+    };
+    let same_after = words().rev().take_while(|(old, new)| old == new).count();
+    8 * first..8 * (words().len() - same_after)
 }
-
-#[cfg(not(target_arch = "x86_64"))]
-fn settle() {}
 
 /// A case with what is lent again and again, and what is written back between calls.
 struct Prepared<'a> {
     case: &'a Case,
     lent: Lent,
-    restore: Restore,
-    /// Whether a call may begin before the one before it has ended.
-    overlap: bool,
+    changed: Range<usize>,
 }
 
 impl Prepared<'_> {
-    fn new(case: &Case, overlap: bool) -> Prepared<'_> {
+    fn new(case: &Case) -> Prepared<'_> {
         let mut after = case.lent.clone();
         Reference.call(&case.call, &mut after);
-        let restore = Restore::new(case.lent.site.lent(), after.site.lent());
-        Prepared { case, lent: case.lent.clone(), restore, overlap }
+        let changed = changed(case.lent.site.lent(), after.site.lent());
+        Prepared { case, lent: case.lent.clone(), changed }
+    }
+
+    /// The site is again as the case lends it.
+    fn write_back(&mut self) {
+        let range = self.changed.clone();
+        self.lent.site.lent_mut()[range.clone()].copy_from_slice(&self.case.lent.site.lent()[range]);
     }
 
     /// Seconds for a call and the loop around it, the mean of so many.
     fn time(&mut self, engine: &mut dyn Engine, times: usize) -> f64 {
-        let before = self.case.lent.site.lent();
         let start = Instant::now();
         for _ in 0..times {
-            self.restore.write_back(before, self.lent.site.lent_mut());
-            if !self.overlap {
-                settle();
-            }
+            self.write_back();
             black_box(engine.call(black_box(&self.case.call), &mut self.lent));
         }
         start.elapsed().as_secs_f64() / times as f64
@@ -58,7 +57,7 @@ impl Prepared<'_> {
 
 /// Nanoseconds a call in each engine; the loop around it is taken off.
 pub fn nanoseconds(engines: &mut [Named], case: &Case, effort: Effort) -> Vec<f64> {
-    let mut prepared = Prepared::new(case, effort.overlap);
+    let mut prepared = Prepared::new(case);
     let mut all: Vec<&mut dyn Engine> = engines.iter_mut().map(|named| named.engine.as_mut()).collect();
     let mut nothing = Nothing;
     all.push(&mut nothing);
@@ -81,11 +80,11 @@ pub fn check(engines: &mut [Named], case: &Case) {
     let mut expected = case.lent.clone();
     let answer = Reference.call(&case.call, &mut expected);
     assert_eq!(answer, case.answer, "{} is answered otherwise than meant", case.name);
-    let mut prepared = Prepared::new(case, false);
+    let mut prepared = Prepared::new(case);
     for Named { name, engine } in engines {
         let found = engine.call(&case.call, &mut prepared.lent);
         assert!(found == answer && prepared.lent == expected, "{name} does {} otherwise", case.name);
-        prepared.restore.write_back(case.lent.site.lent(), prepared.lent.site.lent_mut());
+        prepared.write_back();
         assert!(prepared.lent.site == case.lent.site, "{} is not restored", case.name);
     }
 }

@@ -3,7 +3,7 @@
 use super::{Refusal, BOOK, COMMANDS};
 
 /// The highest reading.
-pub const MOST_READING: i32 = 999_999;
+const MOST_READING: i32 = 999_999;
 pub const BIKES: usize = 32;
 
 /// A command in a form that executes without a branch on its kind.
@@ -56,7 +56,7 @@ pub struct Book {
 
 /// A command from the front of the bytes, and what follows it.
 #[inline(always)]
-pub fn read_command(bytes: &[u8]) -> Option<(Command, &[u8])> {
+fn read_command(bytes: &[u8]) -> Option<(Command, &[u8])> {
     let (&[kind, bike], rest) = bytes.split_first_chunk::<2>()?;
     if usize::from(bike) >= BIKES {
         return None;

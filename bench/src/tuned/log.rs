@@ -34,7 +34,7 @@ pub struct Entry {
     pub c: u64,
 }
 
-pub const EMPTY: Entry = Entry { nc: 0, c: 0 };
+const EMPTY: Entry = Entry { nc: 0, c: 0 };
 
 pub struct Log {
     pub length: u16,
@@ -115,7 +115,7 @@ impl Log {
 
 /// NCSet holds what a majority of the valid NC sets hold, CSet everything else of the valid entries.
 #[inline(always)]
-pub fn settle(valid: impl Iterator<Item = Entry>, majority: u32) -> Decision {
+fn settle(valid: impl Iterator<Item = Entry>, majority: u32) -> Decision {
     // A counter for each command, one word for each of its bits. It starts so that the majority's carry
     // goes past the third bit: a majority is at most 6.
     let start = 8 - majority;

@@ -8,8 +8,8 @@
 //!   whether it has read that far.
 //! - A site's pending set is free of conflicts and within what it received, so a turn tests new commands only.
 
-pub(crate) mod book;
-pub(crate) mod log;
+mod book;
+mod log;
 mod print;
 mod site;
 mod steps;
@@ -25,28 +25,28 @@ const MOST_BYTES: usize = 60_000;
 /// Sites, faults, mask and book length.
 const HEADER_BYTES: usize = 6;
 /// At most this many sites.
-pub(crate) const SITES: usize = 11;
+const SITES: usize = 11;
 /// One place for each round 1 to 33, and an unused one for 0.
 const ROUNDS: usize = 34;
 /// At most this many commands in a book.
-pub(crate) const COMMANDS: usize = 64;
+const COMMANDS: usize = 64;
 
 /// A refusal's number; 0 where there is none.
-pub(crate) type Refusal = u32;
-pub(crate) const TAKEN: Refusal = 0;
-pub(crate) const BOOK: Refusal = 1;
-pub(crate) const HEADER: Refusal = 2;
-pub(crate) const FORM: Refusal = 3;
-pub(crate) const RANGE: Refusal = 4;
+type Refusal = u32;
+const TAKEN: Refusal = 0;
+const BOOK: Refusal = 1;
+const HEADER: Refusal = 2;
+const FORM: Refusal = 3;
+const RANGE: Refusal = 4;
 const ROLE: Refusal = 5;
-pub(crate) const NOT_ENABLED: Refusal = 6;
-pub(crate) const THIRD_ENTRY: Refusal = 7;
-pub(crate) const LAST_ROUND: Refusal = 8;
-pub(crate) const ROOM: Refusal = 9;
+const NOT_ENABLED: Refusal = 6;
+const THIRD_ENTRY: Refusal = 7;
+const LAST_ROUND: Refusal = 8;
+const ROOM: Refusal = 9;
 
 /// The set at this place of some bytes, which must be long enough.
 #[inline(always)]
-pub(crate) fn word(bytes: &[u8], at: usize) -> u64 {
+fn word(bytes: &[u8], at: usize) -> u64 {
     u64::from_le_bytes(*bytes[at..].first_chunk().expect("the bytes have a set at this place"))
 }
 

@@ -1,18 +1,17 @@
 -- How long the lines of a print are.
 -- Assumes nothing.
-use mathlib.Core.Path.{_≡_, ap, subst, _∙_}
-use mathlib.Core.List.{List, [], _∷_, _++_, append-assoc}
+use mathlib.Core.Path.{_≡_, ap, _∙_}
+use mathlib.Core.List.{List, [], _∷_}
 use Prim.Native.Nat.{ℕ, _+_, _*_, _^_, _≤_, _<_}
 use native.Mathlib.Omega.{arith}
 use lib.IntN.{ℤ, pos, negsuc}
 use lib.ListN.{length, length-append}
 use mir.Syntax.{w32}
 use mir.Val.{SFits}
-use Rattle.print.specs.Ascii.{ascii}
-use Rattle.print.specs.Print.{digits, decimal, signedDecimal, Wrote}
-use Rattle.print.proofs.Laws.{length-digits, decimal-short, signed-short, width-one, length-decimal, both}
+use Rattle.print.specs.Print.{digits, decimal, signedDecimal}
+use Rattle.print.proofs.Laws.{length-digits, decimal-short, signed-short}
 use Rattle.theory.specs.Machine.{Delivery}
-use Rattle.lines.specs.Lines.{counted, numbered, lineEnd, runLine, stepLine, refusedLine, siteHead, deliveryText, deliveriesText, siteLine}
+use Rattle.lines.specs.Lines.{counted, numbered, runLine, stepLine, refusedLine, siteHead, deliveryText, deliveriesText, siteLine}
 
 pub counted-length : (x : ℕ) (text : List ℕ) → length (counted x text) ≡ length (decimal x) + length text
 counted-length x text = length-append (decimal x) text
@@ -28,10 +27,6 @@ pub step-length : (step refusal : ℕ) → length (stepLine step refusal) ≡ 15
 unfolding stepLine
 step-length step refusal = simp length-append (omega arith)
 
--- The same, where the refusal's number has one digit.
-pub step-digit : (step refusal : ℕ) → refusal < 10 → length (stepLine step refusal) ≡ 16 + length (decimal step)
-step-digit step refusal l = omega (arith, step-length step refusal, length-decimal refusal, width-one refusal (omega arith))
-
 pub refused-length : (refusal : ℕ) → length (refusedLine refusal) ≡ 9 + length (decimal refusal)
 unfolding refusedLine
 refused-length refusal = simp length-append (omega arith)
@@ -46,13 +41,6 @@ head-length site round =
 pub delivery-length : (command : ℕ) (answer : ℤ) → length (deliveryText command answer) ≡ 4 + length (signedDecimal answer)
 unfolding deliveryText
 delivery-length command answer = let a = length-digits 2 command in simp length-append (omega arith)
-
--- A step's line is written in three pieces.
-pub step-written : {s s₁ s₂ s₃ : List ℕ} {at p₁ p₂ p₃ : ℕ} (step refusal : ℕ) → at ≤ length s → Wrote s₁ p₁ s at (ascii "step " ++ decimal step) → Wrote s₂ p₂ s₁ p₁ (ascii " refused ")
-    → Wrote s₃ p₃ s₂ p₂ (counted refusal lineEnd) → Wrote s₃ p₃ s at (stepLine step refusal)
-unfolding stepLine
-step-written {s} {s₂ = s₂} {at = at} {p₂ = p₂} step refusal h w₁ w₂ w₃ =
-    both h (subst (Wrote s₂ p₂ s at) (append-assoc (ascii "step ") (decimal step) (ascii " refused ")) (both h w₁ w₂)) w₃
 
 -- 11 sites, 2 faulty ones and 64 commands at most.
 pub run-short : (sites faulty commands : ℕ) → sites < 100 → faulty < 10 → commands < 100 → length (runLine sites faulty commands) ≤ 33

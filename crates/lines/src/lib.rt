@@ -1,6 +1,6 @@
 // The lines of a run's print, written into a lent buffer. Each function answers the position after what it wrote.
 ghost use mathlib.Core.Path.{_≡_};
-ghost use Prim.Native.Nat.{_+_, _≤_, _<_};
+ghost use Prim.Native.Nat.{_+_, _≤_};
 ghost use lib.ListN.{length};
 ghost use Rattle.print.specs.Print.{Wrote};
 ghost use Rattle.lines.specs.Lines.{counted, numbered, lineEnd, runLine, stepLine, refusedLine, siteHead, deliveryText};
@@ -19,7 +19,7 @@ fn put_numbered(out: &mut [u8], at: usize, x: usize, text: &[u8]) -> usize
     requires { ⌜ at + length (numbered x (now text)) ≤ length (now out) ⌝ }
     ensures { λ r. ⌜ Wrote (now (out .exit)) r (now (out .entry)) at (numbered x (now (text .entry))) ⌝ }
 {
-    let end = print::put_two(out, at, x);
+    let end = print::put_digits(out, at, 2, x);
     print::put_text(out, end, text)
 }
 
@@ -40,14 +40,14 @@ pub fn put_run_line(
     put_counted(out, p3, commands, b" commands\n")
 }
 
-// The line of a refused step. The number of a refusal has one digit, that of a step no more than five.
+// The line of a refused step.
 pub fn put_step_line(out: &mut [u8], at: usize, step: usize, refusal: usize) -> usize
-    requires { ⌜ (at + length (stepLine step refusal) ≤ length (now out)) × (refusal < 10) × (step < 100000) ⌝ }
+    requires { ⌜ at + length (stepLine step refusal) ≤ length (now out) ⌝ }
     ensures { λ r. ⌜ Wrote (now (out .exit)) r (now (out .entry)) at (stepLine step refusal) ⌝ }
 {
-    let p1 = print::put_short(out, at, b"step ", step);
-    let p2 = print::put_text(out, p1, b" refused ");
-    print::put_ended(out, p2, refusal)
+    let p1 = print::put_text(out, at, b"step ");
+    let p2 = put_counted(out, p1, step, b" refused ");
+    put_counted(out, p2, refusal, b"\n")
 }
 
 // The line of a refused header, book or size.

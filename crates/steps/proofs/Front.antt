@@ -3,7 +3,7 @@
 use mathlib.Core.Bool.{Bool, true, false}
 use mathlib.Core.Path.{_≡_, refl, sym, ap, subst, _∙_}
 use mathlib.Core.List.{List, _∷_, _++_, append-assoc}
-use Prim.Native.Nat.{ℕ, zero, suc, _≤_, _<_}
+use Prim.Native.Nat.{ℕ, zero, suc, _+_, _*_, _≤_, _<_}
 use native.Mathlib.Omega.{arith}
 use borrow.Author.Tests.{leb-true}
 use lib.Dec.{leb}
@@ -11,7 +11,7 @@ use lib.ListN.{length, getD, drop}
 use lib.Seq.{drop-cons}
 use Rattle.wire.specs.Wire.{readLe, bytes}
 use Rattle.wire.proofs.Laws.{read-lt, peel}
-use Rattle.sets.specs.Sets.{readSet}
+use Rattle.sets.specs.Sets.{setBytes, readSet}
 use Rattle.steps.specs.declared.Step.{Step}
 use Rattle.steps.specs.declared.Reading.the-variants.{Whole, Unreadable}
 use Rattle.steps.specs.Steps.{sizeOf, byte, given, uncut, readAs, readStep, encodeStep, InRange}
@@ -47,16 +47,16 @@ module _ (s : List ℕ) where
     back-5 h = ap (λ (l : List ℕ). k ∷ byte s 1 ∷ byte s 2 ∷ byte s 3 ∷ l) (from 4 (omega arith)) ∙ back-4 (omega arith)
 
     -- A set after the round of a message.
-    back-set : 12 ≤ length s → Small s → k ∷ byte s 1 ∷ byte s 2 ∷ byte s 3 ∷ bytes 8 (readLe 8 s 4) ++ drop 12 s ≡ s
-    back-set h small = ap (λ (l : List ℕ). k ∷ byte s 1 ∷ byte s 2 ∷ byte s 3 ∷ l) (peel s small 8 4 (omega arith)) ∙ back-4 (omega arith)
+    back-set : 4 + setBytes ≤ length s → Small s → k ∷ byte s 1 ∷ byte s 2 ∷ byte s 3 ∷ bytes setBytes (readLe setBytes s 4) ++ drop (4 + setBytes) s ≡ s
+    back-set h small = ap (λ (l : List ℕ). k ∷ byte s 1 ∷ byte s 2 ∷ byte s 3 ∷ l) (peel s small setBytes 4 (omega arith)) ∙ back-4 (omega arith)
 
     -- The two sets of a log entry.
-    back-entry : 19 ≤ length s → Small s → k ∷ byte s 1 ∷ byte s 2 ∷ (bytes 8 (readLe 8 s 3) ++ bytes 8 (readLe 8 s 11)) ++ drop 19 s ≡ s
+    back-entry : 3 + 2 * setBytes ≤ length s → Small s → k ∷ byte s 1 ∷ byte s 2 ∷ (bytes setBytes (readLe setBytes s 3) ++ bytes setBytes (readLe setBytes s (3 + setBytes))) ++ drop (3 + 2 * setBytes) s ≡ s
     back-entry h small =
         ap (λ (l : List ℕ). k ∷ byte s 1 ∷ byte s 2 ∷ l)
-        (append-assoc (bytes 8 (readLe 8 s 3)) (bytes 8 (readLe 8 s 11)) (drop 19 s)
-        ∙ ap (λ (l : List ℕ). bytes 8 (readLe 8 s 3) ++ l) (peel s small 8 11 (omega arith))
-        ∙ peel s small 8 3 (omega arith))
+        (append-assoc (bytes setBytes (readLe setBytes s 3)) (bytes setBytes (readLe setBytes s (3 + setBytes))) (drop (3 + 2 * setBytes) s)
+        ∙ ap (λ (l : List ℕ). bytes setBytes (readLe setBytes s 3) ++ l) (peel s small setBytes (3 + setBytes) (omega arith))
+        ∙ peel s small setBytes 3 (omega arith))
         ∙ back-3 (omega arith)
 
 given-true : (b : Bool) (u : Step) {t : Step} → given b u ≡ Whole t → (b ≡ true) × (u ≡ t)
@@ -79,9 +79,9 @@ by-code zero s e q = absurd (not-whole q)
 by-code (suc zero) s e q = from-uncut s _ (λ h. record { size = h; range = λ small. tt; back = λ small. back-3 s e h }) q
 by-code (suc (suc zero)) s e q = from-uncut s _ (λ h. record { size = h; range = λ small. tt; back = λ small. back-5 s e h }) q
 by-code (suc (suc (suc zero))) s e q = from-uncut s _ (λ h. record { size = h; range = λ small. tt; back = λ small. back-4 s e h }) q
-by-code (suc (suc (suc (suc zero)))) s e q = from-uncut s _ (λ h. record { size = h; range = λ small. read-lt s small 8 4 h; back = back-set s e h }) q
-by-code (suc (suc (suc (suc (suc zero))))) s e q = from-uncut s _ (λ h. record { size = h; range = λ small. read-lt s small 8 4 h; back = back-set s e h }) q
-by-code (suc (suc (suc (suc (suc (suc zero)))))) s e q = from-uncut s _ (λ h. record { size = h; range = λ small. (read-lt s small 8 3 (omega arith), read-lt s small 8 11 h); back = back-entry s e h }) q
+by-code (suc (suc (suc (suc zero)))) s e q = from-uncut s _ (λ h. record { size = h; range = λ small. read-lt s small setBytes 4 h; back = back-set s e h }) q
+by-code (suc (suc (suc (suc (suc zero))))) s e q = from-uncut s _ (λ h. record { size = h; range = λ small. read-lt s small setBytes 4 h; back = back-set s e h }) q
+by-code (suc (suc (suc (suc (suc (suc zero)))))) s e q = from-uncut s _ (λ h. record { size = h; range = λ small. (read-lt s small setBytes 3 (omega arith), read-lt s small setBytes (3 + setBytes) h); back = back-entry s e h }) q
 by-code (suc (suc (suc (suc (suc (suc (suc zero))))))) s e q = from-uncut s _ (λ h. record { size = h; range = λ small. tt; back = λ small. back-2 s e h }) q
 by-code (suc (suc (suc (suc (suc (suc (suc (suc zero)))))))) s e q = from-uncut s _ (λ h. record { size = h; range = λ small. tt; back = λ small. back-3 s e h }) q
 by-code (suc (suc (suc (suc (suc (suc (suc (suc (suc zero))))))))) s e q = from-uncut s _ (λ h. record { size = h; range = λ small. tt; back = λ small. back-2 s e h }) q

@@ -4,18 +4,18 @@ use mathlib.Core.Path.{_≡_, refl, sym, ap, _∙_}
 use mathlib.Core.List.{List, [], _∷_, _++_, map}
 use Prim.Native.Nat.{ℕ, _+_}
 use native.Mathlib.Omega.{arith}
-use lib.ListN.{length, drop}
+use lib.ListN.{length, drop, length-append}
 use lib.Seq.{drop-at, getD-drop}
 use Rattle.wire.specs.Wire.{value, bytes, readLe}
 use Rattle.wire.proofs.Laws.{value-bytes}
 use Rattle.sets.specs.declared.Set.{Set}
-use Rattle.sets.specs.Sets.{readSet}
+use Rattle.sets.specs.Sets.{setBytes, readSet}
 use Rattle.steps.specs.declared.Step.{Step}
 use Rattle.steps.specs.declared.Step.the-variants.{Command, Acknowledgment, Check, FalseAcknowledgment, FalseCheck, FalseEntry, Turn, FastDelivery, LogRead, RoundEnd}
 use Rattle.steps.specs.declared.Reading.{Reading}
 use Rattle.steps.specs.declared.Reading.the-variants.{Whole, Unreadable}
-use Rattle.steps.specs.Steps.{sizeOf, readAs, readStep, andThen, readings, stepsOf, setOperand, encodeStep, encodeSteps, SetFits, InRange, AllInRange}
-use Rattle.steps.proofs.Laws.{whole, whole-4, whole-5, whole-6}
+use Rattle.steps.specs.Steps.{sizeOf, uncut, readAs, readStep, andThen, readings, stepsOf, setOperand, encodeStep, encodeSteps, SetFits, InRange, AllInRange}
+use Rattle.steps.proofs.Laws.{whole}
 use Rattle.steps.proofs.Front.{Small, front}
 use Rattle.steps.proofs.Walk.{steps-more}
 
@@ -32,22 +32,29 @@ length-step (FastDelivery i m) = refl
 length-step (LogRead i) = refl
 length-step (RoundEnd i) = refl
 
-set-back : (x : Set) → SetFits x → x ≡ record { bits = value (setOperand x) }
-set-back x h = let e = sym (value-bytes 8 (x .bits) h) in λ i. record { bits = e i }
+set-back : (x : Set) → SetFits x → record { bits = value (setOperand x) } ≡ x
+set-back x h = λ i. record { bits = value-bytes setBytes (x .bits) h i }
+
+-- What is read of a step's bytes, whatever stands after them, is not cut.
+uncut-back : (t : Step) (s : List ℕ) {r : Reading} → r ≡ uncut (encodeStep t ++ s) t → r ≡ Whole t
+uncut-back t s e = e ∙ sym (whole (encodeStep t ++ s) t (omega (arith, length-append (encodeStep t) s, length-step t)))
 
 -- A written step reads back, whatever stands after it.
 pub read-written : (t : Step) (s : List ℕ) → InRange t → readStep (encodeStep t ++ s) ≡ Whole t
 unfolding readStep readAs readSet readLe bytes
-read-written (Command i m) s f = sym (whole (encodeStep (Command i m) ++ s) (Command i m) (omega arith))
-read-written (Acknowledgment i j r a) s f = sym (whole (encodeStep (Acknowledgment i j r a) ++ s) (Acknowledgment i j r a) (omega arith))
-read-written (Check i j r) s f = sym (whole (encodeStep (Check i j r) ++ s) (Check i j r) (omega arith))
-read-written (FalseAcknowledgment i j r x) s f = sym (whole-4 (encodeStep (FalseAcknowledgment i j r x) ++ s) (set-back x f) (omega arith))
-read-written (FalseCheck i j r x) s f = sym (whole-5 (encodeStep (FalseCheck i j r x) ++ s) (set-back x f) (omega arith))
-read-written (FalseEntry j r nc c) s (f, g) = sym (whole-6 (encodeStep (FalseEntry j r nc c) ++ s) (set-back nc f) (set-back c g) (omega arith))
-read-written (Turn i) s f = sym (whole (encodeStep (Turn i) ++ s) (Turn i) (omega arith))
-read-written (FastDelivery i m) s f = sym (whole (encodeStep (FastDelivery i m) ++ s) (FastDelivery i m) (omega arith))
-read-written (LogRead i) s f = sym (whole (encodeStep (LogRead i) ++ s) (LogRead i) (omega arith))
-read-written (RoundEnd i) s f = sym (whole (encodeStep (RoundEnd i) ++ s) (RoundEnd i) (omega arith))
+read-written (Command i m) s f = uncut-back (Command i m) s refl
+read-written (Acknowledgment i j r a) s f = uncut-back (Acknowledgment i j r a) s refl
+read-written (Check i j r) s f = uncut-back (Check i j r) s refl
+read-written (FalseAcknowledgment i j r x) s f =
+    uncut-back (FalseAcknowledgment i j r x) s (λ k. uncut (encodeStep (FalseAcknowledgment i j r x) ++ s) (FalseAcknowledgment i j r (set-back x f k)))
+read-written (FalseCheck i j r x) s f =
+    uncut-back (FalseCheck i j r x) s (λ k. uncut (encodeStep (FalseCheck i j r x) ++ s) (FalseCheck i j r (set-back x f k)))
+read-written (FalseEntry j r nc c) s (f, g) =
+    uncut-back (FalseEntry j r nc c) s (λ k. uncut (encodeStep (FalseEntry j r nc c) ++ s) (FalseEntry j r (set-back nc f k) (set-back c g k)))
+read-written (Turn i) s f = uncut-back (Turn i) s refl
+read-written (FastDelivery i m) s f = uncut-back (FastDelivery i m) s refl
+read-written (LogRead i) s f = uncut-back (LogRead i) s refl
+read-written (RoundEnd i) s f = uncut-back (RoundEnd i) s refl
 
 -- A step that was read, written in front of what is left, gives the bytes.
 pub written-read : (s : List ℕ) {t : Step} → Small s → readStep s ≡ Whole t → encodeStep t ++ drop (sizeOf t) s ≡ s

@@ -13,18 +13,18 @@ use Rattle.steps.specs.declared.Reading.the-variants.{Whole, Unreadable}
 use Rattle.steps.specs.Steps.{sizeOf, readStep, andThen, readings, stepsOf}
 use Rattle.steps.proofs.Front.{front}
 
--- A step has 2 to 19 bytes.
-pub size-small : (t : Step) → (2 ≤ sizeOf t) × (sizeOf t ≤ 19)
-size-small (Command i m) = (omega arith, omega arith)
-size-small (Acknowledgment i j r a) = (omega arith, omega arith)
-size-small (Check i j r) = (omega arith, omega arith)
-size-small (FalseAcknowledgment i j r x) = (omega arith, omega arith)
-size-small (FalseCheck i j r x) = (omega arith, omega arith)
-size-small (FalseEntry j r nc c) = (omega arith, omega arith)
-size-small (Turn i) = (omega arith, omega arith)
-size-small (FastDelivery i m) = (omega arith, omega arith)
-size-small (LogRead i) = (omega arith, omega arith)
-size-small (RoundEnd i) = (omega arith, omega arith)
+-- A step has at least 2 bytes.
+size-least : (t : Step) → 2 ≤ sizeOf t
+size-least (Command i m) = omega arith
+size-least (Acknowledgment i j r a) = omega arith
+size-least (Check i j r) = omega arith
+size-least (FalseAcknowledgment i j r x) = omega arith
+size-least (FalseCheck i j r x) = omega arith
+size-least (FalseEntry j r nc c) = omega arith
+size-least (Turn i) = omega arith
+size-least (FastDelivery i m) = omega arith
+size-least (LogRead i) = omega arith
+size-least (RoundEnd i) = omega arith
 
 readings-skip : (s : List ℕ) (k : ℕ) → readings s k ≡ readings (drop k s) 0
 readings-skip [] zero = refl
@@ -35,9 +35,9 @@ readings-skip (b ∷ s) (suc k) = readings-skip s k
 -- A step in front.
 pub steps-more : (s : List ℕ) {t : Step} → readStep s ≡ Whole t → stepsOf s ≡ Whole t ∷ stepsOf (drop (sizeOf t) s)
 unfolding stepsOf
-steps-more [] {t} e = absurd (let f = front [] e .size in omega (arith, size-small t))
+steps-more [] {t} e = absurd (let f = front [] e .size in omega (arith, size-least t))
 steps-more (b ∷ s) {t} e =
-    let q : suc (sizeOf t - 1) ≡ sizeOf t = omega (arith, size-small t) in
+    let q : suc (sizeOf t - 1) ≡ sizeOf t = omega (arith, size-least t) in
     ap (λ (r : Reading). andThen r (λ k. readings s k)) e
     ∙ ap (λ (l : List Reading). Whole t ∷ l) (readings-skip s (sizeOf t - 1) ∙ ap (λ (n : ℕ). readings (drop n (b ∷ s)) 0) q)
 
@@ -68,4 +68,4 @@ module _ (s : List ℕ) (at : ℕ) where
 
   -- A step that was read lies inside the bytes.
   pub inside : {t : Step} {z : ℕ} → at ≤ length s → readStep (drop at s) ≡ Whole t → z ≡ sizeOf t → (2 ≤ z) × (at + z ≤ length s)
-  inside {t} h e q = (omega (arith, size-small t), omega (arith, front (drop at s) e .size, size-small t, length-drop at s))
+  inside {t} h e q = (omega (arith, size-least t), omega (arith, front (drop at s) e .size, size-least t, length-drop at s))

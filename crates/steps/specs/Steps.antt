@@ -2,7 +2,7 @@
 -- Assumes nothing.
 use mathlib.Core.Bool.{Bool, true, false}
 use mathlib.Core.List.{List, [], _∷_, _++_}
-use Prim.Native.Nat.{ℕ, zero, suc, _-_, _^_, _<_}
+use Prim.Native.Nat.{ℕ, zero, suc, _+_, _-_, _*_, _^_, _<_}
 use lib.Dec.{leb}
 use lib.ListN.{length, getD}
 use Rattle.wire.specs.Wire.{bytes}
@@ -13,14 +13,14 @@ use Rattle.steps.specs.declared.Step.the-variants.{Command, Acknowledgme
 use Rattle.steps.specs.declared.Reading.{Reading}
 use Rattle.steps.specs.declared.Reading.the-variants.{Whole, Unreadable}
 
--- The bytes of a step: its code, its operands of 1 byte, its sets of 8.
+-- The bytes of a step: its code, its operands of 1 byte, its sets.
 abbrev pub sizeOf : Step → ℕ
 sizeOf (Command i m) = 3
 sizeOf (Acknowledgment i j r a) = 5
 sizeOf (Check i j r) = 4
-sizeOf (FalseAcknowledgment i j r x) = 12
-sizeOf (FalseCheck i j r x) = 12
-sizeOf (FalseEntry j r nc c) = 19
+sizeOf (FalseAcknowledgment i j r x) = 4 + setBytes
+sizeOf (FalseCheck i j r x) = 4 + setBytes
+sizeOf (FalseEntry j r nc c) = 3 + 2 * setBytes
 sizeOf (Turn i) = 2
 sizeOf (FastDelivery i m) = 3
 sizeOf (LogRead i) = 2
@@ -48,7 +48,7 @@ byCode s =
     ∷ uncut s (Check (byte s 1) (byte s 2) (byte s 3))
     ∷ uncut s (FalseAcknowledgment (byte s 1) (byte s 2) (byte s 3) (readSet s 4))
     ∷ uncut s (FalseCheck (byte s 1) (byte s 2) (byte s 3) (readSet s 4))
-    ∷ uncut s (FalseEntry (byte s 1) (byte s 2) (readSet s 3) (readSet s 11))
+    ∷ uncut s (FalseEntry (byte s 1) (byte s 2) (readSet s 3) (readSet s (3 + setBytes)))
     ∷ uncut s (Turn (byte s 1))
     ∷ uncut s (FastDelivery (byte s 1) (byte s 2))
     ∷ uncut s (LogRead (byte s 1))

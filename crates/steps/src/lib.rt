@@ -1,11 +1,11 @@
 // The steps of a run: bytes to steps and back.
 ghost use mathlib.Core.Path.{_≡_};
-ghost use Prim.Native.Nat.{_+_, _≤_};
+ghost use Prim.Native.Nat.{_+_, _*_, _≤_};
 ghost use mathlib.Core.List.{_∷_, [], _++_};
 ghost use lib.ListN.{length, drop};
 ghost use Rattle.wire.specs.Wire.{splice};
-ghost use Rattle.sets.specs.Sets.{setBytes};
-ghost use Rattle.steps.specs.Steps.{sizeOf, readAs, readStep, setOperand, encodeStep};
+ghost use Rattle.sets.specs.Sets.{setBytes, readSet};
+ghost use Rattle.steps.specs.Steps.{sizeOf, byte, uncut, readAs, readStep, setOperand, encodeStep};
 use sets::Set;
 
 // A step: `site` is the one that receives or acts, `from` the one that a message or log entry comes from.
@@ -82,9 +82,9 @@ pub fn size(step: Step) -> usize
         Step::Command { .. } => 3,
         Step::Acknowledgment { .. } => 5,
         Step::Check { .. } => 4,
-        Step::FalseAcknowledgment { .. } => 12,
-        Step::FalseCheck { .. } => 12,
-        Step::FalseEntry { .. } => 19,
+        Step::FalseAcknowledgment { .. } => 4 + Set::BYTES,
+        Step::FalseCheck { .. } => 4 + Set::BYTES,
+        Step::FalseEntry { .. } => 3 + 2 * Set::BYTES,
         Step::Turn { .. } => 2,
         Step::FastDelivery { .. } => 3,
         Step::LogRead { .. } => 2,
@@ -92,155 +92,77 @@ pub fn size(step: Step) -> usize
     }
 }
 
-// 01 i m
-fn read_command(bytes: &[u8], at: usize) -> Reading
-    requires { ⌜ at ≤ length (now bytes) ⌝ }
-    ensures { λ r. ⌜ r ≡ readAs 1 (drop at (now (bytes .entry))) ⌝ }
+// The byte at a position, 0 where the bytes are cut.
+fn operand(bytes: &[u8], k: usize) -> u8
+    ensures { λ r. ⌜ r ≡ byte (now (bytes .entry)) k ⌝ }
 {
-    if at + 3 > bytes.len() {
-        return Reading::Unreadable;
+    if k < bytes.len() {
+        return bytes[k];
     }
-    let site = bytes[at + 1];
-    let command = bytes[at + 2];
-    Reading::Whole(Step::Command { site, command })
+    0
 }
 
-// 02 i j r a
-fn read_acknowledgment(bytes: &[u8], at: usize) -> Reading
-    requires { ⌜ at ≤ length (now bytes) ⌝ }
-    ensures { λ r. ⌜ r ≡ readAs 2 (drop at (now (bytes .entry))) ⌝ }
+// The set at a position in a step; any set where the bytes are cut.
+fn set_operand(bytes: &[u8], k: usize) -> Set
+    requires { ⌜ k ≤ 3 + setBytes ⌝ }
+    ensures { λ r. ⌜ (k + setBytes ≤ length (now (bytes .entry)) → r ≡ readSet (now (bytes .entry)) k) ⌝ }
 {
-    if at + 5 > bytes.len() {
-        return Reading::Unreadable;
+    if bytes.len() < k + Set::BYTES {
+        return Set::empty();
     }
-    let site = bytes[at + 1];
-    let from = bytes[at + 2];
-    let round = bytes[at + 3];
-    let number = bytes[at + 4];
-    Reading::Whole(Step::Acknowledgment {
-        site,
-        from,
-        round,
-        number,
-    })
+    Set::read(bytes, k)
 }
 
-// 03 i j r
-fn read_check(bytes: &[u8], at: usize) -> Reading
-    requires { ⌜ at ≤ length (now bytes) ⌝ }
-    ensures { λ r. ⌜ r ≡ readAs 3 (drop at (now (bytes .entry))) ⌝ }
+// The step, where the bytes that its operands were read from are not cut.
+fn uncut_step(bytes: &[u8], step: Step) -> Reading
+    ensures { λ r. ⌜ r ≡ uncut (now (bytes .entry)) step ⌝ }
 {
-    if at + 4 > bytes.len() {
+    if bytes.len() < size(step) {
         return Reading::Unreadable;
     }
-    let site = bytes[at + 1];
-    let from = bytes[at + 2];
-    let round = bytes[at + 3];
-    Reading::Whole(Step::Check { site, from, round })
+    Reading::Whole(step)
 }
 
-// 04 i j r set
-fn read_false_acknowledgment(bytes: &[u8], at: usize) -> Reading
-    requires { ⌜ at ≤ length (now bytes) ⌝ }
-    ensures { λ r. ⌜ r ≡ readAs 4 (drop at (now (bytes .entry))) ⌝ }
+// 02 to 05: a message, i j r and a number or a set.
+fn message(bytes: &[u8], code: u8) -> Step
+    requires { ⌜ (2 ≤ code) × (code ≤ 5) ⌝ }
+    ensures { λ r. ⌜ uncut (now (bytes .entry)) r ≡ readAs code (now (bytes .entry)) ⌝ }
 {
-    if at + 12 > bytes.len() {
-        return Reading::Unreadable;
+    let site = operand(bytes, 1);
+    let from = operand(bytes, 2);
+    let round = operand(bytes, 3);
+    match code {
+        2 => Step::Acknowledgment {
+            site,
+            from,
+            round,
+            number: operand(bytes, 4),
+        },
+        3 => Step::Check { site, from, round },
+        4 => Step::FalseAcknowledgment {
+            site,
+            from,
+            round,
+            set: set_operand(bytes, 4),
+        },
+        _ => Step::FalseCheck {
+            site,
+            from,
+            round,
+            set: set_operand(bytes, 4),
+        },
     }
-    let site = bytes[at + 1];
-    let from = bytes[at + 2];
-    let round = bytes[at + 3];
-    let set = Set::read(bytes, at + 4);
-    Reading::Whole(Step::FalseAcknowledgment {
-        site,
-        from,
-        round,
-        set,
-    })
 }
 
-// 05 i j r set
-fn read_false_check(bytes: &[u8], at: usize) -> Reading
-    requires { ⌜ at ≤ length (now bytes) ⌝ }
-    ensures { λ r. ⌜ r ≡ readAs 5 (drop at (now (bytes .entry))) ⌝ }
+// 06: a log entry, j r NC C.
+fn entry(bytes: &[u8]) -> Step
+    ensures { λ r. ⌜ uncut (now (bytes .entry)) r ≡ readAs 6 (now (bytes .entry)) ⌝ }
 {
-    if at + 12 > bytes.len() {
-        return Reading::Unreadable;
-    }
-    let site = bytes[at + 1];
-    let from = bytes[at + 2];
-    let round = bytes[at + 3];
-    let set = Set::read(bytes, at + 4);
-    Reading::Whole(Step::FalseCheck {
-        site,
-        from,
-        round,
-        set,
-    })
-}
-
-// 06 j r NC C
-fn read_false_entry(bytes: &[u8], at: usize) -> Reading
-    requires { ⌜ at ≤ length (now bytes) ⌝ }
-    ensures { λ r. ⌜ r ≡ readAs 6 (drop at (now (bytes .entry))) ⌝ }
-{
-    if at + 19 > bytes.len() {
-        return Reading::Unreadable;
-    }
-    let from = bytes[at + 1];
-    let round = bytes[at + 2];
-    let nc = Set::read(bytes, at + 3);
-    let c = Set::read(bytes, at + 11);
-    Reading::Whole(Step::FalseEntry { from, round, nc, c })
-}
-
-// 07 i
-fn read_turn(bytes: &[u8], at: usize) -> Reading
-    requires { ⌜ at ≤ length (now bytes) ⌝ }
-    ensures { λ r. ⌜ r ≡ readAs 7 (drop at (now (bytes .entry))) ⌝ }
-{
-    if at + 2 > bytes.len() {
-        return Reading::Unreadable;
-    }
-    let site = bytes[at + 1];
-    Reading::Whole(Step::Turn { site })
-}
-
-// 08 i m
-fn read_fast_delivery(bytes: &[u8], at: usize) -> Reading
-    requires { ⌜ at ≤ length (now bytes) ⌝ }
-    ensures { λ r. ⌜ r ≡ readAs 8 (drop at (now (bytes .entry))) ⌝ }
-{
-    if at + 3 > bytes.len() {
-        return Reading::Unreadable;
-    }
-    let site = bytes[at + 1];
-    let command = bytes[at + 2];
-    Reading::Whole(Step::FastDelivery { site, command })
-}
-
-// 09 i
-fn read_log_read(bytes: &[u8], at: usize) -> Reading
-    requires { ⌜ at ≤ length (now bytes) ⌝ }
-    ensures { λ r. ⌜ r ≡ readAs 9 (drop at (now (bytes .entry))) ⌝ }
-{
-    if at + 2 > bytes.len() {
-        return Reading::Unreadable;
-    }
-    let site = bytes[at + 1];
-    Reading::Whole(Step::LogRead { site })
-}
-
-// 0A i
-fn read_round_end(bytes: &[u8], at: usize) -> Reading
-    requires { ⌜ at ≤ length (now bytes) ⌝ }
-    ensures { λ r. ⌜ r ≡ readAs 10 (drop at (now (bytes .entry))) ⌝ }
-{
-    if at + 2 > bytes.len() {
-        return Reading::Unreadable;
-    }
-    let site = bytes[at + 1];
-    Reading::Whole(Step::RoundEnd { site })
+    let from = operand(bytes, 1);
+    let round = operand(bytes, 2);
+    let nc = set_operand(bytes, 3);
+    let c = set_operand(bytes, 3 + Set::BYTES);
+    Step::FalseEntry { from, round, nc, c }
 }
 
 // The step that stands at a position.
@@ -248,21 +170,21 @@ pub fn read_step(bytes: &[u8], at: usize) -> Reading
     requires { ⌜ at ≤ length (now bytes) ⌝ }
     ensures { λ r. ⌜ r ≡ readStep (drop at (now (bytes .entry))) ⌝ }
 {
-    if at >= bytes.len() {
-        return Reading::Unreadable;
-    }
-    let code = bytes[at];
+    let rest = &bytes[at..];
+    let code = operand(rest, 0);
+    let site = operand(rest, 1);
+    let command = operand(rest, 2);
     match code {
-        1 => read_command(bytes, at),
-        2 => read_acknowledgment(bytes, at),
-        3 => read_check(bytes, at),
-        4 => read_false_acknowledgment(bytes, at),
-        5 => read_false_check(bytes, at),
-        6 => read_false_entry(bytes, at),
-        7 => read_turn(bytes, at),
-        8 => read_fast_delivery(bytes, at),
-        9 => read_log_read(bytes, at),
-        10 => read_round_end(bytes, at),
+        1 => uncut_step(rest, Step::Command { site, command }),
+        2 => uncut_step(rest, message(rest, 2)),
+        3 => uncut_step(rest, message(rest, 3)),
+        4 => uncut_step(rest, message(rest, 4)),
+        5 => uncut_step(rest, message(rest, 5)),
+        6 => uncut_step(rest, entry(rest)),
+        7 => uncut_step(rest, Step::Turn { site }),
+        8 => uncut_step(rest, Step::FastDelivery { site, command }),
+        9 => uncut_step(rest, Step::LogRead { site }),
+        10 => uncut_step(rest, Step::RoundEnd { site }),
         _ => Reading::Unreadable,
     }
 }
@@ -325,8 +247,8 @@ fn put_message(
     round: u8,
     set: Set,
 ) -> usize
-    requires { ⌜ at + 12 ≤ length (now out) ⌝ }
-    ensures { λ r. ⌜ (r ≡ at + 12) × (now (out .exit) ≡ splice (now (out .entry)) at (code ∷ site ∷ from ∷ round ∷ setOperand set)) ⌝ }
+    requires { ⌜ at + (4 + setBytes) ≤ length (now out) ⌝ }
+    ensures { λ r. ⌜ (r ≡ at + (4 + setBytes)) × (now (out .exit) ≡ splice (now (out .entry)) at (code ∷ site ∷ from ∷ round ∷ setOperand set)) ⌝ }
 {
     let middle = put_head(out, at, code, site, from, round);
     put_set(out, middle, set)
@@ -334,8 +256,8 @@ fn put_message(
 
 // A step 06 is written.
 fn put_entry(out: &mut [u8], at: usize, from: u8, round: u8, nc: Set, c: Set) -> usize
-    requires { ⌜ at + 19 ≤ length (now out) ⌝ }
-    ensures { λ r. ⌜ (r ≡ at + 19) × (now (out .exit) ≡ splice (now (out .entry)) at (6 ∷ from ∷ round ∷ setOperand nc ++ setOperand c)) ⌝ }
+    requires { ⌜ at + (3 + 2 * setBytes) ≤ length (now out) ⌝ }
+    ensures { λ r. ⌜ (r ≡ at + (3 + 2 * setBytes)) × (now (out .exit) ≡ splice (now (out .entry)) at (6 ∷ from ∷ round ∷ setOperand nc ++ setOperand c)) ⌝ }
 {
     let first = put_three(out, at, 6, from, round);
     let second = put_set(out, first, nc);

@@ -21,7 +21,6 @@ pub mod lent_check;
 pub mod lent_damage;
 pub mod lent_draw;
 pub mod lent_scenes;
-pub mod library;
 pub mod noise;
 pub mod parts;
 pub mod program;

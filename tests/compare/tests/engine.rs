@@ -16,7 +16,7 @@ const ENOUGH_CALLS: u64 = 50_000;
 
 #[cfg(feature = "host")]
 fn engine() -> (&'static str, impl Engine) {
-    ("the archive", compare::engine::HOST)
+    ("the archive", compare::engine::Host)
 }
 
 #[cfg(not(feature = "host"))]

@@ -1,8 +1,6 @@
 -- `lines::put_delivery`: a space, the command with its sign, and the answer.
 -- Assumes nothing.
 use borrow.Author.Needs.{needs}
-use denote.Ref.{now}
-use Prim.Native.Nat.{_≤_}
 use lib.ListN.{length}
 use lib.IntN.{ℤ}
 use mir.Facts.{toZ-ofZ}
@@ -20,16 +18,24 @@ slice-aggregate-put-text : tie.Need-slice-aggregate-put-text
 slice-aggregate-put-text c = search needs
 
 put-text-requires : tie.Need-put-text-requires
-put-text-requires c κs = omega (arith, delivery-length (c .before .before .before .args .command) (c .before .before .before .args .answer))
+put-text-requires c κs = let a = c .before .before .before .args in omega (arith, delivery-length (a .command) (a .answer))
 
 slice-aggregate-put-numbered : tie.Need-slice-aggregate-put-numbered
 slice-aggregate-put-numbered c = search needs
 
 put-numbered-requires : tie.Need-put-numbered-requires
-put-numbered-requires c κs = omega (arith, delivery-length (c .before .before .before .before .before .before .before .before .args .command) (c .before .before .before .before .before .before .before .before .args .answer), numbered-length (c .before .before .before .before .before .before .before .before .args .command) (ascii "="), c .before .before .before .before .put-text .ensures .end)
+put-numbered-requires c κs =
+    let t = c .before .before .before .before in
+    let a = t .before .before .before .before .args in
+    omega (arith, delivery-length (a .command) (a .answer), numbered-length (a .command) (ascii "="), t .put-text .ensures .end)
 
 put-signed-requires : tie.Need-put-signed-requires
-put-signed-requires c κs = omega (arith, delivery-length (c .before .before .before .before .before .before .before .before .before .before .before .before .args .command) (c .before .before .before .before .before .before .before .before .before .before .before .before .args .answer), c .before .before .before .before .before .before .before .before .put-text .ensures .end, c .before .before .before .put-numbered .ensures .end, numbered-length (c .before .before .before .before .before .before .before .before .before .before .before .before .args .command) (ascii "="), ap (λ (z : ℤ). length (signedDecimal z)) (toZ-ofZ (c .before .before .before .before .before .before .before .before .before .before .before .before .fits .answer)))
+put-signed-requires c κs =
+    let n = c .before .before .before in
+    let t = n .before .before .before .before .before in
+    let o = t .before .before .before .before in
+    let k = ap (λ (z : ℤ). length (signedDecimal z)) (toZ-ofZ (o .fits .answer)) in
+    omega (arith, delivery-length (o .args .command) (o .args .answer), numbered-length (o .args .command) (ascii "="), t .put-text .ensures .end, n .put-numbered .ensures .end)
 
 same-length : tie.Need-same-length
 same-length c = search needs
@@ -37,9 +43,10 @@ same-length c = search needs
 returns : tie.Need-returns
 unfolding deliveryText
 returns c =
-    let a = c .before .before .before .before .before .before .before .before .before .before .before .before .before .before .before .args in
-    let h : a .at ≤ length (now (a .out)) = omega (arith, delivery-length (c .before .before .before .before .before .before .before .before .before .before .before .before .before .before .before .args .command) (c .before .before .before .before .before .before .before .before .before .before .before .before .before .before .before .args .answer)) in
-    both h (both h (c .before .before .before .before .before .before .before .before .before .before .before .put-text .ensures) (c .before .before .before .before .before .before .put-numbered .ensures)) (rw (toZ-ofZ (c .before .before .before .before .before .before .before .before .before .before .before .before .before .before .before .fits .answer)) at (c .before .before .put-signed .ensures))
+    let n = c .before .before .before .before .before .before in
+    let t = n .before .before .before .before .before in
+    let o = t .before .before .before .before in
+    both (omega (arith, o .pre)) (both (omega (arith, o .pre)) (t .put-text .ensures) (n .put-numbered .ensures)) (rw (toZ-ofZ (o .fits .answer)) at (c .before .before .put-signed .ensures))
 
 pub put-delivery-spec : {M : Type 1} → statement M
 put-delivery-spec =

@@ -1,9 +1,6 @@
 -- `lines::put_refused_line`: the word and the number.
 -- Assumes nothing.
 use borrow.Author.Needs.{needs}
-use denote.Ref.{now}
-use Prim.Native.Nat.{_≤_}
-use lib.ListN.{length}
 use native.Mathlib.Omega.{arith}
 use Rattle.print.specs.Ascii.{ascii}
 use Rattle.print.proofs.Laws.{both}
@@ -22,7 +19,10 @@ slice-aggregate-put-counted : tie.Need-slice-aggregate-put-counted
 slice-aggregate-put-counted c = search needs
 
 put-counted-requires : tie.Need-put-counted-requires
-put-counted-requires c κs = omega (arith, refused-length (c .before .before .before .before .before .before .before .before .args .refusal), counted-length (c .before .before .before .before .before .before .before .before .args .refusal) (ascii "\n"), c .before .before .before .before .put-text .ensures .end)
+put-counted-requires c κs =
+    let t = c .before .before .before .before in
+    let a = t .before .before .before .before .args in
+    omega (arith, refused-length (a .refusal), counted-length (a .refusal) (ascii "\n"), t .put-text .ensures .end)
 
 same-length : tie.Need-same-length
 same-length c = search needs
@@ -30,9 +30,8 @@ same-length c = search needs
 returns : tie.Need-returns
 unfolding refusedLine
 returns c =
-    let a = c .before .before .before .before .before .before .before .before .before .before .before .args in
-    let h : a .at ≤ length (now (a .out)) = omega (arith, refused-length (c .before .before .before .before .before .before .before .before .before .before .before .args .refusal)) in
-    both h (c .before .before .before .before .before .before .before .put-text .ensures) (c .before .before .put-counted .ensures)
+    let t = c .before .before .before .before .before .before .before in
+    both (omega (arith, t .before .before .before .before .pre)) (t .put-text .ensures) (c .before .before .put-counted .ensures)
 
 pub put-refused-line-spec : {M : Type 1} → statement M
 put-refused-line-spec =

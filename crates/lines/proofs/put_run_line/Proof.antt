@@ -16,25 +16,46 @@ slice-aggregate-put-text : tie.Need-slice-aggregate-put-text
 slice-aggregate-put-text c = search needs
 
 put-text-requires : tie.Need-put-text-requires
-put-text-requires c κs = omega (arith, run-length (c .before .before .before .args .sites) (c .before .before .before .args .faulty) (c .before .before .before .args .commands))
+put-text-requires c κs = let a = c .before .before .before .args in omega (arith, run-length (a .sites) (a .faulty) (a .commands))
 
 slice-aggregate-put-counted : tie.Need-slice-aggregate-put-counted
 slice-aggregate-put-counted c = search needs
 
 put-counted-requires : tie.Need-put-counted-requires
-put-counted-requires c κs = omega (arith, run-length (c .before .before .before .before .before .before .before .before .args .sites) (c .before .before .before .before .before .before .before .before .args .faulty) (c .before .before .before .before .before .before .before .before .args .commands), counted-length (c .before .before .before .before .before .before .before .before .args .sites) (ascii " sites "), c .before .before .before .before .put-text .ensures .end)
+put-counted-requires c κs =
+    let t = c .before .before .before .before in
+    let a = t .before .before .before .before .args in
+    omega (arith, run-length (a .sites) (a .faulty) (a .commands), counted-length (a .sites) (ascii " sites "), t .put-text .ensures .end)
 
 slice-aggregate-put-counted-2 : tie.Need-slice-aggregate-put-counted-2
 slice-aggregate-put-counted-2 c = search needs
 
 put-counted-requires-2 : tie.Need-put-counted-requires-2
-put-counted-requires-2 c κs = omega (arith, run-length (c .before .before .before .before .before .before .before .before .before .before .before .before .before .args .sites) (c .before .before .before .before .before .before .before .before .before .before .before .before .before .args .faulty) (c .before .before .before .before .before .before .before .before .before .before .before .before .before .args .commands), counted-length (c .before .before .before .before .before .before .before .before .before .before .before .before .before .args .faulty) (ascii " liars "), c .before .before .before .before .before .before .before .before .before .put-text .ensures .end, c .before .before .before .before .put-counted .ensures .end, counted-length (c .before .before .before .before .before .before .before .before .before .before .before .before .before .args .sites) (ascii " sites "))
+put-counted-requires-2 c κs =
+    let n = c .before .before .before .before in
+    let t = n .before .before .before .before .before in
+    let a = t .before .before .before .before .args in
+    omega (arith, run-length (a .sites) (a .faulty) (a .commands), counted-length (a .sites) (ascii " sites "), counted-length (a .faulty) (ascii " liars "), t .put-text .ensures .end, n .put-counted .ensures .end)
 
 slice-aggregate-put-counted-3 : tie.Need-slice-aggregate-put-counted-3
 slice-aggregate-put-counted-3 c = search needs
 
 put-counted-requires-3 : tie.Need-put-counted-requires-3
-put-counted-requires-3 c κs = omega (arith, run-length (c .before .before .before .before .before .before .before .before .before .before .before .before .before .before .before .before .before .before .args .sites) (c .before .before .before .before .before .before .before .before .before .before .before .before .before .before .before .before .before .before .args .faulty) (c .before .before .before .before .before .before .before .before .before .before .before .before .before .before .before .before .before .before .args .commands), counted-length (c .before .before .before .before .before .before .before .before .before .before .before .before .before .before .before .before .before .before .args .commands) (ascii " commands\n"), c .before .before .before .before .before .before .before .before .before .before .before .before .before .before .put-text .ensures .end, c .before .before .before .before .before .before .before .before .before .put-counted .ensures .end, c .before .before .before .before .put-counted2 .ensures .end, counted-length (c .before .before .before .before .before .before .before .before .before .before .before .before .before .before .before .before .before .before .args .sites) (ascii " sites "), counted-length (c .before .before .before .before .before .before .before .before .before .before .before .before .before .before .before .before .before .before .args .faulty) (ascii " liars "))
+put-counted-requires-3 c κs =
+    let m = c .before .before .before .before in
+    let n = m .before .before .before .before .before in
+    let t = n .before .before .before .before .before in
+    let a = t .before .before .before .before .args in
+    omega (
+      arith,
+      run-length (a .sites) (a .faulty) (a .commands),
+      counted-length (a .sites) (ascii " sites "),
+      counted-length (a .faulty) (ascii " liars "),
+      counted-length (a .commands) (ascii " commands\n"),
+      t .put-text .ensures .end,
+      n .put-counted .ensures .end,
+      m .put-counted2 .ensures .end,
+    )
 
 same-length : tie.Need-same-length
 same-length c = search needs
@@ -42,9 +63,12 @@ same-length c = search needs
 returns : tie.Need-returns
 unfolding runLine
 returns c =
-    let a = c .before .before .before .before .before .before .before .before .before .before .before .before .before .before .before .before .before .before .before .before .before .args in
-    let h : a .at ≤ length (now (a .out)) = omega (arith, run-length (c .before .before .before .before .before .before .before .before .before .before .before .before .before .before .before .before .before .before .before .before .before .args .sites) (c .before .before .before .before .before .before .before .before .before .before .before .before .before .before .before .before .before .before .before .before .before .args .faulty) (c .before .before .before .before .before .before .before .before .before .before .before .before .before .before .before .before .before .before .before .before .before .args .commands)) in
-    both h (both h (both h (c .before .before .before .before .before .before .before .before .before .before .before .before .before .before .before .before .before .put-text .ensures) (c .before .before .before .before .before .before .before .before .before .before .before .before .put-counted .ensures)) (c .before .before .before .before .before .before .before .put-counted2 .ensures)) (c .before .before .put-counted3 .ensures)
+    let m = c .before .before .before .before .before .before .before in
+    let n = m .before .before .before .before .before in
+    let t = n .before .before .before .before .before in
+    let o = t .before .before .before .before in
+    let h : o .args .at ≤ length (now (o .args .out)) = omega (arith, o .pre) in
+    both h (both h (both h (t .put-text .ensures) (n .put-counted .ensures)) (m .put-counted2 .ensures)) (c .before .before .put-counted3 .ensures)
 
 pub put-run-line-spec : {M : Type 1} → statement M
 put-run-line-spec =

@@ -1,9 +1,6 @@
 -- `lines::put_site_head`: the word, then two numbers of two digits, each with its text.
 -- Assumes nothing.
 use borrow.Author.Needs.{needs}
-use denote.Ref.{now}
-use Prim.Native.Nat.{_≤_}
-use lib.ListN.{length}
 use native.Mathlib.Omega.{arith}
 use Rattle.print.specs.Ascii.{ascii}
 use Rattle.print.proofs.Laws.{both}
@@ -16,19 +13,26 @@ slice-aggregate-put-text : tie.Need-slice-aggregate-put-text
 slice-aggregate-put-text c = search needs
 
 put-text-requires : tie.Need-put-text-requires
-put-text-requires c κs = omega (arith, head-length (c .before .before .before .args .site) (c .before .before .before .args .round))
+put-text-requires c κs = let a = c .before .before .before .args in omega (arith, head-length (a .site) (a .round))
 
 slice-aggregate-put-numbered : tie.Need-slice-aggregate-put-numbered
 slice-aggregate-put-numbered c = search needs
 
 put-numbered-requires : tie.Need-put-numbered-requires
-put-numbered-requires c κs = omega (arith, head-length (c .before .before .before .before .before .before .before .before .args .site) (c .before .before .before .before .before .before .before .before .args .round), numbered-length (c .before .before .before .before .before .before .before .before .args .site) (ascii " round "), c .before .before .before .before .put-text .ensures .end)
+put-numbered-requires c κs =
+    let t = c .before .before .before .before in
+    let a = t .before .before .before .before .args in
+    omega (arith, head-length (a .site) (a .round), numbered-length (a .site) (ascii " round "), t .put-text .ensures .end)
 
 slice-aggregate-put-numbered-2 : tie.Need-slice-aggregate-put-numbered-2
 slice-aggregate-put-numbered-2 c = search needs
 
 put-numbered-requires-2 : tie.Need-put-numbered-requires-2
-put-numbered-requires-2 c κs = omega (arith, head-length (c .before .before .before .before .before .before .before .before .before .before .before .before .before .args .site) (c .before .before .before .before .before .before .before .before .before .before .before .before .before .args .round), numbered-length (c .before .before .before .before .before .before .before .before .before .before .before .before .before .args .round) (ascii " delivered"), c .before .before .before .before .before .before .before .before .before .put-text .ensures .end, c .before .before .before .before .put-numbered .ensures .end, numbered-length (c .before .before .before .before .before .before .before .before .before .before .before .before .before .args .site) (ascii " round "))
+put-numbered-requires-2 c κs =
+    let n = c .before .before .before .before in
+    let t = n .before .before .before .before .before in
+    let a = t .before .before .before .before .args in
+    omega (arith, head-length (a .site) (a .round), numbered-length (a .site) (ascii " round "), numbered-length (a .round) (ascii " delivered"), t .put-text .ensures .end, n .put-numbered .ensures .end)
 
 same-length : tie.Need-same-length
 same-length c = search needs
@@ -36,9 +40,10 @@ same-length c = search needs
 returns : tie.Need-returns
 unfolding siteHead
 returns c =
-    let a = c .before .before .before .before .before .before .before .before .before .before .before .before .before .before .before .before .args in
-    let h : a .at ≤ length (now (a .out)) = omega (arith, head-length (c .before .before .before .before .before .before .before .before .before .before .before .before .before .before .before .before .args .site) (c .before .before .before .before .before .before .before .before .before .before .before .before .before .before .before .before .args .round)) in
-    both h (both h (c .before .before .before .before .before .before .before .before .before .before .before .before .put-text .ensures) (c .before .before .before .before .before .before .before .put-numbered .ensures)) (c .before .before .put-numbered2 .ensures)
+    let n = c .before .before .before .before .before .before .before in
+    let t = n .before .before .before .before .before in
+    let o = t .before .before .before .before in
+    both (omega (arith, o .pre)) (both (omega (arith, o .pre)) (t .put-text .ensures) (n .put-numbered .ensures)) (c .before .before .put-numbered2 .ensures)
 
 pub put-site-head-spec : {M : Type 1} → statement M
 put-site-head-spec =

@@ -1,6 +1,5 @@
 -- `play::report`: a line where the answer is not 0.
 -- Assumes nothing.
-use Prim.Native.Nat.{_<_}
 use native.Mathlib.Omega.{arith}
 use borrow.Author.Needs.{needs}
 use Rattle.lines.proofs.Laws.{step-short}
@@ -15,8 +14,7 @@ put-step-line-requires : tie.Need-put-step-line-requires
 put-step-line-requires c κs =
     let s = c .before .before .before in
     let n = code-small (s .pre .2 .0) in
-    let l : s .args .code < 10 = omega (arith, s .pre .2 .1) in
-    (omega (arith, step-short (s .args .number) (s .args .code) (s .pre .1) l), l, s .pre .1)
+    omega (arith, step-short (s .args .number) (s .args .code) (s .pre .1) (omega (arith, s .pre .2 .1)))
 
 same-length : tie.Need-same-length
 same-length c = search needs
