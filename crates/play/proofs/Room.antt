@@ -3,14 +3,14 @@
 use mathlib.Core.Path.{_≡_, sym, ap, subst, _∙_}
 use mathlib.Core.Bool.{true, false, not}
 use mathlib.Core.List.{List, [], _∷_, _++_, foldl-append}
-use Prim.Native.Nat.{ℕ, zero, suc, _+_, _*_, _≤_, _<_}
+use Prim.Native.Nat.{ℕ, _+_, _≤_, _<_}
 use native.Mathlib.Omega.{arith}
-use lib.ListN.{length, length-append}
+use lib.ListN.{length}
 use Rattle.table.specs.declared.SiteTable.{SiteTable}
 use Rattle.table.specs.Table.{isGood, faultyOf}
 use Rattle.table.proofs.Laws.{good-limits, good-quorums, good-few}
 use Rattle.register.specs.declared.Command.{Command}
-use Rattle.commands.specs.Book.{maxCommands, commandsOf}
+use Rattle.commands.specs.Book.{commandsOf}
 use Rattle.commands.proofs.Walk.{few-commands}
 use Rattle.protocol.specs.System.{free}
 use Rattle.protocol.specs.Recovery.{entries}

@@ -4,7 +4,10 @@ use mathlib.Core.Path.{_≡_}
 use mathlib.Core.Bool.{true}
 use mathlib.Core.List.{List, []}
 use Prim.Native.Nat.{ℕ, _+_, _*_, _/_, _≤_, _<_}
-use lib.ListN.{length}
+use lib.ListN.{length, drop}
+use Rattle.refusals.specs.Refusals.{codeOf}
+use Rattle.refusals.specs.declared.Refusal.the-variants.{Form}
+use Rattle.refusals.specs.declared.Verdict.the-variants.{Refused}
 use Rattle.table.specs.declared.SiteTable.{SiteTable}
 use Rattle.table.specs.Table.{maxSites, isGood}
 use Rattle.register.specs.declared.Command.{Command}
@@ -13,11 +16,14 @@ use Rattle.conflicts.specs.Conflicts.{conflictRows}
 use Rattle.protocol.specs.World.{Step, start, play}
 use Rattle.system.specs.Dash.{dash, lastRound}
 use Rattle.print.specs.Print.{Wrote}
-use Rattle.steps.specs.Steps.{stepsOf}
+use Rattle.steps.specs.declared.Reading.{Reading}
+use Rattle.steps.specs.declared.Reading.the-variants.{Whole, Unreadable}
+use Rattle.steps.specs.Steps.{sizeOf, readStep, stepsOf}
+use Rattle.steps.specs.Meaning.{meaning}
 use Rattle.runs.specs.Run.{maxRun, stepLines, worldAfter}
 use Rattle.deliver.specs.Delivering.{Noted}
 use Rattle.entries.specs.Entries.{entrySize}
-use Rattle.world.specs.World.{Buffers, PastRows, HoldsWorld}
+use Rattle.world.specs.World.{Buffers, PastRows, HoldsWorld, Answered}
 
 -- The bytes of the line of a refused step, at most: five digits of its place, one of the refusal.
 abbrev pub lineRoom : ℕ
@@ -45,6 +51,15 @@ pub record Midway (t : SiteTable) (book places rows : List ℕ) (commands : ℕ)
 pub record Playable (t : SiteTable) (book places rows : List ℕ) (commands : ℕ) (steps out : List ℕ) (from : ℕ) (b : Buffers) : Type 0 where
   pub room : from + linesRoom ≤ length out
   pub held : Midway t book places rows commands steps [] b
+
+-- What stands at a position was played and answered with a number: a step that is whole, and the next one stands after it; or what cannot be read, which changes nothing, is refused as 3 and is the last to be read.
+module _ (t : SiteTable) (book : List Command) (steps : List ℕ) (at : ℕ) (b : Buffers) (code next : ℕ) (after : Buffers) where
+  abbrev pub playedAs : Reading → Type 0
+  playedAs (Whole u) = (next ≡ at + sizeOf u) × Answered t book (meaning u) b code after
+  playedAs Unreadable = (next ≡ length steps) × (code ≡ codeOf (Refused Form)) × (after ≡ b)
+
+  abbrev pub PlayedNext : Type 0
+  PlayedNext = playedAs (readStep (drop at steps))
 
 -- Steps played from the start of a run: `before` became `after` by the lines of the refused ones, written from `from` to `end`.
 -- What is past the rows of the sites is as it was in `earlier`.

@@ -1,5 +1,7 @@
+-- `play::play_on`: what is left of the steps becomes less, one after another.
+-- Assumes nothing.
 use mathlib.Core.Path.{_≡_, refl, sym, _∙_}
-use Prim.Native.Nat.{ℕ, _+_, _-_, _*_, _≤_, _<_}
+use Prim.Native.Nat.{_+_, _-_, _*_, _≤_, _<_}
 use native.Mathlib.Omega.{arith}
 use borrow.Author.Needs.{needs}
 use denote.Ref.{now}
@@ -8,8 +10,7 @@ use Rattle.commands.specs.Book.{commandsOf}
 use Rattle.rounds.specs.Rounds.{Kept}
 use Rattle.world.specs.Parts.{lent}
 use Rattle.play.specs.Played.{lineRoom}
-use Rattle.play.proofs.Laws.{Playing, playing-none, playing-end}
-use Rattle.play.proofs.Batches.{onward, playing-next}
+use Rattle.play.proofs.Laws.{Playing, playing-none, playing-end, onward, playing-next}
 use Rattle.play.proofs.play_on.Statement.{statement}
 use Rattle.play.proofs.play_on.Tie as tie
 
@@ -68,49 +69,52 @@ play-next-requires c κs =
       omega (arith, c .before .before .before .before .loop-test .taken),
     )
 
-tell-requires : tie.Need-tell-requires Inv-loop μ-loop
-tell-requires c κs =
+report-requires : tie.Need-report-requires Inv-loop μ-loop
+report-requires c κs =
     let a = c .before .before .before .before .before .before .before .before .before .before .before .before .before .before .before .before .before .before .before .before .before .before .before .before .before .before in
     let l = c .before .before .before .before .before .before .before .before .before .before .before .before .before .before .before .loop in
-    let s = now (a .args .steps) in
-    let g : l .at < length s = omega (arith, c .before .before .before .before .before .before .before .before .before .before .before .before .before .before .loop-test .taken) in
-    let x = onward (a .args .table) (commandsOf (now (a .args .book))) s (l .at) _ _ _ g (c .before .before .before .before .before .before .before .before .before .play-next .ensures .0) in
+    let g : l .at < length (now (a .args .steps)) = omega (arith, c .before .before .before .before .before .before .before .before .before .before .before .before .before .before .loop-test .taken) in
+    let x = onward (a .args .table) (commandsOf (now (a .args .book))) (now (a .args .steps)) (l .at) _ _ _ _ g (c .before .before .before .before .before .before .before .before .before .play-next .ensures .0) in
     let m = l .inv .1 g in (
       omega (arith, a .pre .0 .room, a .pre .0 .held .short, l .inv .0, l .inv .3, l .inv .7),
-      omega (arith, a .pre .0 .held .short, m, x .further, x .inside),
+      omega (arith, a .pre .0 .held .short, m),
       (x .verdict, x .number),
     )
+
+add-number : tie.Need-add-number Inv-loop μ-loop
+add-number c =
+    let a = c .before .before .before .before .before .before .before .before .before .before .before .before .before .before .before .before .before .before .before .before .before .before .before .before .before .before .before .before .before in
+    let l = c .before .before .before .before .before .before .before .before .before .before .before .before .before .before .before .before .before .before .loop in
+    let m = l .inv .1 (omega (arith, c .before .before .before .before .before .before .before .before .before .before .before .before .before .before .before .before .before .loop-test .taken)) in
+    record { fits = omega (arith, a .pre .0 .held .short, m) }
 
 loop-less : tie.Need-loop-less Inv-loop μ-loop
 loop-less c =
     let a = c .before .before .before .before .before .before .before .before .before .before .before .before .before .before .before .before .before .before .before .before .before .before .before .before .before .before .before .before .before in
     let l = c .before .before .before .before .before .before .before .before .before .before .before .before .before .before .before .before .before .before .loop in
-    let s = now (a .args .steps) in
-    let g : l .at < length s = omega (arith, c .before .before .before .before .before .before .before .before .before .before .before .before .before .before .before .before .before .loop-test .taken) in
-    let x = onward (a .args .table) (commandsOf (now (a .args .book))) s (l .at) _ _ _ g (c .before .before .before .before .before .before .before .before .before .before .before .before .play-next .ensures .0) in
-    let told = c .before .before .tell .ensures in
-    omega (arith, told .onward, x .further, x .inside)
+    let g : l .at < length (now (a .args .steps)) = omega (arith, c .before .before .before .before .before .before .before .before .before .before .before .before .before .before .before .before .before .loop-test .taken) in
+    let x = onward (a .args .table) (commandsOf (now (a .args .book))) (now (a .args .steps)) (l .at) _ _ _ _ g (c .before .before .before .before .before .before .before .before .before .before .before .before .play-next .ensures .0) in
+    omega (arith, x .further, x .inside)
 
 loop-again : tie.Need-loop-again Inv-loop μ-loop
 loop-again c =
     let a = c .before .before .before .before .before .before .before .before .before .before .before .before .before .before .before .before .before .before .before .before .before .before .before .before .before .before .before .before .before in
     let l = c .before .before .before .before .before .before .before .before .before .before .before .before .before .before .before .before .before .before .loop in
-    let s = now (a .args .steps) in
-    let g : l .at < length s = omega (arith, c .before .before .before .before .before .before .before .before .before .before .before .before .before .before .before .before .before .loop-test .taken) in
+    let g : l .at < length (now (a .args .steps)) = omega (arith, c .before .before .before .before .before .before .before .before .before .before .before .before .before .before .before .before .before .loop-test .taken) in
     let b = c .before .before .before .before .before .before .before .before .before .before .before .before .play-next in
-    let x = onward (a .args .table) (commandsOf (now (a .args .book))) s (l .at) _ _ _ g (b .ensures .0) in
-    let told = c .before .before .tell .ensures in
+    let x = onward (a .args .table) (commandsOf (now (a .args .book))) (now (a .args .steps)) (l .at) _ _ _ _ g (b .ensures .0) in
+    let w = c .before .before .report .ensures in
     let m = l .inv .1 g in (
-      omega (arith, told .onward, x .inside),
-      (λ n. let f = x .far (omega (arith, n, told .onward)) in omega (arith, told .onward, told .counted, m, f)),
-      omega (arith, told .onward, told .counted, m, x .further),
-      omega (arith, told .room, told .counted, l .inv .3),
+      x .inside,
+      (λ n. let f = x .far n in omega (arith, m, f)),
+      omega (arith, m, x .further),
+      omega (arith, w .1, l .inv .3),
       b .kept .0 ∙ l .inv .4,
       b .kept .1 .0 ∙ l .inv .5,
       b .kept .1 .1 .0 ∙ l .inv .6,
-      c .before .before .tell .kept .0 ∙ l .inv .7,
-      playing-next (a .args .table) (commandsOf (now (a .args .book))) s (l .at) _ _ _ g (now (a .args .out)) (a .args .from) (l .inv .8)
-          (omega (arith, a .pre .0 .room, a .pre .0 .held .short, l .inv .0, l .inv .3, l .inv .7)) told (b .ensures .0),
+      c .before .before .report .kept .0 ∙ l .inv .7,
+      playing-next (a .args .table) (commandsOf (now (a .args .book))) (now (a .args .steps)) (l .at) _ _ _ _ g (now (a .args .out)) (a .args .from) (l .inv .8)
+          (omega (arith, a .pre .0 .room, a .pre .0 .held .short, l .inv .0, l .inv .3, l .inv .7)) (w .0) (b .ensures .0),
       b .ensures .1,
     )
 
@@ -144,7 +148,8 @@ play-on-spec =
     μ-loop
     loop-holds
     play-next-requires
-    tell-requires
+    report-requires
+    add-number
     loop-less
     loop-again
     same-length
