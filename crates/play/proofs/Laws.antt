@@ -6,7 +6,7 @@ use Prim.Native.Nat.{ℕ, suc, _+_, _≤_, _<_}
 use native.Mathlib.Numerals.{add-one}
 use native.Mathlib.Omega.{arith}
 use lib.ListN.{length, drop}
-use Rattle.refusals.specs.Refusals.{numberOf, codeOf}
+use Rattle.refusals.specs.Refusals.{numberOf}
 use Rattle.refusals.specs.declared.Refusal.{Refusal}
 use Rattle.refusals.specs.declared.Refusal.the-variants.{Book, Table, Form, Range, Role, Disabled, ThirdEntry, LastRound, Size}
 use Rattle.refusals.specs.declared.Verdict.{Verdict}
@@ -18,19 +18,19 @@ use Rattle.protocol.specs.World.{World, start, judge, step, play}
 use Rattle.system.specs.Dash.{dash}
 use Rattle.print.specs.Print.{Wrote}
 use Rattle.wire.proofs.Laws.{splice-none}
-use Rattle.print.proofs.Laws.{Left, left-all, left-more, left-none}
+use Rattle.print.proofs.Laws.{Left, left-all, left-more, left-none, decimal-short}
 use Rattle.steps.specs.declared.Step.{Step}
 use Rattle.steps.specs.declared.Reading.{Reading}
 use Rattle.steps.specs.declared.Reading.the-variants.{Whole, Unreadable}
 use Rattle.steps.specs.Steps.{sizeOf, readStep, stepsOf}
 use Rattle.steps.specs.Meaning.{meaning}
-use Rattle.steps.proofs.Walk as walk
 use Rattle.steps.proofs.Walk.{more-at, bad-at, end-at}
 use Rattle.lines.specs.Lines.{stepLine}
+use Rattle.lines.proofs.Laws.{step-length}
 use Rattle.runs.specs.Run.{report, stepLines, worldAfter}
-use Rattle.world.specs.World.{Buffers, siteAt, PastRows, worldOf, HoldsWorld, Outcome, Answered}
+use Rattle.world.specs.World.{Buffers, siteAt, PastRows, worldOf, HoldsWorld, Outcome}
 use Rattle.world.proofs.Past.{past-same, past-more}
-use Rattle.play.specs.Played.{linesRoom, playedAs, PlayedNext, PlayedAll}
+use Rattle.play.specs.Played.{lineRoom, linesRoom, PlayedAll}
 
 -- ---- the line of a step
 
@@ -45,31 +45,18 @@ number-small ThirdEntry = omega arith
 number-small LastRound = omega arith
 number-small Size = omega arith
 
--- The number of a verdict has one digit.
-pub code-small : (v : Verdict) → codeOf v < 10
-code-small Taken = omega arith
-code-small (Refused r) = number-small r
-
-number-some : (r : Refusal) → 1 ≤ numberOf r
-number-some Book = omega arith
-number-some Table = omega arith
-number-some Form = omega arith
-number-some Range = omega arith
-number-some Role = omega arith
-number-some Disabled = omega arith
-number-some ThirdEntry = omega arith
-number-some LastRound = omega arith
-number-some Size = omega arith
+-- A line has room for two digits of a refusal.
+pub line-short : (step refusal : ℕ) → step < 100000 → refusal < 100 → length (stepLine step refusal) ≤ lineRoom
+line-short step refusal a b = omega (arith, step-length step refusal, decimal-short 4 step a, decimal-short 1 refusal b)
 
 -- No line for a step that is taken.
-pub silent : (s : List ℕ) (at number : ℕ) {code : ℕ} → code ≡ 0 → (v : Verdict) → code ≡ codeOf v → Wrote s at s at (report number v)
-silent s at number e Taken q = record { end = omega arith; bytes = sym (splice-none s at) }
-silent s at number e (Refused r) q = let l = number-some r in absurd (omega arith)
+pub silent : (s : List ℕ) (at number : ℕ) {v : Verdict} → v ≡ Taken → Wrote s at s at (report number v)
+silent s at number e = subst (λ (v : Verdict). Wrote s at s at (report number v)) (sym e) (record { end = omega arith; bytes = sym (splice-none s at) })
 
-pub loud : (number : ℕ) {s after : List ℕ} {at past code : ℕ} → (code ≡ 0 → ⊥) → Wrote after past s at (stepLine number code) → (v : Verdict) → code ≡ codeOf v
+pub loud : (number : ℕ) {s after : List ℕ} {at past code : ℕ} {v : Verdict} {r : Refusal} → v ≡ Refused r → code ≡ numberOf r → Wrote after past s at (stepLine number code)
     → Wrote after past s at (report number v)
-loud number n w Taken q = absurd (n q)
-loud number {s} {after} {at} {past} n w (Refused r) q = subst (λ (k : ℕ). Wrote after past s at (stepLine number k)) q w
+loud number {s} {after} {at} {past} ev ec w =
+    subst (λ (v : Verdict). Wrote after past s at (report number v)) (sym ev) (subst (λ (k : ℕ). Wrote after past s at (stepLine number k)) ec w)
 
 -- ---- what is left
 
@@ -184,45 +171,3 @@ module _ (t : SiteTable) (book : List Command) where
 
         left : stepsOf (drop at steps) ≡ []
         left = end-at steps at g
-
--- ---- what stands at a position
-
--- Each step has 2 bytes at least, but for what is the last to be read.
-pub record Onward (steps : List ℕ) (at code next : ℕ) : Type 0 where
-  pub verdict : Verdict
-  pub number : code ≡ codeOf verdict
-  pub further : at + 1 ≤ next
-  pub far : next < length steps → at + 2 ≤ next
-  pub inside : next ≤ length steps
-
-module _ (t : SiteTable) (book : List Command) (steps : List ℕ) (at : ℕ) where
-  pub next-unread : (b : Buffers) {code : ℕ} → readStep (drop at steps) ≡ Unreadable → code ≡ codeOf (Refused Form) → PlayedNext t book steps at b code (length steps) b
-  next-unread b {code} e c = subst (λ (x : Reading). playedAs t book steps at b code (length steps) b x) (sym e) (refl, c, refl)
-
-  pub next-whole : (b after : Buffers) {code next : ℕ} {u : Step} → readStep (drop at steps) ≡ Whole u → next ≡ at + sizeOf u → Answered t book (meaning u) b code after
-      → PlayedNext t book steps at b code next after
-  next-whole b after {code} {next} e q d = subst (λ (x : Reading). playedAs t book steps at b code next after x) (sym e) (q, d)
-
-module _ (t : SiteTable) (book : List Command) (steps : List ℕ) (at : ℕ) (b after : Buffers) (code next : ℕ) (g : at < length steps) where
-  onward-by : (x : Reading) → readStep (drop at steps) ≡ x → playedAs t book steps at b code next after x → Onward steps at code next
-  onward-by (Whole u) e h =
-      let same : sizeOf u ≡ sizeOf u = refl in
-      let i = walk.inside steps at (omega arith) e same in
-      record { verdict = h .1 .verdict; number = h .1 .number; further = omega (arith, i .0, h .0); far = λ l. omega (arith, i .0, h .0); inside = omega (arith, i .1, h .0) }
-  onward-by Unreadable e h =
-      record { verdict = Refused Form; number = h .1; further = omega (arith, h .0); far = λ l. absurd (omega (arith, h .0)); inside = omega (arith, h .0) }
-
-  pub onward : PlayedNext t book steps at b code next after → Onward steps at code next
-  onward h = onward-by (readStep (drop at steps)) refl h
-
-  -- The run stands after what was played, once its line is written.
-  module _ (before : List ℕ) (from : ℕ) {earlier out out′ : List ℕ} {end end′ number : ℕ} (p : Playing t book steps before from earlier b out end at number) (l : end ≤ length out)
-      (w : (v : Verdict) → code ≡ codeOf v → Wrote out′ end′ out end (report number v)) where
-    playing-by : (x : Reading) → readStep (drop at steps) ≡ x → playedAs t book steps at b code next after x → Playing t book steps before from earlier after out′ end′ next (number + 1)
-    playing-by (Whole u) e h = playing-more t book steps before from p l e (h .0) (h .1 .outcome) (w (h .1 .verdict) (h .1 .number))
-    playing-by Unreadable e h =
-        subst (λ (y : Buffers). Playing t book steps before from earlier y out′ end′ next (number + 1)) (sym (h .2))
-        (playing-last t book steps before from p l g e (h .0) (w (Refused Form) (h .1)))
-
-    pub playing-next : PlayedNext t book steps at b code next after → Playing t book steps before from earlier after out′ end′ next (number + 1)
-    playing-next h = playing-by (readStep (drop at steps)) refl h

@@ -10,10 +10,11 @@ ghost use Rattle.run.specs.Left.{PastLeft, HoldsLast, Worked, Left};
 ghost use Rattle.run.specs.Prepared.{Playable, Roomy, Sized, Noted};
 use header::Opened;
 use layout::Site;
+use table::Rules;
 use table::SiteTable;
 
-// The room for any print: 33 bytes for the first line, 21 for each of 30,000 refused steps, 987 for each of 11 sites.
-pub const ROOM: usize = 640890;
+// The room for any print: 33 bytes for the first line, 22 for each of 30,000 refused steps, 987 for each of 11 sites.
+pub const ROOM: usize = 33 + 22 * 30000 + 987 * 11;
 
 // The working memory that any run needs: the bytes of 11 sites,
 pub const SITES: usize = 38896;
@@ -45,15 +46,15 @@ fn print_on(
     world::start(sites, sent, table);
     let faulty = table.faulty_count();
     let first = lines::put_run_line(out, 0, table.sites, faulty, commands);
+    let rules = Rules { table, commands };
     let played = play::play_steps(
         sites,
         log,
         sent,
-        table,
+        rules,
         book,
         places,
         rows,
-        commands,
         steps,
         out,
         first,

@@ -10,6 +10,12 @@ pub struct SiteTable {
     pub mask: u16,
 }
 
+// What stays the same through a whole run: the site table, and how many commands the book has.
+pub struct Rules {
+    pub table: SiteTable,
+    pub commands: usize,
+}
+
 // What a site table is judged to be.
 pub enum Judged {
     Good(SiteTable),

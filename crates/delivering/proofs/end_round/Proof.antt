@@ -1,10 +1,9 @@
 -- `delivering::end_round`: the round ends with the decided sets, or undecided.
 -- Assumes nothing.
-use mathlib.Core.Path.{_≡_, refl, sym, subst}
-use mathlib.Core.Bool.{true, false}
+use mathlib.Core.Path.{_≡_, sym, subst}
+use mathlib.Core.Bool.{true}
 use native.Mathlib.Omega.{arith}
 use denote.Ref.{now}
-use Rattle.theory.specs.Counting.{never}
 use Rattle.sets.specs.declared.Set.{Set}
 use Rattle.sets.specs.Sets.{withinOf}
 use Rattle.layout.proofs.Tables.{within-empty}
@@ -28,7 +27,7 @@ round-end-requires : tie.Need-round-end-requires
 round-end-requires c κs =
     let s = c .before .before .before .before .before .before .before .before .before .before in
     let w = subst (λ (x : Set). withinOf x (s .args .commands) ≡ true) (sym (c .before .empty .ensures)) (within-empty (s .args .commands)) in
-    ((s .args .table .sites, s .pre .0), s .pre .2, s .pre .3, w, w, λ r. absurd (never false r refl))
+    ((s .args .table .sites, s .pre .0), s .pre .2, s .pre .3, w, w)
 
 enum-known-decision : tie.Need-enum-known-decision
 enum-known-decision c = search needs
@@ -37,7 +36,7 @@ round-end-requires-2 : tie.Need-round-end-requires-2
 round-end-requires-2 c κs =
     let s = c .before .before .before .before .before .before .before .before .before .before .before .before in
     let w = within-sets (s .args .table) (s .pre .1) (now (s .args .book)) (now (s .args .log)) (now (s .args .site)) (s .pre .3) (λ i. c .before .before .before .before .before .before .before .before .shared-slice-known3 .given i .fits) (s .pre .4) (s .pre .5) (c .before .before .before .before .before .before .decide .ensures) _ (c .before .before .before .before .decision .given .1) in
-    ((s .args .table .sites, s .pre .0), s .pre .2, s .pre .3, w .0, w .1, λ r. absurd (never false r refl))
+    ((s .args .table .sites, s .pre .0), s .pre .2, s .pre .3, w .0, w .1)
 
 same-length : tie.Need-same-length
 same-length c = search needs

@@ -4,7 +4,6 @@ use mathlib.Core.Path.{sym, _∙_}
 use native.Mathlib.Omega.{arith}
 use borrow.Author.Needs.{needs}
 use denote.Ref.{now}
-use lib.ListN.{length}
 use Rattle.table.proofs.Laws.{good-limits}
 use Rattle.commands.specs.Book.{commandsOf}
 use Rattle.run.proofs.Laws.{first-short, held-printable, all-parts, last-held, past-left}
@@ -28,16 +27,13 @@ play-steps-requires c κs =
     let w = c .before .before .before .before .before .before .put-run-line in
     record {
       room = omega (arith, first-short (a .args .table) (now (a .args .book)) (a .pre .0 .good) (c .before .before .before .before .before .before .before .before .faulty-count .ensures) (a .pre .2 .count), a .pre .0 .room, w .ensures .end, w .kept .0);
-      held =
-          record {
-            good = a .pre .0 .good;
-            short = a .pre .0 .short;
-            log = omega (arith, a .pre .1 .log);
-            noted = a .pre .2 .places;
-            conflicts = a .pre .2 .rows;
-            counted = sym (a .pre .2 .count);
-            world = c .before .before .before .before .before .before .before .before .before .before .before .before .before .start .ensures .holds (commandsOf (now (a .args .book))) (now (a .args .log)) (omega (arith, a .pre .1 .log));
-          };
+      good = a .pre .0 .good;
+      short = a .pre .0 .short;
+      log = omega (arith, a .pre .1 .log);
+      noted = a .pre .2 .places;
+      conflicts = a .pre .2 .rows;
+      counted = sym (a .pre .2 .count);
+      world = c .before .before .before .before .before .before .before .before .before .before .before .before .before .start .ensures .holds (commandsOf (now (a .args .book))) (now (a .args .log)) (omega (arith, a .pre .1 .log));
     }
 
 put-site-lines-requires : tie.Need-put-site-lines-requires
@@ -47,7 +43,7 @@ put-site-lines-requires c κs =
     let p = c .before .before .before .before .before .before .before .before .before .before .play-steps in
     let n = good-limits (a .args .table) (a .pre .0 .good) in (
       held-printable (a .args .table) (commandsOf (now (a .args .book))) (p .ensures .world),
-      omega (arith, first-short (a .args .table) (now (a .args .book)) (a .pre .0 .good) (c .before .before .before .before .before .before .before .before .before .before .before .before .before .before .before .before .before .before .before .faulty-count .ensures) (a .pre .2 .count), a .pre .0 .room, w .ensures .end, w .kept .0, p .ensures .room, p .kept .1 .1 .1 .1 .1 .1 .1 .1 .1 .0),
+      omega (arith, first-short (a .args .table) (now (a .args .book)) (a .pre .0 .good) (c .before .before .before .before .before .before .before .before .before .before .before .before .before .before .before .before .before .before .before .faulty-count .ensures) (a .pre .2 .count), a .pre .0 .room, w .ensures .end, w .kept .0, p .ensures .room, p .kept .1 .1 .1 .1 .1 .1 .1 .1 .0),
     )
 
 same-length : tie.Need-same-length
