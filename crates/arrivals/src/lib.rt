@@ -218,22 +218,16 @@ pub fn false_entry(
         c: c,
     };
     if !entries::in_range(entry, table.sites, rules.commands) {
-        return Stepped {
-            verdict: Verdict::Refused(Refusal::Range),
-            entries: entries,
-        };
+        let verdict = Verdict::Refused(Refusal::Range);
+        return Stepped { verdict, entries };
     }
     if !table.is_faulty(j) {
-        return Stepped {
-            verdict: Verdict::Refused(Refusal::Role),
-            entries: entries,
-        };
+        let verdict = Verdict::Refused(Refusal::Role);
+        return Stepped { verdict, entries };
     }
     if rounds::third(kept, j, r) {
-        return Stepped {
-            verdict: Verdict::Refused(Refusal::ThirdEntry),
-            entries: entries,
-        };
+        let verdict = Verdict::Refused(Refusal::ThirdEntry);
+        return Stepped { verdict, entries };
     }
     entries::write_entry(log, entries, entry);
     Stepped {

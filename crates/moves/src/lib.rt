@@ -54,16 +54,12 @@ pub fn turn(
     let table = rules.table;
     let i = site as usize;
     if i >= table.sites {
-        return Stepped {
-            verdict: Verdict::Refused(Refusal::Range),
-            entries: entries,
-        };
+        let verdict = Verdict::Refused(Refusal::Range);
+        return Stepped { verdict, entries };
     }
     if table.is_faulty(i) {
-        return Stepped {
-            verdict: Verdict::Refused(Refusal::Role),
-            entries: entries,
-        };
+        let verdict = Verdict::Refused(Refusal::Role);
+        return Stepped { verdict, entries };
     }
     let from = i * Site::SIZE;
     let to = from + Site::SIZE;
@@ -76,10 +72,8 @@ pub fn turn(
         },
         Turn::Acknowledged(set) => {
             sent::add_acknowledgment(sent, i, round, set);
-            Stepped {
-                verdict: Verdict::Taken,
-                entries: entries,
-            }
+            let verdict = Verdict::Taken;
+            Stepped { verdict, entries }
         }
         Turn::Proposed { check, entry } => {
             sent::put_check(sent, i, round, check);

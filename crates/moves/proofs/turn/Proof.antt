@@ -6,6 +6,7 @@ use denote.Ref.{now}
 use mathlib.Core.Path.{ap, _∙_}
 use Prim.Native.Nat.{_+_, _*_, _-_, _<_}
 use lib.ListN.{length}
+use Rattle.table.proofs.Laws.{good-limits}
 use Rattle.layout.specs.Layout.{siteSize}
 use Rattle.world.specs.Parts.{lent}
 use Rattle.world.proofs.Sites.{at-site, length-part, head-at}
