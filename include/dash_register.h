@@ -44,7 +44,7 @@ extern "C" {
 #define DASH_REGISTER_BIKE_BYTES 8          /* reading (4), dash (4) */
 #define DASH_REGISTER_DELIVERY_BYTES 5      /* command (1), answer (4, two's complement) */
 #define DASH_REGISTER_MAX_RUN_BYTES 60000   /* a whole run */
-#define DASH_REGISTER_PRINT_BYTES 640890    /* room for the print of any run */
+#define DASH_REGISTER_PRINT_BYTES 670890    /* room for the print of any run */
 #define DASH_REGISTER_RUN_SITES_BYTES 38896 /* what a run works on: its sites, one after the other, */
 #define DASH_REGISTER_RUN_LOG_BYTES 12690   /* its log entries, */
 #define DASH_REGISTER_RUN_SENT_BYTES 189486 /* and what its sites have sent */

@@ -3,12 +3,10 @@
 use mathlib.Core.Bool.{Bool, _&&_, not}
 use Prim.Native.Nat.{ℕ}
 use lib.Dec.{leb, ltb}
-use Rattle.refusals.specs.declared.Refusal.{Refusal}
 use Rattle.refusals.specs.declared.Verdict.{Verdict}
 use Rattle.refusals.specs.declared.Verdict.the-variants.{Taken, Refused}
 use Rattle.refusals.specs.declared.Refusal.the-variants.{Range, Role}
 use Rattle.theory.specs.Sets.{pick}
-use Rattle.sets.specs.Sets.{capacity}
 use Rattle.table.specs.declared.SiteTable.{SiteTable}
 use Rattle.table.specs.Table.{faultyOf}
 use Rattle.layout.specs.Layout.{siteRounds}
@@ -21,7 +19,3 @@ inRanges t i j r = ltb i (t .sites) && ltb j (t .sites) && leb 1 r && leb r site
 abbrev pub messageVerdict : SiteTable → ℕ → ℕ → ℕ → Bool → Bool → Verdict
 messageVerdict t i j r other role =
     pick (inRanges t i j r && other) (pick (not (faultyOf t i) && role) Taken (Refused Role)) (Refused Range)
-
--- What refuses an acknowledgment that a site does not hear, of a round in range: a site or the number out of range, and otherwise what is given.
-abbrev pub unheardOf : SiteTable → ℕ → ℕ → ℕ → Refusal → Refusal
-unheardOf t i j a otherwise = pick (ltb i (t .sites) && ltb j (t .sites) && (leb 1 a && leb a capacity)) otherwise Range

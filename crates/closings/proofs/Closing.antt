@@ -1,31 +1,25 @@
 -- A fast delivery and a round end on lent buffers, from what the site's functions promise.
 -- Assumes nothing.
 use mathlib.Core.Path.{_≡_, refl, sym, ap, subst, _∙_}
-use mathlib.Core.Bool.{Bool, true, false, _&&_, not}
+use mathlib.Core.Bool.{Bool, true, false, not}
 use mathlib.Core.List.{List}
 use Prim.Native.Nat.{ℕ, _+_, _*_, _≤_, _<_}
 use native.Mathlib.Omega.{arith}
-use lib.Dec.{ltb}
 use lib.ListN.{length, take, drop, getD}
-use borrow.Author.Tests.{lt-ltb}
-use Rattle.refusals.specs.declared.Refusal.{Refusal}
+use borrow.Author.Tests.{lt-ltb, le-ltb}
 use Rattle.refusals.specs.declared.Verdict.{Verdict}
 use Rattle.refusals.specs.declared.Verdict.the-variants.{Refused}
 use Rattle.refusals.specs.declared.Refusal.the-variants.{Range, Role}
-use Rattle.theory.specs.Counting.{never, not-true}
 use Rattle.sets.specs.declared.Set.{Set}
 use Rattle.sets.specs.Sets.{withinOf}
 use Rattle.table.specs.declared.SiteTable.{SiteTable}
-use Rattle.table.specs.Table.{isGood}
-use Rattle.roles.specs.Roles.{isCorrectSite, refusalOf}
-use Rattle.roles.proofs.Laws.{Correct, refused-with, refused-at}
+use Rattle.table.specs.Table.{isGood, faultyOf}
 use Rattle.register.specs.declared.Command.{Command}
 use Rattle.commands.specs.Book.{commandsOf}
 use Rattle.conflicts.specs.Conflicts.{conflictRows}
 use Rattle.calm.specs.Rows.{rowsSystem}
 use Rattle.protocol.specs.System.{_else_⨾_, verdict, correct}
 use Rattle.protocol.specs.Recovery.{decide}
-use Rattle.protocol.specs.Site as protocol
 use Rattle.protocol.specs.Site.{deliverFast, finish, decision, tallyOr, forFastDelivery, forRoundEnd}
 use Rattle.protocol.specs.World.{fastDelivery, roundEnd}
 use Rattle.system.specs.Dash.{dash}
@@ -38,35 +32,39 @@ use Rattle.recovery.specs.declared.Decision.{Decision}
 use Rattle.recovery.specs.declared.Decision.the-variants.{Undecided, Decided}
 use Rattle.recovery.specs.Decisions.{decisionOf}
 use Rattle.recovery.proofs.Within.{sets-within}
-use Rattle.ending.specs.Ending.{HasRoom, Told, RoundEnded}
+use Rattle.ending.specs.Ending.{Told, RoundEnded}
 use Rattle.ending.proofs.Telling.{told-none, told-decided}
 use Rattle.rounds.specs.Rounds.{keptRounds, Kept}
 use Rattle.world.specs.World.{siteAt, worldOf}
 use Rattle.world.specs.Parts.{lent, AtSite}
 use Rattle.world.proofs.Sites.{lent-part}
 use Rattle.world.proofs.Hold.{seen, refused, carried-site}
-use Rattle.closings.specs.Closings.{GoodSites, GoodLog, KeptLog, FastAt, Closed, RoomToEnd}
+use Rattle.closings.specs.Closings.{GoodSites, GoodLog, KeptLog, FastAt, Closed}
 
 -- ---- 08
 
 module _ (t : SiteTable) (book : List Command) (sites : List ℕ) (small : (k : ℕ) → getD sites k 0 < 256) (i m : ℕ) where
-  module _ {commands : ℕ} (ec : length book ≡ commands) where
-    pub fast-turned-down : {q : Bool} → q ≡ isCorrectSite t i → not (q && ltb m commands) ≡ true → {r : Refusal} → r ≡ refusalOf t i (ltb m commands)
-        → (log : List ℕ) (entries : ℕ) → Closed t book (fastDelivery i m) log entries sites (Refused r) sites
-    fast-turned-down eq h {r} er log entries =
+  pub fast-no-site : t .sites ≤ i → (log : List ℕ) (entries : ℕ) → Closed t book (fastDelivery i m) log entries sites (Refused Range) sites
+  fast-no-site h log entries = λ sent g. refused t book (lent sites log entries sent) g (fastDelivery i m) Range (simp (le-ltb i (t .sites) h)) small
+
+  module _ (a : i < t .sites) {commands : ℕ} (ec : length book ≡ commands) where
+    pub fast-no-command : commands ≤ m → (log : List ℕ) (entries : ℕ) → Closed t book (fastDelivery i m) log entries sites (Refused Range) sites
+    fast-no-command h log entries =
         λ sent g.
-        refused t book (lent sites log entries sent) g (fastDelivery i m) r
-        (refused-with t i (ltb m (length book)) (forFastDelivery (dash t book) m (worldOf t book (lent sites log entries sent) .site i))
-        (sym (λ k. eq k && ltb m (sym ec k)) ∙ not-true _ h)
-        ∙ (λ k. Refused (refusalOf t i (ltb m (ec k)))) ∙ ap Refused (sym er)) small
+        let l : length book ≤ m = omega arith in
+        refused t book (lent sites log entries sent) g (fastDelivery i m) Range (simp (lt-ltb i (t .sites) a, le-ltb m (length book) l)) small
 
-    module _ (site : Correct t i) (n : m < commands) where
-      a : i < t .sites
-      a = site .inside
+    module _ (n : m < commands) {f : Bool} (ef : f ≡ faultyOf t i) where
+      pub fast-role : f ≡ true → (log : List ℕ) (entries : ℕ) → Closed t book (fastDelivery i m) log entries sites (Refused Role) sites
+      fast-role h log entries =
+          λ sent g.
+          let l : m < length book = omega arith in
+          let e : faultyOf t i ≡ true = sym ef ∙ h in
+          refused t book (lent sites log entries sent) g (fastDelivery i m) Role (simp (lt-ltb i (t .sites) a, lt-ltb m (length book) l, e)) small
 
-      pub fast-carried : {v : Verdict} {after : List ℕ} → AtSite i (FastAt t book m v) sites after → (log : List ℕ) (entries : ℕ)
+      pub fast-carried : f ≡ false → {v : Verdict} {after : List ℕ} → AtSite i (FastAt t book m v) sites after → (log : List ℕ) (entries : ℕ)
           → Closed t book (fastDelivery i m) log entries sites v after
-      fast-carried p log entries =
+      fast-carried h p log entries =
           λ sent g.
           let b = lent sites log entries sent in
           let w = worldOf t book b in
@@ -75,43 +73,40 @@ module _ (t : SiteTable) (book : List Command) (sites : List ℕ) (small : (k : 
           (λ e. g .position i a)
           ((λ k. verdict (lt-ltb i (t .sites) a k else Range ⨾ lt-ltb m (length book) l k else Range ⨾ correct (dash t book) i else Role
           ⨾ forFastDelivery (dash t book) m (w .site i)))
-          ∙ (λ k. verdict (not (site .not-faulty k) else Role ⨾ forFastDelivery (dash t book) m (seen t book b g i a k))))
+          ∙ (λ k. verdict (not ((sym ef ∙ h) k) else Role ⨾ forFastDelivery (dash t book) m (seen t book b g i a k))))
           refl refl refl
 
 -- ---- 0A
 
 module _ (t : SiteTable) (book : List Command) (sites : List ℕ) (small : (k : ℕ) → getD sites k 0 < 256) (i : ℕ) (log : List ℕ) (entries : ℕ) where
-  pub end-turned-down : {q : Bool} → q ≡ isCorrectSite t i → not q ≡ true → {r : Refusal} → r ≡ refusalOf t i true
-      → Closed t book (roundEnd i) log entries sites (Refused r) sites
-  end-turned-down {q} eq h {r} er =
-      λ sent g.
-      refused t book (lent sites log entries sent) g (roundEnd i) r
-      (refused-at t i (forRoundEnd (dash t book) (worldOf t book (lent sites log entries sent) .site i) (logTo log entries)) (sym eq ∙ not-true q h) ∙ ap Refused (sym er)) small
+  pub end-no-site : t .sites ≤ i → Closed t book (roundEnd i) log entries sites (Refused Range) sites
+  end-no-site h = λ sent g. refused t book (lent sites log entries sent) g (roundEnd i) Range (simp (le-ltb i (t .sites) h)) small
 
-  module _ (site : Correct t i) where
-    pub end-carried : {decided : Bool} {nc c : Set} → Told t book decided nc c (view t book (siteAt sites i)) (logTo log entries) → {v : Verdict} {after : List ℕ}
+  module _ (a : i < t .sites) {f : Bool} (ef : f ≡ faultyOf t i) where
+    pub end-role : f ≡ true → Closed t book (roundEnd i) log entries sites (Refused Role) sites
+    end-role h =
+        λ sent g.
+        let e : faultyOf t i ≡ true = sym ef ∙ h in
+        refused t book (lent sites log entries sent) g (roundEnd i) Role (simp (lt-ltb i (t .sites) a, e)) small
+
+    pub end-carried : f ≡ false → {decided : Bool} {nc c : Set} → Told t book decided nc c (view t book (siteAt sites i)) (logTo log entries) → {v : Verdict} {after : List ℕ}
         → AtSite i (λ b new. RoundEnded book decided nc c b v new) sites after → Closed t book (roundEnd i) log entries sites v after
-    end-carried told p =
+    end-carried h told p =
         λ sent g.
         let b = lent sites log entries sent in
         let w = worldOf t book b in
         let s = view t book (siteAt sites i) in
-        carried-site t book b g (roundEnd i) small i (site .inside) p
+        carried-site t book b g (roundEnd i) small i a p
         (λ y. finish (dash t book) (tallyOr (decision (dash t book) y (logTo log entries))) y)
-        (verdict (forRoundEnd (dash t book) s (logTo log entries))) (p .did t (logTo log entries) (g .site i (site .inside)) told) (λ e. g .position i (site .inside))
-        ((λ k. verdict (lt-ltb i (t .sites) (site .inside) k else Range ⨾ correct (dash t book) i else Role ⨾ forRoundEnd (dash t book) (w .site i) (logTo log entries)))
-        ∙ (λ k. verdict (not (site .not-faulty k) else Role ⨾ forRoundEnd (dash t book) (seen t book b g i (site .inside) k) (logTo log entries))))
+        (verdict (forRoundEnd (dash t book) s (logTo log entries))) (p .did t (logTo log entries) (g .site i a) told) (λ e. g .position i a)
+        ((λ k. verdict (lt-ltb i (t .sites) a k else Range ⨾ correct (dash t book) i else Role ⨾ forRoundEnd (dash t book) (w .site i) (logTo log entries)))
+        ∙ (λ k. verdict (not ((sym ef ∙ h) k) else Role ⨾ forRoundEnd (dash t book) (seen t book b g i a k) (logTo log entries))))
         refl refl refl
 
 -- The part of a good site that is lent is good.
 pub good-part : (t : SiteTable) (commands : ℕ) (sites : List ℕ) (i k : ℕ) → GoodSites t commands sites → i < t .sites → k ≡ siteSize
     → Good (t .sites) commands (take k (drop (i * siteSize) sites))
 good-part t commands sites i k g a e = subst (Good (t .sites) commands) (sym (lent-part sites i k e)) (g .site i a)
-
--- What is known of a site's room is known of the part that is lent.
-pub room-part : (book : List Command) (decided : Bool) (nc c : Set) (sites : List ℕ) (i k : ℕ) → HasRoom book decided nc c (siteAt sites i) → k ≡ siteSize
-    → HasRoom book decided nc c (take k (drop (i * siteSize) sites))
-room-part book decided nc c sites i k h e = subst (HasRoom book decided nc c) (sym (lent-part sites i k e)) h
 
 pub sites-room : (t : SiteTable) (commands : ℕ) (sites : List ℕ) (i : ℕ) → GoodSites t commands sites → i < t .sites → i * siteSize + siteSize ≤ length sites
 sites-room t commands sites i g a = let z = g .size in omega arith
@@ -154,18 +149,6 @@ module _ (t : SiteTable) (table : isGood t ≡ true) (bytes sites log : List ℕ
   site-decided x h =
       told-decided t table bytes rows log (good .bytes) k r (read .1) logged-read refl ed (view t (commandsOf bytes) (siteAt sites i)) (logTo log entries)
       same (sym round) x h
-
-  module _ (n : ℕ) (en : commands ≡ n) (sites-good : GoodSites t n sites) where
-    site-good : Good (t .sites) commands (siteAt sites i)
-    site-good = subst (λ (m : ℕ). Good (t .sites) m (siteAt sites i)) (sym en) (sites-good .site i a)
-
-    -- There is room for nothing.
-    pub room-undecided : (nc c : Set) → d ≡ Undecided → HasRoom (commandsOf bytes) false nc c (siteAt sites i)
-    room-undecided nc c h = record { table = t; log = logTo log entries; good = site-good; told = site-undecided nc c h; room = λ e. absurd (never false e refl) }
-
-    pub room-decided : RoomToEnd t (commandsOf bytes) sites (logTo log entries) i → (x : Sets) → d ≡ Decided x → HasRoom (commandsOf bytes) true (x .nc) (x .c) (siteAt sites i)
-    room-decided room x h =
-        record { table = t; log = logTo log entries; good = site-good; told = site-decided x h; room = λ e. room a (sym (site-decided x h .is)) }
 
   pub sets-fit : (n : ℕ) → commands ≡ n → (x : Sets) → d ≡ Decided x → (withinOf (x .nc) n ≡ true) × (withinOf (x .c) n ≡ true)
   sets-fit n e x h =

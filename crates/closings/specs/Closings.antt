@@ -11,7 +11,6 @@ use Rattle.register.specs.declared.Command.{Command}
 use Rattle.commands.specs.Book.{commandsOf}
 use Rattle.conflicts.specs.Conflicts.{conflictRows}
 use Rattle.protocol.specs.System.{verdict}
-use Rattle.protocol.specs.Recovery.{Log}
 use Rattle.protocol.specs.Site as protocol
 use Rattle.protocol.specs.World.{Step}
 use Rattle.system.specs.Dash.{dash}
@@ -39,14 +38,6 @@ pub record KeptLog (t : SiteTable) (book sites log : List ℕ) (entries : ℕ) (
   pub good : GoodLog t (length (commandsOf book)) sites log entries
   pub bytes : (k : ℕ) → getD log k 0 < 256
   pub words : Kept t (conflictRows book) log entries kept
-
--- There is room for what the end of a decided round delivers at site i, as in every run.
-abbrev pub RoomToEnd : SiteTable → List Command → List ℕ → Log → ℕ → Type 0
-RoomToEnd t book sites log i =
-    i < t .sites → protocol.isSome (protocol.decision (dash t book) (view t book (siteAt sites i)) log) ≡ true
-    → protocol.room (dash t book) (view t book (siteAt sites i))
-    (length (protocol.due (dash t book) (protocol.tallyOr (protocol.decision (dash t book) (view t book (siteAt sites i)) log)) (view t book (siteAt sites i))))
-    ≡ true
 
 -- A fast delivery at a site with the bytes b.
 abbrev pub FastAt : SiteTable → List Command → ℕ → Verdict → List ℕ → List ℕ → Type 0

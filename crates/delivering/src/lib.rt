@@ -73,12 +73,12 @@ fn end_round(
     match decision {
         Decision::Undecided => {
             let none = Set::empty();
-            ending::round_end(site, book, places, commands, false, none, none, false)
+            ending::round_end(site, book, places, commands, false, none, none)
         }
         Decision::Decided(decided) => {
             let nc = decided.nc;
             let c = decided.c;
-            ending::round_end(site, book, places, commands, true, nc, c, false)
+            ending::round_end(site, book, places, commands, true, nc, c)
         }
     }
 }

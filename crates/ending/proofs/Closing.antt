@@ -7,7 +7,6 @@ use Prim.Native.Nat.{ℕ, _+_, _^_, _≤_, _<_}
 use native.Mathlib.Numerals.{add-one}
 use native.Mathlib.Omega.{arith}
 use lib.Dec.{leb, lit<}
-use borrow.Author.Tests.{leb-true}
 use lib.ListN.{length, getD, length-append}
 use Rattle.refusals.specs.declared.Refusal.{Refusal}
 use Rattle.refusals.specs.declared.Verdict.{Verdict}
@@ -101,15 +100,6 @@ module _ (t : SiteTable) (book : List Command) (few : length book ≤ capacity) 
       (protocol.room (dash t book) (view t book b) (length (protocol.due (dash t book) tally (view t book b)))) (told .is)
       (λ d i.
       leb (sym (counted b) i + (em ∙ sym (length-append (inOrder (dueOf (headOf b) nc)) (inOrder (dueOf (headOf b) c))) ∙ ap length (all-due d)) i) (length book))
-
-  -- Room for what is due, as the code counts it.
-  pub enough-room : decided ≡ true
-      → protocol.room (dash t book) (view t book b) (length (protocol.due (dash t book) (protocol.tallyOr (protocol.decision (dash t book) (view t book b) log)) (view t book b))) ≡ true
-      → headOf b .deliveries + moreOf (headOf b) nc c ≤ length book
-  unfolding tally
-  enough-room d h =
-      leb-true (headOf b .deliveries + moreOf (headOf b) nc c) (length book)
-      ((λ i. leb (sym (counted b) i + (sizes-are ∙ sym (length-append (inOrder (dueOf (headOf b) nc)) (inOrder (dueOf (headOf b) c))) ∙ ap length (all-due d)) i) (length book)) ∙ h)
 
   pub end-refused : {r : Verdict} (x : Refusal) → r ≡ verdict (protocol.forRoundEnd (dash t book) (view t book b) log) → r ≡ Refused x
       → Carried t book (verdict (protocol.forRoundEnd (dash t book) (view t book b) log)) (protocol.finish (dash t book) (protocol.tallyOr (protocol.decision (dash t book) (view t book b) log)) (view t book b)) (view t book b) b r b

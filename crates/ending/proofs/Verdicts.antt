@@ -35,10 +35,6 @@ module _ (h : Site) (commands : ℕ) (decided : Bool) (nc c : Set) {w : Bool} (e
     unfolding judgedEnd
     end-undecided d = let is : isWaiting (h .phase) ≡ true = sym ew ∙ e in simp (is, d)
 
-    pub end-roomy : decided ≡ true → h .deliveries + moreOf h nc c ≤ commands → Taken ≡ judgedEnd h commands decided (moreOf h nc c)
-    unfolding judgedEnd
-    end-roomy d l = let is : isWaiting (h .phase) ≡ true = sym ew ∙ e in simp (is, d, le-leb (h .deliveries + moreOf h nc c) commands l)
-
     module _ (d : decided ≡ true) {x y : Set} {k n : ℕ} (ex : x ≡ dueOf h nc) (ey : y ≡ dueOf h c) (ek : k ≡ sizeOf x + sizeOf y) (en : n ≡ h .deliveries) where
       total : n + k ≡ h .deliveries + moreOf h nc c
       total = λ i. en i + (ek ∙ (λ j. sizeOf (ex j) + sizeOf (ey j))) i

@@ -60,18 +60,6 @@ module _ (t : SiteTable) (book : List Command) where
     -- the last round has no entries
     pub round : decided ≡ true → s .round ≤ lastRound
 
--- It is known that there is room for what is due: some site table and log that decide so say it.
-pub record HasRoom (book : List Command) (decided : Bool) (nc c : Set) (b : List ℕ) : Type 0 where
-  pub table : SiteTable
-  pub log : Log
-  pub good : Good (table .sites) (length book) b
-  pub told : Told table book decided nc c (view table book b) log
-  pub room :
-      decided ≡ true
-      → protocol.room (dash table book) (view table book b)
-      (length (protocol.due (dash table book) (protocol.tallyOr (protocol.decision (dash table book) (view table book b) log)) (view table book b)))
-      ≡ true
-
 -- The round end at every site table, and every log that decides so.
 abbrev pub RoundEnded : List Command → Bool → Set → Set → List ℕ → Verdict → List ℕ → Type 0
 RoundEnded book decided nc c b r b′ =

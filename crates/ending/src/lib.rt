@@ -9,7 +9,7 @@ ghost use Rattle.commands.specs.Book.{commandsOf};
 ghost use Rattle.layout.specs.Layout.{siteSize, siteRounds, headOf, headBytes, Headed};
 ghost use Rattle.layout.specs.Good.{Good};
 ghost use Rattle.deliver.specs.Delivering.{Noted};
-ghost use Rattle.ending.specs.Ending.{dueOf, moreOf, ended, judgedEnd, HasRoom, RoundEnded};
+ghost use Rattle.ending.specs.Ending.{dueOf, moreOf, ended, judgedEnd, RoundEnded};
 use refusals::Refusal;
 use refusals::Verdict;
 use sets::Set;
@@ -33,9 +33,9 @@ fn sizes(a: Set, b: Set) -> usize
     }
 }
 
-// Whether the round ends with the decided sets, and else the refusal. Where it is known that there is room, that is not tested.
-fn judge(site: &[u8], commands: usize, decided: bool, nc: Set, c: Set, roomy: bool) -> Verdict
-    requires { ⌜ (length (now site) ≡ siteSize) × (roomy ≡ true → decided ≡ true → headOf (now site) .deliveries + moreOf (headOf (now site)) nc c ≤ commands) ⌝ }
+// Whether the round ends with the decided sets, and else the refusal.
+fn judge(site: &[u8], commands: usize, decided: bool, nc: Set, c: Set) -> Verdict
+    requires { ⌜ length (now site) ≡ siteSize ⌝ }
     ensures { λ r. ⌜ r ≡ judgedEnd (headOf (now (site .entry))) commands decided (moreOf (headOf (now (site .entry))) nc c) ⌝ }
 {
     if !layout::is_waiting(site) {
@@ -43,9 +43,6 @@ fn judge(site: &[u8], commands: usize, decided: bool, nc: Set, c: Set, roomy: bo
     }
     if !decided {
         return Verdict::Refused(Refusal::Disabled);
-    }
-    if roomy {
-        return Verdict::Taken;
     }
     let more = sizes(due(site, nc), due(site, c));
     let recorded = layout::count(site) as usize;
@@ -72,7 +69,6 @@ fn next_round(site: &mut [u8], nc: Set, c: Set, deliveries: u16)
 }
 
 // The round ends with the decided sets, or the step is refused: NC in number order, then C, without what was delivered.
-// `roomy` says that it is known that there is room for them.
 pub fn round_end(
     site: &mut [u8],
     book: &[u8],
@@ -81,14 +77,12 @@ pub fn round_end(
     decided: bool,
     nc: Set,
     c: Set,
-    roomy: bool,
 ) -> Verdict
     requires { ⌜ ((sites : ℕ) × Good sites commands (now site)) × Noted (now book) (now places)
-        × (length (commandsOf (now book)) ≡ commands) × (withinOf nc commands ≡ true) × (withinOf c commands ≡ true)
-        × (roomy ≡ true → HasRoom (commandsOf (now book)) decided nc c (now site)) ⌝ }
+        × (length (commandsOf (now book)) ≡ commands) × (withinOf nc commands ≡ true) × (withinOf c commands ≡ true) ⌝ }
     ensures { λ r. ⌜ RoundEnded (commandsOf (now (book .entry))) decided nc c (now (site .entry)) r (now (site .exit)) ⌝ }
 {
-    let judged = judge(&site[..], commands, decided, nc, c, roomy);
+    let judged = judge(&site[..], commands, decided, nc, c);
     if let Verdict::Refused(_) = judged {
         return judged;
     }

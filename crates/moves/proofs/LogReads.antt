@@ -1,7 +1,7 @@
 -- A log read on lent buffers: the next entry in the log's bytes, and the verdict on it.
 -- Assumes nothing.
 use mathlib.Core.Path.{_≡_, refl, sym, ap, _∙_}
-use mathlib.Core.Bool.{Bool, true, false, _&&_, not}
+use mathlib.Core.Bool.{Bool, true, false, not}
 use mathlib.Core.List.{List}
 use mathlib.Core.Logic.{⊎-elim}
 use Prim.Native.Nat.{ℕ, zero, suc, _+_, _-_, _≤_, _<_}
@@ -9,16 +9,13 @@ use native.Mathlib.Omega.{arith}
 use lib.Dec.{ltb}
 use lib.ListN.{length, take, getD}
 use borrow.Author.Tests.{lt-ltb, le-ltb, ltb-true}
-use Rattle.refusals.specs.declared.Refusal.{Refusal}
 use Rattle.refusals.specs.declared.Verdict.{Verdict}
 use Rattle.refusals.specs.declared.Verdict.the-variants.{Taken, Refused}
 use Rattle.refusals.specs.declared.Refusal.the-variants.{Range, Role, Disabled, ThirdEntry}
 use Rattle.theory.specs.Lists.{nth}
-use Rattle.theory.specs.Counting.{lt-or-le, not-true}
+use Rattle.theory.specs.Counting.{lt-or-le}
 use Rattle.table.specs.declared.SiteTable.{SiteTable}
 use Rattle.table.specs.Table.{faultyOf}
-use Rattle.roles.specs.Roles.{isCorrectSite, refusalOf}
-use Rattle.roles.proofs.Laws.{refused-with}
 use Rattle.register.specs.declared.Command.{Command}
 use Rattle.protocol.specs.System.{granted, _else_⨾_, verdict, correct}
 use Rattle.protocol.specs.Recovery as recovery
@@ -95,39 +92,38 @@ module _ (t : SiteTable) (i entries : ℕ) (sites : List ℕ) (small : (k : ℕ)
       → nextInRange (dash t book) (next (dash t book) (worldOf t book (lent sites log entries sent) .site i) (logTo log entries)) ≡ true
   next-known book log sent g = next-good t book log entries (worldOf t book (lent sites log entries sent) .site i .position) (g .logged)
 
-  pub read-turned-down : {q : Bool} → q ≡ isCorrectSite t i → not q ≡ true → {r : Refusal} → r ≡ refusalOf t i true → LogRead t i entries sites (Refused r) sites
-  read-turned-down {q} eq h {r} er =
-      λ book log sent g twice.
-      let w = worldOf t book (lent sites log entries sent) in
-      let e = next-known book log sent g in
-      refused t book (lent sites log entries sent) g (logRead i) r
-      ((λ z. verdict (ltb i (t .sites) else Range ⨾ e z else Range ⨾ correct (dash t book) i else Role ⨾ forLogRead (dash t book) (w .site i) (w .log)))
-      ∙ refused-with t i true (forLogRead (dash t book) (w .site i) (w .log)) ((λ z. (sym eq ∙ not-true q h) z && true))
-      ∙ ap Refused (sym er)) small
+  pub read-range : t .sites ≤ i → LogRead t i entries sites (Refused Range) sites
+  read-range h = λ book log sent g. refused t book (lent sites log entries sent) g (logRead i) Range (simp (le-ltb i (t .sites) h)) small
 
-  module _ (inside : i < t .sites) (honest : faultyOf t i ≡ false) where
+  module _ (inside : i < t .sites) {f : Bool} (ef : f ≡ faultyOf t i) where
     judged : (book : List Command) (log sent : List ℕ) → GoodWorld t (length book) (lent sites log entries sent)
         → judge (dash t book) (worldOf t book (lent sites log entries sent)) (logRead i)
-        ≡ verdict (forLogRead (dash t book) (worldOf t book (lent sites log entries sent) .site i) (logTo log entries))
+        ≡ verdict (not f else Role ⨾ forLogRead (dash t book) (worldOf t book (lent sites log entries sent) .site i) (logTo log entries))
     judged book log sent g =
         let w = worldOf t book (lent sites log entries sent) in
         let e = next-known book log sent g in
         (λ z. verdict (lt-ltb i (t .sites) inside z else Range ⨾ nextInRange (dash t book) (next (dash t book) (w .site i) (w .log)) else Range
         ⨾ correct (dash t book) i else Role ⨾ forLogRead (dash t book) (w .site i) (w .log)))
-        ∙ (λ z. verdict (e z else Range ⨾ not (honest z) else Role ⨾ forLogRead (dash t book) (w .site i) (w .log)))
+        ∙ (λ z. verdict (e z else Range ⨾ not (sym ef z) else Role ⨾ forLogRead (dash t book) (w .site i) (w .log)))
 
-    pub read-carried : {k : ℕ} → k ≡ headOf (siteAt sites i) .position → {v : Verdict} {after : List ℕ}
+    pub read-role : f ≡ true → LogRead t i entries sites (Refused Role) sites
+    read-role h =
+        λ book log sent g.
+        refused t book (lent sites log entries sent) g (logRead i) Role
+        (judged book log sent g ∙ (λ z. verdict (not (h z) else Role ⨾ forLogRead (dash t book) (worldOf t book (lent sites log entries sent) .site i) (logTo log entries)))) small
+
+    pub read-carried : f ≡ false → {k : ℕ} → k ≡ headOf (siteAt sites i) .position → {v : Verdict} {after : List ℕ}
         → AtSite i (λ b new. ReadEntry (ltb k entries) false b v new) sites after → LogRead t i entries sites v after
-    read-carried {k} ek {v} {after} p =
-        λ book log sent g twice.
+    read-carried h {k} ek {v} {after} p =
+        λ book log sent g.
         let b = lent sites log entries sent in
         let s = siteAt sites i in
         carried-site t book b g (logRead i) small i inside p (readEntry (dash t book)) (verdict (forLogRead (dash t book) (view t book s) (logTo log entries)))
         (p .did t book (logTo log entries) (g .site i inside) (next-left t book log entries k ∙ ap (λ (n : ℕ). isSome (nth (logTo log entries) n)) ek)
-        (next-no-third t book log entries (headOf s .position) twice))
+        (next-no-third t book log entries (headOf s .position) (g .twice)))
         (λ e. read-more book log e)
         (judged book log sent g
-        ∙ (λ z. verdict (forLogRead (dash t book) (seen t book b g i inside z) (logTo log entries))))
+        ∙ (λ z. verdict (not (h z) else Role ⨾ forLogRead (dash t book) (seen t book b g i inside z) (logTo log entries))))
         refl refl refl
       where
         read-more : (book : List Command) (log : List ℕ) → verdict (forLogRead (dash t book) (view t book (siteAt sites i)) (logTo log entries)) ≡ Taken

@@ -3,34 +3,28 @@
 use mathlib.Core.Path.{_≡_, refl, sym, ap, subst, _∙_}
 use mathlib.Core.Bool.{Bool, true, false, _&&_, _||_, not}
 use mathlib.Core.List.{List, [], _∷_, _++_}
-use mathlib.Core.Logic.{_⊎_, inl, inr, ⊎-map}
 use mathlib.Core.Option.{some}
 use Prim.Native.Nat.{ℕ, _+_, _≤_, _<_}
 use native.Mathlib.Omega.{arith}
 use lib.Dec.{eqb, leb, ltb}
 use lib.ListN.{length, getD, length-append}
-use borrow.Author.Tests.{lt-ltb, le-leb, eq-eqb}
-use Rattle.refusals.specs.Refusals.{numberOf, codeOf}
+use borrow.Author.Tests.{lt-ltb, le-ltb, le-leb, eq-eqb, ltb-true}
 use Rattle.refusals.specs.declared.Refusal.{Refusal}
 use Rattle.refusals.specs.declared.Verdict.{Verdict}
 use Rattle.refusals.specs.declared.Verdict.the-variants.{Taken, Refused}
 use Rattle.refusals.specs.declared.Refusal.the-variants.{Range, Role, Disabled, ThirdEntry, LastRound}
 use Rattle.theory.specs.Sets as theory
 use Rattle.theory.specs.Sets.{pick, any}
-use Rattle.theory.specs.Counting.{both, left, never, not-true, not-not}
+use Rattle.theory.specs.Counting.{both, never, not-true, not-not}
 use Rattle.sets.specs.declared.Set.{Set}
-use Rattle.sets.specs.Sets.{capacity, inSet, setOf, withoutOf, withinOf}
+use Rattle.sets.specs.Sets.{capacity, inSet, setOf, withinOf}
 use Rattle.sets.proofs.Laws.{in-without, word-lt}
 use Rattle.table.specs.declared.SiteTable.{SiteTable}
 use Rattle.table.specs.Table.{maxSites, faultyOf}
 use Rattle.table.proofs.Laws.{good-limits}
-use Rattle.roles.specs.Roles.{isCorrectSite, refusalOf}
-use Rattle.roles.proofs.Laws.{refused-at}
 use Rattle.commands.specs.Book.{commandsOf}
-use Rattle.conflicts.specs.Conflicts.{conflictRows}
-use Rattle.calm.specs.Rows.{freeBetween}
+use Rattle.calm.specs.Rows.{freeBy}
 use Rattle.calm.proofs.Same.{free-rows}
-use Rattle.calm.proofs.Between.{free-grown}
 use Rattle.protocol.specs.System.{granted, _else_⨾_, verdict, correct, free}
 use Rattle.protocol.specs.Recovery as recovery
 use Rattle.protocol.specs.Site as protocol
@@ -47,12 +41,13 @@ use Rattle.site.specs.declared.Turn.{Turn}
 use Rattle.site.specs.declared.Turn.the-variants as turns
 use Rattle.site.specs.Steps.{undeliveredOf, hasTurn, TookTurn, Turned, answerTo}
 use Rattle.site.proofs.Turning.{no-turn}
+use Rattle.rounds.specs.Rounds.{Kept}
 use Rattle.entries.specs.declared.Entry.{Entry}
 use Rattle.entries.specs.Entries.{logTo, writeEntry, viewEntry, inRangeOf}
 use Rattle.entries.proofs.Bytes.{Fits}
 use Rattle.sent.specs.Sent as sent
 use Rattle.sent.specs.Sent.{maxAcknowledgments, cellOf, acksOf, checksOf, acknowledgedIn, checkedIn, oneMore, checked}
-use Rattle.world.specs.World.{Buffers, siteAt, PastRows, knownTo, entryFor, worldOf, HoldsWorld, Outcome, Answered}
+use Rattle.world.specs.World.{Buffers, siteAt, PastRows, knownTo, entryFor, worldOf, HoldsWorld, Outcome}
 use Rattle.world.specs.Parts.{lent, AtSite}
 use Rattle.world.proofs.Sites.{small-site}
 use Rattle.world.proofs.Past.{past-held}
@@ -63,70 +58,27 @@ use Rattle.moves.proofs.Words.{undelivered-word, unacknowledged-word, p
 
 -- ---- the site's part
 
--- What is undelivered is pending or new.
-new-or-pending : (u p : Bool) → u ≡ true → (p ≡ true) ⊎ ((u && not p) ≡ true)
-new-or-pending u true h = inl refl
-new-or-pending u false h = inr (both u true h refl)
-
--- Where what is pending is free of conflicts, the test of the new commands by the rows is that of all that is undelivered.
-free-new : (t : SiteTable) (bytes : List ℕ) (u p : Set) → free (dash t (commandsOf bytes)) (inSet p) ≡ true
-    → freeBetween (conflictRows bytes) (inSet (withoutOf u p)) (inSet u) ≡ free (dash t (commandsOf bytes)) (inSet u)
-free-new t bytes u p calm =
-    free-grown bytes (inSet p) (inSet (withoutOf u p)) (inSet u) (free-rows bytes t (inSet p) ∙ calm)
-    (λ m k. left (inSet u m) (not (inSet p m)) (sym (in-without u p m) ∙ k))
-    (λ m k. ⊎-map (λ e. e) (λ e. in-without u p m ∙ e) (new-or-pending (inSet u m) (inSet p m) k))
-    ∙ free-rows bytes t (inSet u)
-
--- An empty log has no entry.
-none : (i r : ℕ) → recovery.entries i r [] ≡ 0
-unfolding recovery.entries
-none i r = refl
-
--- The verdict on a turn does not look at the entries of a site that waits.
-same-verdict : (a n k x y d : Bool) → (a ≡ true → x ≡ y)
-    → verdict (a else Disabled ⨾ n else Disabled ⨾ k || x else ThirdEntry ⨾ k || d else LastRound ⨾ granted)
-    ≡ verdict (a else Disabled ⨾ n else Disabled ⨾ k || y else ThirdEntry ⨾ k || d else LastRound ⨾ granted)
-same-verdict true n k x y d h = λ j. verdict (true else Disabled ⨾ n else Disabled ⨾ k || h refl j else ThirdEntry ⨾ k || d else LastRound ⨾ granted)
-same-verdict false n k x y d h = refl
-
--- A turn by an empty log is that by any log without an entry of the site and its round, where the site acknowledges.
-by-any-log : (t : SiteTable) (book : List Command) (i : ℕ) (log : recovery.Log) (s : protocol.Site (dash t book)) {before : List ℕ} {r : Turn} {after : List ℕ}
-    → (isAcknowledging (s .phase) ≡ true → recovery.entries i (s .round) log ≡ 0) → Turned t book i [] s before r after → Turned t book i log s before r after
-by-any-log t book i log s {before} {r} {after} h w =
-    record {
-      answer = w .answer ∙ ap (λ (v : Verdict). answerTo t book v (acknowledges (dash t book) s) s) same;
-      site =
-          subst (λ (v : Verdict). HoldsOver t book before after (settled v (pick (acknowledges (dash t book) s) (acknowledge (dash t book) s) (propose (dash t book) s)) s)) same
-          (w .site);
-    }
-  where
-    same : verdict (forTurn (dash t book) i s []) ≡ verdict (forTurn (dash t book) i s log)
-    same =
-        same-verdict (isAcknowledging (s .phase)) (any (length book) (unacknowledged (dash t book) s)) (acknowledges (dash t book) s)
-        (ltb (recovery.entries i (s .round) []) 2) (ltb (recovery.entries i (s .round) log) 2) (leb (s .round) lastRound)
-        (λ a. ap (λ (n : ℕ). ltb n 2) (none i (s .round) ∙ sym (h a)))
-
--- The conflict test by the rows is the one that the turn asks for, and its entry would be no third.
-pub turned-by : (rows : List ℕ) (i : ℕ) (b : List ℕ) {u p n : Set} {f : Bool} {r : Turn} {after : List ℕ}
-    → u ≡ undeliveredOf (headOf b) → p ≡ headOf b .pending → n ≡ withoutOf u p → f ≡ freeBetween rows (inSet n) (inSet u)
-    → TookTurn f false b r after → TurnedBy rows i r b after
-turned-by rows i b {u} {p} eu ep en ef took =
-    λ t book log ec g calm quiet.
-    by-any-log t (commandsOf book) i log (view t (commandsOf book) b) quiet
-    (took t (commandsOf book) i [] g
+-- The conflict test by the rows and the number of entries by what is kept of the log are those that the turn asks for.
+pub turned-by : (rows kept : List ℕ) (i : ℕ) (b : List ℕ) {u : Set} {f third : Bool} {round : ℕ} {r : Turn} {after : List ℕ}
+    → u ≡ undeliveredOf (headOf b) → f ≡ freeBy rows (inSet u) → round ≡ headOf b .round
+    → ((t : SiteTable) (rows log : List ℕ) (k : ℕ) → Kept t rows log k kept → third ≡ not (ltb (recovery.entries i round (logTo log k)) 2))
+    → TookTurn f third b r after → TurnedBy rows kept i r b after
+turned-by rows kept i b {u} eu ef er et took =
+    λ t book log entries ec ek g.
+    took t (commandsOf book) i (logTo log entries) g
     (ef
-    ∙ (λ k. freeBetween (ec k) (inSet (en k)) (inSet u))
-    ∙ free-new t book u p (ap (λ (x : Set). free (dash t (commandsOf book)) (inSet x)) ep ∙ calm)
+    ∙ (λ k. freeBy (ec k) (inSet u))
+    ∙ free-rows book t (inSet u)
     ∙ ap (free (dash t (commandsOf book))) (ap inSet eu ∙ (λ k m. in-without (headOf b .received) (headOf b .delivered) m k)))
-    (ap (λ (m : ℕ). ltb m 2) (sym (none i (headOf b .round)))))
+    (ap not (et t rows log entries ek) ∙ not-not (ltb (recovery.entries i _ (logTo log entries)) 2) ∙ (λ k. ltb (recovery.entries i (er k) (logTo log entries)) 2))
 
 -- A turn that is not enabled changes nothing.
-pub not-turned : (rows : List ℕ) (i : ℕ) (b : List ℕ) → ((k : ℕ) → getD b k 0 < 256) → {e : Bool} → e ≡ hasTurn (headOf b) → not e ≡ true
-    → TurnedBy rows i (turns.Refused Disabled) b b
-not-turned rows i b small {e} ee z =
-    λ t book log ec g calm quiet.
+pub not-turned : (rows kept : List ℕ) (i : ℕ) (b : List ℕ) → ((k : ℕ) → getD b k 0 < 256) → {e : Bool} → e ≡ hasTurn (headOf b) → not e ≡ true
+    → TurnedBy rows kept i (turns.Refused Disabled) b b
+not-turned rows kept i b small {e} ee z =
+    λ t book log entries ec ek g.
     let s = view t (commandsOf book) b in
-    let v = no-turn t (commandsOf book) b small g i log (sym ee ∙ not-true e z) in
+    let v = no-turn t (commandsOf book) b small g i (logTo log entries) (sym ee ∙ not-true e z) in
     record {
       answer = ap (λ (v : Verdict). answerTo t (commandsOf book) v (acknowledges (dash t (commandsOf book)) s) s) (sym v);
       site =
@@ -162,14 +114,15 @@ module _ (t : SiteTable) (book : List Command) (s : protocol.Site (dash t book))
       (refl, refl, (let q : x ≡ setOf capacity (undelivered (dash t book) s) = cc in q), (let q : p ≡ proposedWords = cc in q))
   told-proposed x p (Refused y) a e = absurd (let z : _≡_ {A = ℕ} 0 1 = cc in omega arith)
 
--- A turn that is taken and does not acknowledge is of a round that the log takes.
-told-round : (p q x c d : Bool) → verdict (p else Disabled ⨾ q else Disabled ⨾ x || c else ThirdEntry ⨾ x || d else LastRound ⨾ granted) ≡ Taken → x ≡ false → d ≡ true
-told-round false q x c d h e = absurd (let z : _≡_ {A = ℕ} 0 1 = cc in omega arith)
-told-round true false x c d h e = absurd (let z : _≡_ {A = ℕ} 0 1 = cc in omega arith)
-told-round true true true c d h e = absurd (never true refl e)
-told-round true true false false d h e = absurd (let z : _≡_ {A = ℕ} 0 1 = cc in omega arith)
-told-round true true false true false h e = absurd (let z : _≡_ {A = ℕ} 0 1 = cc in omega arith)
-told-round true true false true true h e = refl
+-- A turn that is taken and does not acknowledge appends no third entry, and is of a round that the log takes.
+told-entry : (p q x c d : Bool) → verdict (p else Disabled ⨾ q else Disabled ⨾ x || c else ThirdEntry ⨾ x || d else LastRound ⨾ granted) ≡ Taken → x ≡ false
+    → (c ≡ true) × (d ≡ true)
+told-entry false q x c d h e = absurd (let z : _≡_ {A = ℕ} 0 1 = cc in omega arith)
+told-entry true false x c d h e = absurd (let z : _≡_ {A = ℕ} 0 1 = cc in omega arith)
+told-entry true true true c d h e = absurd (never true refl e)
+told-entry true true false false d h e = absurd (let z : _≡_ {A = ℕ} 0 1 = cc in omega arith)
+told-entry true true false true false h e = absurd (let z : _≡_ {A = ℕ} 0 1 = cc in omega arith)
+told-entry true true false true true h e = (refl, refl)
 
 -- ---- the step
 
@@ -180,15 +133,11 @@ module _ (t : SiteTable) (bytes rows : List ℕ) (b : Buffers) (i : ℕ) (ready 
   abbrev world : World (dash t book)
   world = worldOf t book b
 
-  -- An outcome, as a number.
-  pub numbered : {v : Verdict} {n : ℕ} {after : Buffers} → n ≡ codeOf v → Outcome t book (turn i) b v after → Answered t book (turn i) b n after
-  numbered {v} e o = record { verdict = v; number = e; outcome = o }
+  pub turn-range : t .sites ≤ i → Outcome t book (turn i) b (Refused Range) b
+  turn-range h = refused t book b (ready .world) (turn i) Range (simp (le-ltb i (t .sites) h)) small
 
-  pub turn-turned-down : {q : Bool} → q ≡ isCorrectSite t i → not q ≡ true → {r : Refusal} → r ≡ refusalOf t i true → {n : ℕ} → n ≡ numberOf r → Answered t book (turn i) b n b
-  turn-turned-down {q} eq h {r} er en =
-      numbered {v = Refused r} en
-      (refused t book b (ready .world) (turn i) r
-      (refused-at t i (forTurn (dash t book) i (world .site i) (world .log)) (sym eq ∙ not-true q h) ∙ ap Refused (sym er)) small)
+  pub turn-role : i < t .sites → {f : Bool} → f ≡ faultyOf t i → f ≡ true → Outcome t book (turn i) b (Refused Role) b
+  turn-role a ef h = refused t book b (ready .world) (turn i) Role (let e : faultyOf t i ≡ true = sym ef ∙ h in simp (lt-ltb i (t .sites) a, e)) small
 
   module _ (inside : i < t .sites) where
     at : world .site i ≡ view t book (siteAt (b .sites) i)
@@ -217,16 +166,17 @@ module _ (t : SiteTable) (bytes rows : List ℕ) (b : Buffers) (i : ℕ) (ready 
         subst (λ (s : protocol.Site (dash t book)). knownTo (length book) (some (undelivered (dash t book) s)) ≡ true) (sym at)
         (undelivered-known t book (siteAt (b .sites) i) part-good part-small)
 
-    module _ (hf : faultyOf t i ≡ false) {r : Turn} {sites : List ℕ} (h : AtSite i (TurnedBy rows i r) (b .sites) sites) where
+    module _ {f : Bool} (ef : f ≡ faultyOf t i) (hf : f ≡ false) {r : Turn} {sites kept : List ℕ} (ek : Kept t rows (b .log) (b .entries) kept)
+        (h : AtSite i (TurnedBy rows kept i r) (b .sites) sites) where
       turned : Turned t book i (world .log) (world .site i) (siteAt (b .sites) i) r (h .new)
       turned =
           subst (λ (s : protocol.Site (dash t book)). Turned t book i (world .log) s (siteAt (b .sites) i) r (h .new)) (sym at)
-          (h .did t bytes (world .log) (ready .conflicts) part-good (ready .pending i inside) (ready .unspoken i inside hf))
+          (h .did t bytes (b .log) (b .entries) (ready .conflicts) ek part-good)
 
       judged : judge (dash t book) world (turn i) ≡ verdict (forTurn (dash t book) i (world .site i) (world .log))
       judged =
           (λ k. verdict (lt-ltb i (t .sites) inside k else Range ⨾ correct (dash t book) i else Role ⨾ forTurn (dash t book) i (world .site i) (world .log)))
-          ∙ (λ k. verdict (not (hf k) else Role ⨾ forTurn (dash t book) i (world .site i) (world .log)))
+          ∙ (λ k. verdict (not ((sym ef ∙ hf) k) else Role ⨾ forTurn (dash t book) i (world .site i) (world .log)))
 
       pub turn-refused : (x : Refusal) → r ≡ turns.Refused x → Outcome t book (turn i) b (Refused x) (lent sites (b .log) (b .entries) (b .sent))
       turn-refused x e =
@@ -328,6 +278,12 @@ module _ (t : SiteTable) (bytes rows : List ℕ) (b : Buffers) (i : ℕ) (ready 
               c = unacknowledged-word t book (siteAt (b .sites) i) part-good part-small k;
             })
 
+        entry-told : (ltb (recovery.entries i (world .site i .round) (world .log)) 2 ≡ true) × (leb (world .site i .round) lastRound ≡ true)
+        entry-told =
+            let s = world .site i in
+            told-entry (isAcknowledging (s .phase)) (any (length book) (unacknowledged (dash t book) s)) (acknowledges (dash t book) s)
+            (ltb (recovery.entries i (s .round) (world .log)) 2) (leb (s .round) lastRound) (proposal-told .0) (proposal-told .1)
+
         entry-range : inRangeOf (t .sites) (length book) (entryFor (entryOf (dash t book) i (world .site i))) ≡ true
         entry-range =
             let s = world .site i in
@@ -340,8 +296,7 @@ module _ (t : SiteTable) (bytes rows : List ℕ) (b : Buffers) (i : ℕ) (ready 
             (unacknowledged-known t book (siteAt (b .sites) i) part-good part-small) in
             all-five (ltb i (t .sites)) (leb 1 (s .round)) (leb (s .round) lastRound) (withinOf (setOf capacity (s .pending)) (length book))
             (withinOf (setOf capacity (unacknowledged (dash t book) s)) (length book)) (lt-ltb i (t .sites) inside) (le-leb 1 (s .round) (omega arith))
-            (told-round (isAcknowledging (s .phase)) (any (length book) (unacknowledged (dash t book) s)) (acknowledges (dash t book) s)
-            (ltb (recovery.entries i (s .round) (world .log)) 2) (leb (s .round) lastRound) (proposal-told .0) (proposal-told .1))
+            (entry-told .1)
             (ap (λ (y : recovery.Entry). knownTo (length book) (some (y .nc))) entry-seen ∙ n)
             (ap (λ (y : recovery.Entry). knownTo (length book) (some (y .c))) entry-seen ∙ m)
           where
@@ -378,7 +333,7 @@ module _ (t : SiteTable) (bytes rows : List ℕ) (b : Buffers) (i : ℕ) (ready 
             (entry-holds t book (lent sites (b .log) (b .entries) after)
             (check-holds t book (lent sites (b .log) (b .entries) (b .sent)) (put-turned false (proposal-told .0) (proposal-told .1)) i (world .site i .round)
             (undelivered (dash t book) (world .site i)) known new)
-            (entryFor (entryOf (dash t book) i (world .site i))) entry-fits entry-range (ready .room)))))
+            (entryFor (entryOf (dash t book) i (world .site i))) entry-fits entry-range (ltb-true _ 2 (entry-told .0)) (ready .room)))))
             (written
             ∙ sym (ap (λ (y : Bool). pick y (b .log) (writeEntry (b .log) (b .entries) (entryFor (entryOf (dash t book) i (world .site i))))) (proposal-told .1)))
             (new .bytes

@@ -10,7 +10,7 @@ use lib.Dec.{ltb}
 use lib.ListN.{length, getD}
 use Rattle.theory.specs.Sets as theory
 use Rattle.theory.specs.Counting.{lt-or-le, never, all-at, all-of}
-use Rattle.sets.specs.Sets.{capacity, inSet, setOf, withinOf}
+use Rattle.sets.specs.Sets.{capacity, inSet, setOf}
 use Rattle.sets.proofs.Laws.{has-above, in-setOf, in-setOf-above}
 use Rattle.table.specs.declared.SiteTable.{SiteTable}
 use Rattle.register.specs.declared.Command.{Command}

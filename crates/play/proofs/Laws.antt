@@ -6,7 +6,7 @@ use Prim.Native.Nat.{ℕ, suc, _+_, _≤_, _<_}
 use native.Mathlib.Numerals.{add-one}
 use native.Mathlib.Omega.{arith}
 use lib.ListN.{length, drop}
-use Rattle.refusals.specs.Refusals.{numberOf, codeOf}
+use Rattle.refusals.specs.Refusals.{numberOf}
 use Rattle.refusals.specs.declared.Refusal.{Refusal}
 use Rattle.refusals.specs.declared.Refusal.the-variants.{Book, Table, Form, Range, Role, Disabled, ThirdEntry, LastRound, Size}
 use Rattle.refusals.specs.declared.Verdict.{Verdict}
@@ -18,7 +18,7 @@ use Rattle.protocol.specs.World.{World, start, judge, step, play}
 use Rattle.system.specs.Dash.{dash}
 use Rattle.print.specs.Print.{Wrote}
 use Rattle.wire.proofs.Laws.{splice-none}
-use Rattle.print.proofs.Laws.{Left, left-all, left-more, left-none}
+use Rattle.print.proofs.Laws.{Left, left-all, left-more, left-none, decimal-short}
 use Rattle.steps.specs.declared.Step.{Step}
 use Rattle.steps.specs.declared.Reading.{Reading}
 use Rattle.steps.specs.declared.Reading.the-variants.{Whole, Unreadable}
@@ -26,10 +26,11 @@ use Rattle.steps.specs.Steps.{sizeOf, readStep, stepsOf}
 use Rattle.steps.specs.Meaning.{meaning}
 use Rattle.steps.proofs.Walk.{more-at, bad-at, end-at}
 use Rattle.lines.specs.Lines.{stepLine}
+use Rattle.lines.proofs.Laws.{step-length}
 use Rattle.runs.specs.Run.{report, stepLines, worldAfter}
 use Rattle.world.specs.World.{Buffers, siteAt, PastRows, worldOf, HoldsWorld, Outcome}
 use Rattle.world.proofs.Past.{past-same, past-more}
-use Rattle.play.specs.Played.{linesRoom, PlayedAll}
+use Rattle.play.specs.Played.{lineRoom, linesRoom, PlayedAll}
 
 -- ---- the line of a step
 
@@ -44,31 +45,18 @@ number-small ThirdEntry = omega arith
 number-small LastRound = omega arith
 number-small Size = omega arith
 
--- The number of a verdict has one digit.
-pub code-small : (v : Verdict) → codeOf v < 10
-code-small Taken = omega arith
-code-small (Refused r) = number-small r
-
-number-some : (r : Refusal) → 1 ≤ numberOf r
-number-some Book = omega arith
-number-some Table = omega arith
-number-some Form = omega arith
-number-some Range = omega arith
-number-some Role = omega arith
-number-some Disabled = omega arith
-number-some ThirdEntry = omega arith
-number-some LastRound = omega arith
-number-some Size = omega arith
+-- A line has room for two digits of a refusal.
+pub line-short : (step refusal : ℕ) → step < 100000 → refusal < 100 → length (stepLine step refusal) ≤ lineRoom
+line-short step refusal a b = omega (arith, step-length step refusal, decimal-short 4 step a, decimal-short 1 refusal b)
 
 -- No line for a step that is taken.
-pub silent : (s : List ℕ) (at number : ℕ) {code : ℕ} → code ≡ 0 → (v : Verdict) → code ≡ codeOf v → Wrote s at s at (report number v)
-silent s at number e Taken q = record { end = omega arith; bytes = sym (splice-none s at) }
-silent s at number e (Refused r) q = let l = number-some r in absurd (omega arith)
+pub silent : (s : List ℕ) (at number : ℕ) {v : Verdict} → v ≡ Taken → Wrote s at s at (report number v)
+silent s at number e = subst (λ (v : Verdict). Wrote s at s at (report number v)) (sym e) (record { end = omega arith; bytes = sym (splice-none s at) })
 
-pub loud : (number : ℕ) {s after : List ℕ} {at past code : ℕ} → (code ≡ 0 → ⊥) → Wrote after past s at (stepLine number code) → (v : Verdict) → code ≡ codeOf v
+pub loud : (number : ℕ) {s after : List ℕ} {at past code : ℕ} {v : Verdict} {r : Refusal} → v ≡ Refused r → code ≡ numberOf r → Wrote after past s at (stepLine number code)
     → Wrote after past s at (report number v)
-loud number n w Taken q = absurd (n q)
-loud number {s} {after} {at} {past} n w (Refused r) q = subst (λ (k : ℕ). Wrote after past s at (stepLine number k)) q w
+loud number {s} {after} {at} {past} ev ec w =
+    subst (λ (v : Verdict). Wrote after past s at (report number v)) (sym ev) (subst (λ (k : ℕ). Wrote after past s at (stepLine number k)) ec w)
 
 -- ---- what is left
 

@@ -2,15 +2,16 @@
 -- Assumes nothing.
 use mathlib.Core.Path.{_≡_}
 use mathlib.Core.Bool.{true}
-use mathlib.Core.List.{List, []}
+use mathlib.Core.List.{List}
 use Prim.Native.Nat.{ℕ, _+_, _*_, _/_, _≤_, _<_}
 use lib.ListN.{length}
 use Rattle.table.specs.declared.SiteTable.{SiteTable}
+use Rattle.table.specs.declared.Rules.{Rules}
 use Rattle.table.specs.Table.{maxSites, isGood}
 use Rattle.register.specs.declared.Command.{Command}
 use Rattle.commands.specs.Book.{commandsOf}
 use Rattle.conflicts.specs.Conflicts.{conflictRows}
-use Rattle.protocol.specs.World.{Step, start, play}
+use Rattle.protocol.specs.World.{start}
 use Rattle.system.specs.Dash.{dash, lastRound}
 use Rattle.print.specs.Print.{Wrote}
 use Rattle.steps.specs.Steps.{stepsOf}
@@ -19,9 +20,9 @@ use Rattle.deliver.specs.Delivering.{Noted}
 use Rattle.entries.specs.Entries.{entrySize}
 use Rattle.world.specs.World.{Buffers, PastRows, HoldsWorld}
 
--- The bytes of the line of a refused step, at most: five digits of its place, one of the refusal.
+-- The bytes of the line of a refused step, at most: five digits of its place, two of the refusal.
 abbrev pub lineRoom : ℕ
-lineRoom = 21
+lineRoom = 22
 
 -- A step has 2 bytes at least, so a run has at most half as many steps as bytes.
 abbrev pub linesRoom : ℕ
@@ -31,20 +32,16 @@ linesRoom = maxRun / 2 * lineRoom
 abbrev pub logRoom : ℕ
 logRoom = maxSites * (lastRound * 2) + 1
 
--- Buffers in a run: these steps led to the world that they hold.
-pub record Midway (t : SiteTable) (book places rows : List ℕ) (commands : ℕ) (steps : List ℕ) (past : List Step) (b : Buffers) : Type 0 where
-  pub good : isGood t ≡ true
+-- Buffers at the start of a run, with room for what the steps of the run write.
+pub record Playable (rules : Rules) (book places rows steps out : List ℕ) (from : ℕ) (b : Buffers) : Type 0 where
+  pub good : isGood (rules .table) ≡ true
   pub short : length steps < maxRun
   pub log : logRoom * entrySize ≤ length (b .log)
   pub noted : Noted book places
   pub conflicts : rows ≡ conflictRows book
-  pub counted : length (commandsOf book) ≡ commands
-  pub world : HoldsWorld t (commandsOf book) b (play (dash t (commandsOf book)) (start (dash t (commandsOf book))) past)
-
--- Buffers at the start of a run, with room for what the steps of the run write.
-pub record Playable (t : SiteTable) (book places rows : List ℕ) (commands : ℕ) (steps out : List ℕ) (from : ℕ) (b : Buffers) : Type 0 where
+  pub counted : length (commandsOf book) ≡ rules .commands
   pub room : from + linesRoom ≤ length out
-  pub held : Midway t book places rows commands steps [] b
+  pub world : HoldsWorld (rules .table) (commandsOf book) b (start (dash (rules .table) (commandsOf book)))
 
 -- Steps played from the start of a run: `before` became `after` by the lines of the refused ones, written from `from` to `end`.
 -- What is past the rows of the sites is as it was in `earlier`.

@@ -8,9 +8,9 @@ ghost use lib.ListN.{length};
 ghost use Rattle.theory.specs.Sets.{pick};
 ghost use Rattle.sets.specs.Sets.{capacity, inSet};
 ghost use Rattle.table.specs.declared.SiteTable.{SiteTable};
-ghost use Rattle.table.specs.Table.{isGood, faultyOf, maxSites};
+ghost use Rattle.table.specs.Table.{isGood, maxSites};
 ghost use Rattle.protocol.specs.Recovery.{entries, decide};
-ghost use Rattle.calm.specs.Rows.{freeBy, rowsSystem};
+ghost use Rattle.calm.specs.Rows.{rowsSystem};
 ghost use Rattle.entries.specs.Entries.{entrySize, entryOf, logTo};
 ghost use Rattle.recovery.specs.Decisions.{foundSets, decisionOf};
 ghost use Rattle.rounds.specs.Rounds.{keptRounds, keptWords, roundIn, writeRound, notedOf, againOf, decidedOf, Counts, Kept};
@@ -109,20 +109,6 @@ fn note_decision(kept: &mut [u64], log: &[u8], k: usize, round: usize, valid: Se
     c.store(kept, at + 5);
 }
 
-// Whether the NC of the k-th entry, of a site, is free of conflicts. In a run that of a correct site is what was pending there, which
-// is free, so that it is not looked at.
-fn has_free_nc(log: &[u8], k: usize, site: usize, table: SiteTable, rows: &[u64]) -> bool
-    requires { ⌜ (k * entrySize + entrySize ≤ length (now log)) × (length (now rows) ≡ capacity)
-        × (faultyOf table site ≡ false → freeBy (now rows) (inSet (entryOf (now log) k .nc)) ≡ true) ⌝ }
-    ensures { λ r. ⌜ r ≡ freeBy (now (rows .entry)) (inSet (entryOf (now (log .entry)) k .nc)) ⌝ }
-{
-    if table.is_faulty(site) {
-        calm::is_free(rows, entries::nc_of(log, k))
-    } else {
-        true
-    }
-}
-
 // The k-th entry is its site's first of its round. While no entry decides the round, the site becomes a valid source if its NC is
 // free of conflicts, and enough valid sources decide.
 fn enter_first(
@@ -136,8 +122,7 @@ fn enter_first(
 )
     requires { ⌜ (isGood table ≡ true) × Kept table (now rows) (now log) k (now kept) × (k * entrySize + entrySize ≤ length (now log))
         × (length (now rows) ≡ capacity) × (site < table .sites) × (round < keptRounds) × (site ≡ entryOf (now log) k .site)
-        × (round ≡ entryOf (now log) k .round) × (inSet (roundIn (now kept) round .once) site ≡ false)
-        × (faultyOf table (entryOf (now log) k .site) ≡ false → freeBy (now rows) (inSet (entryOf (now log) k .nc)) ≡ true) ⌝ }
+        × (round ≡ entryOf (now log) k .round) × (inSet (roundIn (now kept) round .once) site ≡ false) ⌝ }
     ensures { λ _. ⌜ Kept table (now (rows .entry)) (now (log .entry)) (k + 1) (now (kept .exit)) ⌝ }
 {
     let at = round * ROUND_WORDS;
@@ -147,7 +132,7 @@ fn enter_first(
     if decided != 0 {
         return;
     }
-    let free = has_free_nc(log, k, site, table, rows);
+    let free = calm::is_free(rows, entries::nc_of(log, k));
     if !free {
         return;
     }
@@ -162,8 +147,7 @@ fn enter_first(
 // The k-th entry of the log is taken into what is kept of its round.
 pub fn append(kept: &mut [u64], log: &[u8], k: usize, table: SiteTable, rows: &[u64])
     requires { ⌜ (isGood table ≡ true) × Kept table (now rows) (now log) k (now kept) × (k * entrySize + entrySize ≤ length (now log))
-        × (length (now rows) ≡ capacity) × (entryOf (now log) k .site < table .sites) × (entryOf (now log) k .round < keptRounds)
-        × (faultyOf table (entryOf (now log) k .site) ≡ false → freeBy (now rows) (inSet (entryOf (now log) k .nc)) ≡ true) ⌝ }
+        × (length (now rows) ≡ capacity) × (entryOf (now log) k .site < table .sites) × (entryOf (now log) k .round < keptRounds) ⌝ }
     ensures { λ _. ⌜ Kept table (now (rows .entry)) (now (log .entry)) (k + 1) (now (kept .exit)) ⌝ }
 {
     let round = entries::round_of(log, k);

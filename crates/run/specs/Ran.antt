@@ -21,7 +21,7 @@ use Rattle.runs.specs.Run.{printOf}
 abbrev pub runLineRoom : ℕ
 runLineRoom = 33
 
--- The bytes of a print, at most: the first line, 30,000 lines of refused steps, 11 lines of sites. 640,890.
+-- The bytes of a print, at most: the first line, 30,000 lines of refused steps, 11 lines of sites. 670,890.
 abbrev pub printRoom : ℕ
 printRoom = runLineRoom + linesRoom + maxSites * report.lineRoom
 

@@ -10,10 +10,10 @@ ghost use Rattle.run.specs.Left.{PastLeft, HoldsLast, Worked, Left};
 ghost use Rattle.run.specs.Prepared.{Playable, Roomy, Sized, Noted};
 use header::Opened;
 use layout::Site;
-use table::SiteTable;
+use table::Rules;
 
-// The room for any print: 33 bytes for the first line, 21 for each of 30,000 refused steps, 987 for each of 11 sites.
-pub const ROOM: usize = 640890;
+// The room for any print: 33 bytes for the first line, 22 for each of 30,000 refused steps, 987 for each of 11 sites.
+pub const ROOM: usize = 33 + 22 * 30000 + 987 * 11;
 
 // The working memory that any run needs: the bytes of 11 sites,
 pub const SITES: usize = 38896;
@@ -29,31 +29,30 @@ fn print_on(
     sites: &mut [u8],
     log: &mut [u8],
     sent: &mut [u8],
-    table: SiteTable,
+    rules: Rules,
     book: &[u8],
     places: &[u16],
     rows: &[u64],
-    commands: usize,
     steps: &[u8],
     out: &mut [u8],
 ) -> usize
-    requires { ⌜ Playable table (now steps) (now out) × Sized table (working (now sites) (now log) (now sent)) × Noted (now book) (now places) (now rows) commands ⌝ }
-    ensures { λ r. ⌜ Wrote (now (out .exit)) r (now (out .entry)) 0 (played table (commandsOf (now (book .entry))) (stepsOf (now (steps .entry))))
-        × HoldsLast table (commandsOf (now (book .entry))) (stepsOf (now (steps .entry))) (now (sites .exit)) (now (log .exit)) (now (sent .exit))
-        × PastLeft table (now (sites .entry)) (now (sites .exit)) ⌝ }
+    requires { ⌜ Playable (rules .table) (now steps) (now out) × Sized (rules .table) (working (now sites) (now log) (now sent)) × Noted (now book) (now places) (now rows) (rules .commands) ⌝ }
+    ensures { λ r. ⌜ Wrote (now (out .exit)) r (now (out .entry)) 0 (played (rules .table) (commandsOf (now (book .entry))) (stepsOf (now (steps .entry))))
+        × HoldsLast (rules .table) (commandsOf (now (book .entry))) (stepsOf (now (steps .entry))) (now (sites .exit)) (now (log .exit)) (now (sent .exit))
+        × PastLeft (rules .table) (now (sites .entry)) (now (sites .exit)) ⌝ }
 {
+    let table = rules.table;
     world::start(sites, sent, table);
     let faulty = table.faulty_count();
-    let first = lines::put_run_line(out, 0, table.sites, faulty, commands);
+    let first = lines::put_run_line(out, 0, table.sites, faulty, rules.commands);
     let played = play::play_steps(
         sites,
         log,
         sent,
-        table,
+        rules,
         book,
         places,
         rows,
-        commands,
         steps,
         out,
         first,
@@ -66,29 +65,28 @@ fn print_in(
     sites: &mut [u8],
     log: &mut [u8],
     sent: &mut [u8],
-    table: SiteTable,
+    rules: Rules,
     book: &[u8],
     places: &[u16],
     rows: &[u64],
-    commands: usize,
     steps: &[u8],
     out: &mut [u8],
 ) -> usize
-    requires { ⌜ Playable table (now steps) (now out) × Roomy (working (now sites) (now log) (now sent)) × Noted (now book) (now places) (now rows) commands ⌝ }
-    ensures { λ r. ⌜ Wrote (now (out .exit)) r (now (out .entry)) 0 (played table (commandsOf (now (book .entry))) (stepsOf (now (steps .entry))))
-        × Worked table (commandsOf (now (book .entry))) (stepsOf (now (steps .entry)))
+    requires { ⌜ Playable (rules .table) (now steps) (now out) × Roomy (working (now sites) (now log) (now sent)) × Noted (now book) (now places) (now rows) (rules .commands) ⌝ }
+    ensures { λ r. ⌜ Wrote (now (out .exit)) r (now (out .entry)) 0 (played (rules .table) (commandsOf (now (book .entry))) (stepsOf (now (steps .entry))))
+        × Worked (rules .table) (commandsOf (now (book .entry))) (stepsOf (now (steps .entry)))
         (working (now (sites .entry)) (now (log .entry)) (now (sent .entry))) (working (now (sites .exit)) (now (log .exit)) (now (sent .exit))) ⌝ }
 {
+    let table = rules.table;
     let size = table.sites * Site::SIZE;
     print_on(
         &mut sites[..size],
         &mut log[..LOG],
         &mut sent[..SENT],
-        table,
+        rules,
         book,
         places,
         rows,
-        commands,
         steps,
         out,
     )
@@ -99,33 +97,21 @@ fn print_noted(
     sites: &mut [u8],
     log: &mut [u8],
     sent: &mut [u8],
-    table: SiteTable,
+    rules: Rules,
     book: &[u8],
     places: &[u16],
-    commands: usize,
     steps: &[u8],
     out: &mut [u8],
 ) -> usize
-    requires { ⌜ Playable table (now steps) (now out) × Roomy (working (now sites) (now log) (now sent))
-        × (commands ≡ length (commandsOf (now book))) × (take (length (commandsOf (now book))) (now places) ≡ placesOf (now book)) ⌝ }
-    ensures { λ r. ⌜ Wrote (now (out .exit)) r (now (out .entry)) 0 (played table (commandsOf (now (book .entry))) (stepsOf (now (steps .entry))))
-        × Worked table (commandsOf (now (book .entry))) (stepsOf (now (steps .entry)))
+    requires { ⌜ Playable (rules .table) (now steps) (now out) × Roomy (working (now sites) (now log) (now sent))
+        × (rules .commands ≡ length (commandsOf (now book))) × (take (length (commandsOf (now book))) (now places) ≡ placesOf (now book)) ⌝ }
+    ensures { λ r. ⌜ Wrote (now (out .exit)) r (now (out .entry)) 0 (played (rules .table) (commandsOf (now (book .entry))) (stepsOf (now (steps .entry))))
+        × Worked (rules .table) (commandsOf (now (book .entry))) (stepsOf (now (steps .entry)))
         (working (now (sites .entry)) (now (log .entry)) (now (sent .entry))) (working (now (sites .exit)) (now (log .exit)) (now (sent .exit))) ⌝ }
 {
     let mut rows = [0u64; 64];
-    conflicts::conflict_rows(book, places, commands, &mut rows);
-    print_in(
-        sites,
-        log,
-        sent,
-        table,
-        book,
-        places,
-        &rows,
-        commands,
-        steps,
-        out,
-    )
+    conflicts::conflict_rows(book, places, rules.commands, &mut rows);
+    print_in(sites, log, sent, rules, book, places, &rows, steps, out)
 }
 
 // Whether buffers of these sizes have room for any run.
@@ -152,14 +138,14 @@ pub fn run(input: &[u8], sites: &mut [u8], log: &mut [u8], sent: &mut [u8], out:
         Opened::Commands(commands) => {
             let table = header::table_of(input);
             let end = header::book_end(input);
+            let rules = Rules { table, commands };
             print_noted(
                 sites,
                 log,
                 sent,
-                table,
+                rules,
                 &input[header::HEADER..end],
                 &places,
-                commands,
                 &input[end..],
                 out,
             )

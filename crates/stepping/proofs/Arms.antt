@@ -8,6 +8,7 @@ use native.Mathlib.Omega.{arith}
 use lib.ListN.{length, getD}
 use denote.Enum.Declared as Declared
 use types.Run.{OneOf, miss}
+use Rattle.refusals.specs.declared.Verdict.{Verdict}
 use Rattle.theory.specs.Counting.{never}
 use Rattle.sets.specs.Sets.{capacity}
 use Rattle.table.specs.declared.SiteTable.{SiteTable}
@@ -20,9 +21,8 @@ use Rattle.steps.specs.declared.Step.{Step}
 use Rattle.steps.specs.declared.Step.the-variants as kinds
 use Rattle.steps.specs.Meaning.{meaning}
 use Rattle.steps.proofs.Step as declared
-use Rattle.protocol.specs.World as protocol
-use Rattle.world.specs.World.{Buffers, GoodWorld, Outcome, Answered}
-use Rattle.world.specs.Parts.{Arrived, Coded}
+use Rattle.world.specs.World.{Buffers, GoodWorld, Outcome}
+use Rattle.world.specs.Parts.{Arrived}
 use Rattle.moves.specs.Moves.{Ready}
 use Rattle.closings.specs.Closings.{GoodSites, KeptLog}
 use Rattle.stepping.specs.Kinds.{arrives}
@@ -56,16 +56,12 @@ no-arrival (kinds.RoundEnd i) h e = never false e refl
 -- ---- the arms
 
 -- The step is of this kind.
-pub arrived : (t : SiteTable) (commands : ℕ) (sent sites after : List ℕ) {u v : Step} {n : ℕ} → u ≡ v → Coded (λ r. Arrived t commands (meaning v) sent sites r after) n
-    → arrives u ≡ true → Coded (λ r. Arrived t commands (meaning u) sent sites r after) n
-arrived t commands sent sites after {n = n} e h k = subst (λ (x : Step). Coded (λ r. Arrived t commands (meaning x) sent sites r after) n) (sym e) h
+pub arrived : (t : SiteTable) (commands : ℕ) (sent sites after : List ℕ) {u v : Step} {r : Verdict} → u ≡ v → Arrived t commands (meaning v) sent sites r after
+    → arrives u ≡ true → Arrived t commands (meaning u) sent sites r after
+arrived t commands sent sites after {r = r} e h k = subst (λ (x : Step). Arrived t commands (meaning x) sent sites r after) (sym e) h
 
-pub arm : (t : SiteTable) (book : List Command) (b after : Buffers) {u v : Step} {n : ℕ} → u ≡ v → Answered t book (meaning v) b n after → Answered t book (meaning u) b n after
-arm t book b after {n = n} e h = subst (λ (x : Step). Answered t book (meaning x) b n after) (sym e) h
-
--- The number of a verdict answers.
-pub numbered : (t : SiteTable) (book : List Command) (b after : Buffers) {u : protocol.Step} {n : ℕ} → Coded (λ v. Outcome t book u b v after) n → Answered t book u b n after
-numbered t book b after h = record { verdict = h .0; number = h .1 .0; outcome = h .1 .1 }
+pub arm : (t : SiteTable) (book : List Command) (b after : Buffers) {u v : Step} {r : Verdict} → u ≡ v → Outcome t book (meaning v) b r after → Outcome t book (meaning u) b r after
+arm t book b after {r = r} e h = subst (λ (x : Step). Outcome t book (meaning x) b r after) (sym e) h
 
 pub ready-as : (t : SiteTable) (book rows : List ℕ) (b : Buffers) {u v : Step} → u ≡ v → Ready t book rows b (meaning u) → Ready t book rows b (meaning v)
 ready-as t book rows b e h = subst (λ (x : Step). Ready t book rows b (meaning x)) e h

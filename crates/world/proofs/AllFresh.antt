@@ -17,12 +17,12 @@ use Rattle.wire.specs.Wire.{splice}
 use Rattle.table.specs.declared.SiteTable.{SiteTable}
 use Rattle.register.specs.declared.Command.{Command}
 use Rattle.protocol.specs.Site as protocol
-use Rattle.protocol.specs.World.{start}
 use Rattle.system.specs.Dash.{dash}
 use Rattle.layout.specs.Layout.{siteSize, heardPlace, view}
 use Rattle.layout.specs.Good.{Holds, HoldsOver}
 use Rattle.layout.proofs.Finish.{alone}
 use Rattle.entries.proofs.Logs.{log-none}
+use Rattle.entries.proofs.Judging.{entries-none}
 use Rattle.sent.specs.Sent as sent
 use Rattle.sent.specs.Sent.{cleared}
 use Rattle.world.specs.World.{siteAt, knownTo}
@@ -95,6 +95,7 @@ started t n {earlier} {sites} {now} {before} e size f h =
                   room = omega arith;
                   short = short;
                   logged = λ k l. absurd (omega arith);
+                  twice = λ j r. omega (arith, entries-none log j r);
                   sent = h .good;
                   acks = λ j r k. ap (λ (a : ℕ → ℕ → List (ℕ → Bool)). knownTo (length book) (nth (a j r) k)) (h .acks);
                   checks = λ j r. λ k. knownTo (length book) (h .checks k j r);

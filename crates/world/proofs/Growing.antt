@@ -1,6 +1,6 @@
 -- What the buffers hold with one log entry, one acknowledgment or one check message more.
 -- Assumes nothing.
-use mathlib.Core.Path.{_≡_, refl, ap, _∙_}
+use mathlib.Core.Path.{_≡_, refl, sym, ap, subst, _∙_}
 use mathlib.Core.Bool.{Bool, true, false, _&&_}
 use mathlib.Core.List.{List, [], _∷_, _++_}
 use mathlib.Core.Option.{some}
@@ -9,19 +9,21 @@ use Prim.Native.Nat.{ℕ, zero, suc, _+_, _*_, _^_, _≤_, _<_}
 use native.Mathlib.Omega.{arith}
 use lib.Dec.{eqb}
 use lib.ListN.{length}
+use borrow.Author.Tests.{eqb-true}
 use Rattle.theory.specs.Sets as theory
-use Rattle.theory.specs.Sets.{pick}
+use Rattle.theory.specs.Sets.{pick, one}
 use Rattle.theory.specs.Lists.{nth}
-use Rattle.theory.specs.Counting.{last-or-below}
+use Rattle.theory.specs.Counting.{left, right, last-or-below}
 use Rattle.wire.proofs.Laws.{length-splice}
 use Rattle.sets.proofs.Laws.{set-of-members}
 use Rattle.table.specs.declared.SiteTable.{SiteTable}
 use Rattle.register.specs.declared.Command.{Command}
 use Rattle.protocol.specs.Recovery as recovery
+use Rattle.protocol.specs.StandingLaws.{entries-more}
 use Rattle.protocol.specs.World.{World, append, sendAcknowledgment, sendCheck}
 use Rattle.system.specs.Dash.{dash}
 use Rattle.entries.specs.declared.Entry.{Entry}
-use Rattle.entries.specs.Entries.{entrySize, entryOf, writeEntry, viewEntry, inRangeOf}
+use Rattle.entries.specs.Entries.{entrySize, entryOf, writeEntry, viewEntry, logTo, inRangeOf}
 use Rattle.entries.proofs.Bytes.{Fits, length-entry, entry-written, entry-other}
 use Rattle.entries.proofs.Logs.{log-written}
 use Rattle.sent.specs.Sent as sent
@@ -46,10 +48,25 @@ known-more c [] x h k (suc n) = refl
 known-more c (y ∷ l) x h k zero = h zero
 known-more c (y ∷ l) x h k (suc n) = known-more c l x (λ m. h (suc m)) k n
 
+-- An entry more, of a site that has fewer than two of its round, leaves at most two of each.
+twice-more : (l : recovery.Log) (e : recovery.Entry) → ((j r : ℕ) → recovery.entries j r l ≤ 2) → recovery.entries (e .site) (e .round) l < 2 → (j r : ℕ)
+    → recovery.entries j r (l ++ (e ∷ [])) ≤ 2
+twice-more l e h few j r = go (eqb (e .site) j && eqb (e .round) r) refl (entries-more j r l e)
+  where
+    go : (q : Bool) → (eqb (e .site) j && eqb (e .round) r) ≡ q → recovery.entries j r (l ++ (e ∷ [])) ≡ recovery.entries j r l + one q → recovery.entries j r (l ++ (e ∷ [])) ≤ 2
+    go true eq n =
+        let ej = eqb-true (e .site) j (left (eqb (e .site) j) (eqb (e .round) r) eq) in
+        let er = eqb-true (e .round) r (right (eqb (e .site) j) (eqb (e .round) r) eq) in
+        let f : recovery.entries j r l < 2 =
+        subst (λ (x : ℕ). recovery.entries x r l < 2) ej (subst (λ (x : ℕ). recovery.entries (e .site) x l < 2) er few) in
+        omega arith
+    go false eq n = omega (arith, h j r)
+
 module _ (t : SiteTable) (book : List Command) (b : Buffers) {w : World (dash t book)} (h : HoldsWorld t book b w) where
-  pub entry-holds : (e : Entry) → Fits e → inRangeOf (t .sites) (length book) e ≡ true → (b .entries + 1) * entrySize ≤ length (b .log)
+  pub entry-holds : (e : Entry) → Fits e → inRangeOf (t .sites) (length book) e ≡ true → recovery.entries (e .site) (e .round) (logTo (b .log) (b .entries)) < 2
+      → (b .entries + 1) * entrySize ≤ length (b .log)
       → HoldsWorld t book (lent (b .sites) (writeEntry (b .log) (b .entries) e) (b .entries + 1) (b .sent)) (append (dash t book) (viewEntry e) w)
-  entry-holds e f range room =
+  entry-holds e f range few room =
       let z = length-written (b .log) (b .entries) e room in
       record {
         site = h .site;
@@ -76,6 +93,10 @@ module _ (t : SiteTable) (book : List Command) (b : Buffers) {w : World (dash t 
                   ap (inRangeOf (t .sites) (length book)) (entry-other (b .log) (b .entries) e k (omega arith) (λ z. omega arith))
                   ∙ h .good .logged k q)
                   (last-or-below k (b .entries) (omega arith));
+              twice =
+                  λ j r.
+                  subst (λ (l : recovery.Log). recovery.entries j r l ≤ 2) (sym (log-written (b .log) (b .entries) e (omega arith) f))
+                  (twice-more (logTo (b .log) (b .entries)) (viewEntry e) (h .good .twice) few j r);
               sent = h .good .sent;
               acks = h .good .acks;
               checks = h .good .checks;
@@ -104,6 +125,7 @@ module _ (t : SiteTable) (book : List Command) (b : Buffers) {w : World (dash t 
                 room = h .good .room;
                 short = h .good .short;
                 logged = h .good .logged;
+                twice = h .good .twice;
                 sent = s .good;
                 acks = λ j r n. (λ z. knownTo (length book) (nth (s .acks z j r) n)) ∙ grown j r (eqb j i && eqb r k) n;
                 checks = λ j r. (λ z. knownTo (length book) (s .checks z j r)) ∙ h .good .checks j r;
@@ -135,6 +157,7 @@ module _ (t : SiteTable) (book : List Command) (b : Buffers) {w : World (dash t 
                 room = h .good .room;
                 short = h .good .short;
                 logged = h .good .logged;
+                twice = h .good .twice;
                 sent = s .good;
                 acks = λ j r n. (λ z. knownTo (length book) (nth (s .acks z j r) n)) ∙ h .good .acks j r n;
                 checks = λ j r. (λ z. knownTo (length book) (s .checks z j r)) ∙ there j r (eqb j i && eqb r k);

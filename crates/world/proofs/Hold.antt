@@ -19,11 +19,11 @@ use Rattle.table.specs.declared.SiteTable.{SiteTable}
 use Rattle.register.specs.declared.Command.{Command}
 use Rattle.protocol.specs.System.{System}
 use Rattle.protocol.specs.Site as protocol
-use Rattle.protocol.specs.World.{World, Step, put, judge, change, step, settle}
+use Rattle.protocol.specs.World.{World, Step, put, judge, change, settle}
 use Rattle.protocol.specs.CommonSequence.{isTaken}
 use Rattle.system.specs.Dash.{dash}
 use Rattle.layout.specs.Layout.{siteSize, spanPlace, headOf, view}
-use Rattle.layout.specs.Good.{Good, Holds, HoldsOver}
+use Rattle.layout.specs.Good.{Holds, HoldsOver}
 use Rattle.layout.specs.Step.{Carried}
 use Rattle.layout.proofs.Finish.{unchanged, alone}
 use Rattle.world.specs.World.{Buffers, siteAt, PastKept, PastRows, GoodWorld, worldOf, HoldsWorld, logWritten, sentWritten, Outcome}
@@ -127,6 +127,7 @@ module _ (t : SiteTable) (book : List Command) (b : Buffers) (good : GoodWorld t
                   room = good .room;
                   short = good .short;
                   logged = good .logged;
+                  twice = good .twice;
                   sent = good .sent;
                   acks = good .acks;
                   checks = good .checks;

@@ -9,9 +9,9 @@ use lib.ListN.{length, take, drop, getD, length-take, length-drop, List·getD-eq
 use lib.Seq.{getD-take, getD-drop}
 use borrow.Rule.Slice.PartMut.{putMid}
 use Rattle.theory.specs.Counting.{lt-or-le}
-use Rattle.wire.specs.Wire.{readLe, splice}
+use Rattle.wire.specs.Wire.{splice}
 use Rattle.wire.proofs.Laws.{part-same, part-before, drop-after, mid-splice}
-use Rattle.layout.specs.Layout.{siteSize, roundPlace, positionPlace, headOf}
+use Rattle.layout.specs.Layout.{siteSize, headOf}
 use Rattle.world.specs.World.{siteAt}
 use Rattle.world.specs.Parts.{AtSite}
 
@@ -62,12 +62,6 @@ at-site promise sites i k ys e room size h =
     let z : length ys ≡ siteSize = size ∙ length-part sites i k e room in
     record { new = ys; size = z; bytes = given-back sites i k e ys z; did = subst (λ (y : List ℕ). promise y ys) (lent-part sites i k e) h }
 
--- Numbers of a site's header, read from its part.
-module _ (sites : List ℕ) (i k : ℕ) (e : k ≡ siteSize) {n : ℕ} where
-  pub round-at : n ≡ readLe 1 (take k (drop (i * siteSize) sites)) roundPlace → n ≡ headOf (siteAt sites i) .round
-  unfolding headOf
-  round-at h = h ∙ ap (λ (b : List ℕ). readLe 1 b roundPlace) (lent-part sites i k e)
-
-  pub position-at : n ≡ readLe 2 (take k (drop (i * siteSize) sites)) positionPlace → n ≡ headOf (siteAt sites i) .position
-  unfolding headOf
-  position-at h = h ∙ ap (λ (b : List ℕ). readLe 2 b positionPlace) (lent-part sites i k e)
+-- A site's header, read from its part.
+pub head-at : (sites : List ℕ) (i k : ℕ) → k ≡ siteSize → headOf (take k (drop (i * siteSize) sites)) ≡ headOf (siteAt sites i)
+head-at sites i k e = ap headOf (lent-part sites i k e)

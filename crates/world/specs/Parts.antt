@@ -4,7 +4,6 @@ use mathlib.Core.Path.{_≡_}
 use mathlib.Core.List.{List}
 use Prim.Native.Nat.{ℕ, _*_, _<_}
 use lib.ListN.{length, getD}
-use Rattle.refusals.specs.Refusals.{codeOf}
 use Rattle.refusals.specs.declared.Verdict.{Verdict}
 use Rattle.wire.specs.Wire.{splice}
 use Rattle.table.specs.declared.SiteTable.{SiteTable}
@@ -12,7 +11,7 @@ use Rattle.register.specs.declared.Command.{Command}
 use Rattle.protocol.specs.World.{Step}
 use Rattle.layout.specs.Layout.{siteSize}
 use Rattle.world.specs.declared.Stepped.{Stepped}
-use Rattle.world.specs.World.{Buffers, siteAt, GoodWorld, Outcome, Answered}
+use Rattle.world.specs.World.{Buffers, siteAt, GoodWorld, Outcome}
 
 abbrev pub lent : List ℕ → List ℕ → ℕ → List ℕ → Buffers
 lent sites log entries sent = record { sites = sites; log = log; entries = entries; sent = sent }
@@ -30,13 +29,9 @@ Arrived t commands u sent sites v after =
     (book : List Command) (log : List ℕ) (entries : ℕ) → commands ≡ length book → GoodWorld t (length book) (lent sites log entries sent)
     → Outcome t book u (lent sites log entries sent) v (lent after log entries sent)
 
--- A number that answers a step: that of a verdict of which something is promised.
-abbrev pub Coded : (Verdict → Type 0) → ℕ → Type 0
-Coded promise code = (v : Verdict) × ((code ≡ codeOf v) × promise v)
-
 -- A step that changes the log only.
 abbrev pub Entered : SiteTable → ℕ → Step → List ℕ → ℕ → Stepped → List ℕ → Type 0
 Entered t commands u log entries r after =
     (book : List Command) (sites sent : List ℕ) → commands ≡ length book → GoodWorld t (length book) (lent sites log entries sent)
     → ((k : ℕ) → getD sites k 0 < 256)
-    → Answered t book u (lent sites log entries sent) (r .code) (lent sites after (r .entries) sent)
+    → Outcome t book u (lent sites log entries sent) (r .verdict) (lent sites after (r .entries) sent)

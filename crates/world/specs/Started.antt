@@ -10,7 +10,7 @@ use Rattle.protocol.specs.World.{start}
 use Rattle.system.specs.Dash.{dash}
 use Rattle.layout.specs.Layout.{heardPlace}
 use Rattle.sent.specs.Sent.{cleared}
-use Rattle.world.specs.World.{Buffers, siteAt, maxLog, HoldsWorld}
+use Rattle.world.specs.World.{siteAt, maxLog, HoldsWorld}
 
 -- With no entry meant the buffers hold the start of a run with any book, whatever bytes the log has; of what was sent only counts and flags were written.
 -- Before that the sites were `earlier` and what was sent was `before`.

@@ -7,7 +7,6 @@ use mathlib.Core.Option.{Option, none, some}
 use Prim.Native.Nat.{ℕ, _*_, _≤_, _<_}
 use lib.Dec.{ltb}
 use lib.ListN.{length, take, drop}
-use Rattle.refusals.specs.Refusals.{codeOf}
 use Rattle.refusals.specs.declared.Verdict.{Verdict}
 use Rattle.theory.specs.Sets as theory
 use Rattle.theory.specs.Sets.{pick, all}
@@ -67,6 +66,8 @@ pub record GoodWorld (t : SiteTable) (commands : ℕ) (b : Buffers) : Type 0 whe
   pub short : length (b .log) ≤ maxLog
   -- every entry that is meant is in range
   pub logged : (k : ℕ) → k < b .entries → inRangeOf (t .sites) commands (entryOf (b .log) k) ≡ true
+  -- and none is a third of its site and round
+  pub twice : (j r : ℕ) → recovery.entries j r (logTo (b .log) (b .entries)) ≤ 2
   pub sent : GoodSent (b .sent)
   pub acks : (j r k : ℕ) → knownTo commands (nth (acksOf (b .sent) j r) k) ≡ true
   pub checks : (j r : ℕ) → knownTo commands (checksOf (b .sent) j r) ≡ true
@@ -131,9 +132,3 @@ module _ (t : SiteTable) (book : List Command) where
     pub log : after .log ≡ pick (isTaken (judge (dash t book) (worldOf b) u)) (logWritten (worldOf b) u b) (b .log)
     pub sent : after .sent ≡ pick (isTaken (judge (dash t book) (worldOf b) u)) (sentWritten (worldOf b) u b) (b .sent)
     pub past : PastRows (t .sites) (b .sites) (after .sites)
-
-  -- The same, where the answer is a number: 0, or that of the refusal.
-  pub record Answered (u : Step) (b : Buffers) (code : ℕ) (after : Buffers) : Type 0 where
-    pub verdict : Verdict
-    pub number : code ≡ codeOf verdict
-    pub outcome : Outcome u b verdict after

@@ -1,17 +1,17 @@
-// All sites, the log and what was sent, in three lent buffers: the start of a run, what a step answers, and two numbers of a site.
+// All sites, the log and what was sent, in three lent buffers: the start of a run, and what a step answers.
 ghost use mathlib.Core.Path.{_≡_};
-ghost use Prim.Native.Nat.{_+_, _*_, _≤_};
+ghost use Prim.Native.Nat.{_*_};
 ghost use lib.ListN.{length};
-ghost use Rattle.layout.specs.Layout.{siteSize, headOf};
+ghost use Rattle.layout.specs.Layout.{siteSize};
 ghost use Rattle.sent.specs.Sent.{sentSize};
-ghost use Rattle.world.specs.World.{siteAt};
 ghost use Rattle.world.specs.Started.{Started};
 use layout::Site;
+use refusals::Verdict;
 use table::SiteTable;
 
-// What a step answers: 0 or the number of its refusal, and how many entries of the log are meant after it.
+// What a step answers: the verdict, and how many entries of the log are meant after it.
 pub struct Stepped {
-    pub code: u32,
+    pub verdict: Verdict,
     pub entries: usize,
 }
 
@@ -29,26 +29,4 @@ pub fn start(sites: &mut [u8], sent: &mut [u8], table: SiteTable)
         i += 1;
     }
     sent::clear(sent);
-}
-
-// The round of site i.
-pub fn round_of(sites: &[u8], i: usize) -> usize
-    requires { ⌜ i * siteSize + siteSize ≤ length (now sites) ⌝ }
-    ensures { λ r. ⌜ r ≡ headOf (siteAt (now (sites .entry)) i) .round ⌝ }
-{
-    let from = i * Site::SIZE;
-    let to = from + Site::SIZE;
-    let round = wire::get1(&sites[from..to], Site::ROUND);
-    round as usize
-}
-
-// The log position of site i.
-pub fn position_of(sites: &[u8], i: usize) -> usize
-    requires { ⌜ i * siteSize + siteSize ≤ length (now sites) ⌝ }
-    ensures { λ r. ⌜ r ≡ headOf (siteAt (now (sites .entry)) i) .position ⌝ }
-{
-    let from = i * Site::SIZE;
-    let to = from + Site::SIZE;
-    let position = wire::get2(&sites[from..to], Site::POSITION);
-    position as usize
 }

@@ -25,7 +25,7 @@ unsafe extern "C" {
 const SITES_BYTES: usize = 38_896;
 const LOG_BYTES: usize = 12_690;
 const SENT_BYTES: usize = 189_486;
-const PRINT_BYTES: usize = 640_890;
+const PRINT_BYTES: usize = 670_890;
 
 /// So many calls find what the calls before them left in the working memory; then it is filled with other bytes.
 const CALLS_BETWEEN_FILLS: u64 = 16;

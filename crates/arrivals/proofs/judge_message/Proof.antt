@@ -1,49 +1,40 @@
 -- `arrivals::judge_message`: one law for each answer.
 -- Assumes nothing.
 use borrow.Author.Needs.{needs}
-use Rattle.arrivals.proofs.Judging.{out-told, taken-told, role-told, sites-told}
+use mathlib.Core.Path.{sym, ap, _∙_}
+use mathlib.Core.Bool.{Bool}
+use Rattle.refusals.specs.declared.Verdict.the-variants.{Taken, Refused}
+use Rattle.refusals.specs.declared.Refusal.the-variants.{Role}
+use Rattle.theory.specs.Sets.{pick}
+use Rattle.theory.specs.Counting.{not-true, not-false}
+use Rattle.arrivals.proofs.Judging.{out-of-range, faulty-receiver, by-role}
 use Rattle.arrivals.proofs.judge_message.Statement.{statement}
 use Rattle.arrivals.proofs.judge_message.Tie as tie
 
 returns : tie.Need-returns
 returns c =
-    let a = c .before .before .args in
-    λ t h sender. out-told t (a .site) (a .from) (a .round) (a .other) (a .role) (c .if1 .taken)
+    let a = c .before .before .before .args in
+    out-of-range (a .table) (a .i) (a .j) (a .r) (a .other) (a .role) (not-true _ (c .if1 .taken))
 
-is-correct-requires : tie.Need-is-correct-requires
-is-correct-requires c κs = search needs
+is-faulty-requires : tie.Need-is-faulty-requires
+is-faulty-requires c κs = search needs
 
 returns-2 : tie.Need-returns-2
 returns-2 c =
-    let a = c .before .before .before .before .args in
-    λ t h sender. taken-told t (a .site) (a .from) (a .round) (a .other) (a .role) (c .before .before .if1 .left) (c .before .is-correct .ensures t h) sender (c .if2 .taken)
-
-is-site-requires : tie.Need-is-site-requires
-is-site-requires c κs = search needs
-
-is-site-requires-2 : tie.Need-is-site-requires-2
-is-site-requires-2 c κs = search needs
+    let a = c .before .before .before .before .before .args in
+    faulty-receiver (a .table) (a .i) (a .j) (a .r) (a .other) (a .role) (not-false _ (c .before .before .if1 .left)) (sym (c .before .is-faulty .ensures) ∙ c .if2 .taken)
 
 returns-3 : tie.Need-returns-3
 returns-3 c =
-    let a = c .before .before .before .before .before .before .before .args in
-    λ t h sender.
-    role-told t (a .site) (a .from) (a .round) (a .other) (a .role) (c .before .before .before .before .before .if1 .left) (c .before .before .before .before .is-correct .ensures t h) (c .before .before .is-site .ensures t h) (c .before .is-site2 .ensures t h) (c .before .before .before .if2 .left) (c .if3 .taken)
+    let a = c .before .before .before .before .before .before .args in
+    sym (ap (λ (x : Bool). pick x Taken (Refused Role)) (not-true (a .role) (c .if3 .taken)))
+    ∙ by-role (a .table) (a .i) (a .j) (a .r) (a .other) (a .role) (not-false _ (c .before .before .before .if1 .left)) (sym (c .before .before .is-faulty .ensures) ∙ c .before .if2 .left)
 
 returns-4 : tie.Need-returns-4
 returns-4 c =
-    let a = c .before .before .before .before .before .before .before .args in
-    λ t h sender.
-    sites-told t (a .site) (a .from) (a .round) (a .other) (a .role) (c .before .before .before .before .before .if1 .left) (c .before .before .before .before .is-correct .ensures t h) (c .before .before .is-site .ensures t h) (c .before .is-site2 .ensures t h) (c .if3 .left)
+    let a = c .before .before .before .before .before .before .args in
+    sym (ap (λ (x : Bool). pick x Taken (Refused Role)) (not-false (a .role) (c .if3 .left)))
+    ∙ by-role (a .table) (a .i) (a .j) (a .r) (a .other) (a .role) (not-false _ (c .before .before .before .if1 .left)) (sym (c .before .before .is-faulty .ensures) ∙ c .before .if2 .left)
 
 pub judge-message-spec : {M : Type 1} → statement M
-judge-message-spec =
-    tie.close
-    (tie.spec
-    returns
-    is-correct-requires
-    returns-2
-    is-site-requires
-    is-site-requires-2
-    returns-3
-    returns-4)
+judge-message-spec = tie.close (tie.spec returns is-faulty-requires returns-2 returns-3 returns-4)

@@ -1,81 +1,82 @@
 -- `closings::fast_delivery`: one law for each answer.
 -- Assumes nothing.
 use borrow.Author.Needs.{needs}
-use borrow.Author.Tests.{lt-ltb, le-ltb}
 use denote.Ref.{now}
-use mathlib.Core.Path.{_≡_, refl, sym, ap, _∙_}
-use mathlib.Core.Bool.{Bool, true, false, _&&_, not}
 use native.Mathlib.Omega.{arith}
-use lib.Dec.{ltb}
-use Rattle.refusals.specs.declared.Refusal.the-variants.{Range, Role}
-use Rattle.refusals.specs.declared.Verdict.the-variants.{Refused}
-use Rattle.theory.specs.Sets.{pick}
-use Rattle.theory.specs.Counting.{not-true}
+use Prim.Native.Nat.{_+_, _*_, _-_}
 use Rattle.commands.specs.Book.{commandsOf}
-use Rattle.roles.specs.Roles.{isCorrectSite, refusalOf}
-use Rattle.roles.proofs.Laws.{correct-site}
-use Rattle.closings.proofs.Closing.{fast-turned-down, fast-carried}
+use Rattle.layout.specs.Layout.{siteSize}
+use Rattle.world.proofs.Sites.{at-site}
+use Rattle.closings.specs.Closings.{FastAt}
+use Rattle.closings.proofs.Closing.{good-part, sites-room, fast-no-site, fast-no-command, fast-role, fast-carried}
 use Rattle.closings.proofs.fast_delivery.Statement.{statement}
 use Rattle.closings.proofs.fast_delivery.Tie as tie
 
--- A command out of range is refused as that, whatever the site.
-not-both : (q b : Bool) → b ≡ false → not (q && b) ≡ true
-not-both true b e = ap not e
-not-both false b e = refl
-
-range-first : (s b : Bool) → b ≡ false → Range ≡ pick (s && b) Role Range
-range-first true b e = sym (ap (λ (x : Bool). pick x Role Range) e)
-range-first false b e = refl
-
-number-requires : tie.Need-number-requires
-number-requires c κs = search needs
-
 returns : tie.Need-returns
 returns c =
-    let o = c .before .before .before .before .before .before in
-    let q = isCorrectSite (o .args .table) (o .args .site) in
-    let past : ltb (o .args .command) (o .args .commands) ≡ false = le-ltb (o .args .command) (o .args .commands) (omega arith) in
-    (Refused _, (c .number .ensures, fast-turned-down (o .args .table) (commandsOf (now (o .args .book))) (now (o .args .sites)) (λ k. c .before .before .before .before .before .slice-known .given k .fits) (o .args .site) (o .args .command) (o .pre .4) {q = q} refl (not-both q _ past) (range-first (ltb (o .args .site) (o .args .table .sites)) _ past)))
-
-is-correct-requires : tie.Need-is-correct-requires
-is-correct-requires c κs = search needs
-
-refusal-requires : tie.Need-refusal-requires
-refusal-requires c κs = search needs
-
-number-requires-2 : tie.Need-number-requires-2
-number-requires-2 c κs = search needs
+    let a = c .before .before .before .before .before .before .args in
+    fast-no-site (a .rules .table) (commandsOf (now (a .book))) (now (a .sites)) (λ k. c .before .before .before .before .before .slice-known .given k .fits) (a .site) (a .command) (omega arith)
 
 returns-2 : tie.Need-returns-2
 returns-2 c =
-    let o = c .before .before .before .before .before .before .before .before .before in
-    let q = c .before .before .before .is-correct .result in
-    let known : ltb (o .args .command) (o .args .commands) ≡ true = lt-ltb (o .args .command) (o .args .commands) (omega arith) in (
-      Refused _,
-      (
-        c .number2 .ensures,
-        fast-turned-down (o .args .table) (commandsOf (now (o .args .book))) (now (o .args .sites)) (λ k. c .before .before .before .before .before .before .before .before .slice-known .given k .fits) (o .args .site) (o .args .command) (o .pre .4) (c .before .before .before .is-correct .ensures (o .args .table) (o .pre .2)) (ap (λ (x : Bool). not (x && ltb (o .args .command) (o .args .commands))) (not-true q (c .before .before .if2 .taken)))
-            (c .before .refusal .ensures (o .args .table) (o .pre .2) ∙ ap (refusalOf (o .args .table) (o .args .site)) (sym known)),
-      ),
-    )
-
-fast-at-requires : tie.Need-fast-at-requires
-fast-at-requires c κs =
     let o = c .before .before .before .before .before .before .before .before in
-    let l = correct-site (o .args .table) (o .args .site) (c .before .before .is-correct .ensures (o .args .table) (o .pre .2)) (c .before .if2 .left) in
-    (o .pre .0, o .pre .1, o .pre .3, o .pre .4, l .inside, omega arith)
+    let a = o .args in
+    fast-no-command (a .rules .table) (commandsOf (now (a .book))) (now (a .sites)) (λ k. c .before .before .before .before .before .before .before .slice-known .given k .fits) (a .site) (a .command) (omega arith) (o .pre .3) (omega arith)
 
-code-requires : tie.Need-code-requires
-code-requires c κs = search needs
+is-faulty-requires : tie.Need-is-faulty-requires
+is-faulty-requires c κs = search needs
+
+returns-3 : tie.Need-returns-3
+returns-3 c =
+    let o = c .before .before .before .before .before .before .before .before .before .before in
+    let a = o .args in
+    fast-role (a .rules .table) (commandsOf (now (a .book))) (now (a .sites)) (λ k. c .before .before .before .before .before .before .before .before .before .slice-known .given k .fits) (a .site) (a .command) (omega arith) (o .pre .3) (omega arith) (c .before .is-faulty .ensures) (c .if3 .taken)
+
+mul-from : tie.Need-mul-from
+mul-from c = search needs
+
+add-to : tie.Need-add-to
+add-to c = search needs
+
+sub-fast-delivery : tie.Need-sub-fast-delivery
+sub-fast-delivery c = search needs
+
+part-fast-delivery-start : tie.Need-part-fast-delivery-start
+part-fast-delivery-start c = search needs
+
+part-fast-delivery-end : tie.Need-part-fast-delivery-end
+part-fast-delivery-end c = search needs
+
+fast-delivery-requires : tie.Need-fast-delivery-requires
+fast-delivery-requires c κs =
+    let o = c .before .before .before .before .before .before .before .before .before .before .before in
+    let a = o .args in
+    (good-part (a .rules .table) (a .rules .commands) (now (a .sites)) (a .site) ((a .site * siteSize + siteSize) - a .site * siteSize) (o .pre .0) (omega arith) (omega arith), o .pre .1, o .pre .2, o .pre .3, omega arith)
 
 same-length : tie.Need-same-length
 same-length c = search needs
 
-returns-3 : tie.Need-returns-3
-returns-3 c =
-    let o = c .before .before .before .before .before .before .before .before .before .before .before .before in
-    let l = correct-site (o .args .table) (o .args .site) (c .before .before .before .before .before .before .is-correct .ensures (o .args .table) (o .pre .2)) (c .before .before .before .before .before .if2 .left) in
-    (_, (c .code .ensures, fast-carried (o .args .table) (commandsOf (now (o .args .book))) (now (o .args .sites)) (λ k. c .before .before .before .before .before .before .before .before .before .before .before .slice-known .given k .fits) (o .args .site) (o .args .command) (o .pre .4) l (omega arith) (c .before .before .before .fast-at .ensures)))
+returns-4 : tie.Need-returns-4
+returns-4 c =
+    let o = c .before .before .before .before .before .before .before .before .before .before .before .before .before .before in
+    let a = o .args in
+    fast-carried (a .rules .table) (commandsOf (now (a .book))) (now (a .sites)) (λ k. c .before .before .before .before .before .before .before .before .before .before .before .before .before .slice-known .given k .fits) (a .site) (a .command) (omega arith) (o .pre .3) (omega arith) (c .before .before .before .before .before .is-faulty .ensures) (c .before .before .before .before .if3 .left)
+    (at-site (FastAt (a .rules .table) (commandsOf (now (a .book))) (a .command) (c .before .before .fast-delivery .result)) (now (a .sites)) (a .site) ((a .site * siteSize + siteSize) - a .site * siteSize) _ (omega arith)
+    (sites-room (a .rules .table) (a .rules .commands) (now (a .sites)) (a .site) (o .pre .0) (omega arith)) (c .before .before .fast-delivery .kept .0) (c .before .before .fast-delivery .ensures))
 
 pub fast-delivery-spec : {M : Type 1} → statement M
-fast-delivery-spec = tie.close (tie.spec number-requires returns is-correct-requires refusal-requires number-requires-2 returns-2 fast-at-requires code-requires same-length returns-3)
+fast-delivery-spec =
+    tie.close
+    (tie.spec
+    returns
+    returns-2
+    is-faulty-requires
+    returns-3
+    mul-from
+    add-to
+    sub-fast-delivery
+    part-fast-delivery-start
+    part-fast-delivery-end
+    fast-delivery-requires
+    same-length
+    returns-4)

@@ -2,48 +2,76 @@
 -- Assumes nothing.
 use borrow.Author.Needs.{needs}
 use denote.Ref.{now}
-use Rattle.refusals.specs.declared.Verdict.the-variants.{Refused}
-use Rattle.commands.specs.Book.{commandsOf}
-use Rattle.roles.proofs.Laws.{correct-site}
 use mathlib.Core.Path.{ap, _∙_}
+use mathlib.Core.Bool.{true, false}
+use native.Mathlib.Omega.{arith}
+use Prim.Native.Nat.{_+_, _*_, _-_, _<_}
 use Rattle.sets.specs.declared.Set.{Set}
 use Rattle.sets.specs.Sets.{withinOf}
+use Rattle.commands.specs.Book.{commandsOf}
+use Rattle.layout.specs.Layout.{siteSize}
 use Rattle.layout.proofs.Tables.{within-empty}
-use Rattle.closings.proofs.Closing.{sites-room, round-kept, end-turned-down, end-carried, site-undecided, site-decided, room-undecided, room-decided, sets-fit}
+use Rattle.ending.specs.Ending.{RoundEnded}
+use Rattle.world.proofs.Sites.{at-site, head-at}
+use Rattle.closings.proofs.Closing.{good-part, sites-room, round-kept, end-no-site, end-role, end-carried, site-undecided, site-decided, sets-fit}
 use Rattle.closings.proofs.round_end.Statement.{statement}
 use Rattle.closings.proofs.round_end.Tie as tie
 
-is-correct-requires : tie.Need-is-correct-requires
-is-correct-requires c κs = search needs
-
-refusal-requires : tie.Need-refusal-requires
-refusal-requires c κs = search needs
-
-number-requires : tie.Need-number-requires
-number-requires c κs = search needs
-
 returns : tie.Need-returns
 returns c =
-    let o = c .before .before .before .before .before .before .before .before .before in
-    (Refused _, (c .number .ensures, λ log entries k. end-turned-down (o .args .table) (commandsOf (now (o .args .book))) (now (o .args .sites)) (λ n. c .before .before .before .before .before .before .before .before .slice-known .given n .fits) (o .args .site) log entries (c .before .before .before .is-correct .ensures (o .args .table) (o .pre .3)) (c .before .before .if1 .taken) (c .before .refusal .ensures (o .args .table) (o .pre .3))))
+    let a = c .before .before .before .before .before .before .before .args in
+    λ log entries k. end-no-site (a .rules .table) (commandsOf (now (a .book))) (now (a .sites)) (λ n. c .before .before .before .before .before .before .slice-known .given n .fits) (a .site) log entries (omega arith)
 
-position-of-requires : tie.Need-position-of-requires
-position-of-requires c κs =
-    let o = c .before .before .before .before .before .before .before .before in
-    let site = correct-site (o .args .table) (o .args .site) (c .before .before .is-correct .ensures (o .args .table) (o .pre .3)) (c .before .if1 .left) in
-    sites-room (o .args .table) (o .args .commands) (now (o .args .sites)) (o .args .site) (o .pre .0) (site .inside)
+is-faulty-requires : tie.Need-is-faulty-requires
+is-faulty-requires c κs = search needs
 
-round-of-requires : tie.Need-round-of-requires
-round-of-requires c κs =
-    let o = c .before .before .before .before .before .before .before .before .before .before in
-    let site = correct-site (o .args .table) (o .args .site) (c .before .before .before .before .is-correct .ensures (o .args .table) (o .pre .3)) (c .before .before .before .if1 .left) in
-    sites-room (o .args .table) (o .args .commands) (now (o .args .sites)) (o .args .site) (o .pre .0) (site .inside)
+returns-2 : tie.Need-returns-2
+returns-2 c =
+    let a = c .before .before .before .before .before .before .before .before .before .args in
+    let i : a .site < a .rules .table .sites = omega (arith, c .before .before .if1 .left) in
+    λ log entries k. end-role (a .rules .table) (commandsOf (now (a .book))) (now (a .sites)) (λ n. c .before .before .before .before .before .before .before .before .slice-known .given n .fits) (a .site) log entries i (c .before .is-faulty .ensures) (c .if2 .taken)
+
+mul-from : tie.Need-mul-from
+mul-from c = search needs
+
+add-to : tie.Need-add-to
+add-to c = search needs
+
+sub-position : tie.Need-sub-position
+sub-position c = search needs
+
+part-position-start : tie.Need-part-position-start
+part-position-start c = search needs
+
+part-position-end : tie.Need-part-position-end
+part-position-end c = search needs
+
+position-requires : tie.Need-position-requires
+position-requires c κs = search needs
+
+cast-position : tie.Need-cast-position
+cast-position c = search needs
+
+sub-round : tie.Need-sub-round
+sub-round c = search needs
+
+part-round-start : tie.Need-part-round-start
+part-round-start c = search needs
+
+part-round-end : tie.Need-part-round-end
+part-round-end c = search needs
+
+round-requires : tie.Need-round-requires
+round-requires c κs = search needs
+
+cast-round : tie.Need-cast-round
+cast-round c = search needs
 
 decision-requires : tie.Need-decision-requires
 decision-requires c κs =
-    let o = c .before .before .before .before .before .before .before .before .before .before .before in
-    let site = correct-site (o .args .table) (o .args .site) (c .before .before .before .before .before .is-correct .ensures (o .args .table) (o .pre .3)) (c .before .before .before .before .if1 .left) in
-    (o .pre .1 .2 .words .size, round-kept (o .args .table) (o .args .commands) (now (o .args .sites)) (o .args .site) (o .pre .0) (site .inside) (c .round-of .ensures))
+    let o = c .before .before .before .before .before .before .before .before .before .before .before .before .before .before .before in
+    let a = o .args in
+    (o .pre .1 .2 .words .size, round-kept (a .rules .table) (a .rules .commands) (now (a .sites)) (a .site) (o .pre .0) (omega arith) (c .round .ensures ∙ (λ z. head-at (now (a .sites)) (a .site) ((a .site * siteSize + siteSize) - a .site * siteSize) (omega arith) z .round)))
 
 enum-told : tie.Need-enum-told
 enum-told c = search needs
@@ -51,99 +79,121 @@ enum-told c = search needs
 empty-requires : tie.Need-empty-requires
 empty-requires c κs = search needs
 
-empty-requires-2 : tie.Need-empty-requires-2
-empty-requires-2 c κs = search needs
+sub-round-end : tie.Need-sub-round-end
+sub-round-end c = search needs
 
-end-at-requires : tie.Need-end-at-requires
-end-at-requires c κs =
-    let o = c .before .before .before .before .before .before .before .before .before .before .before .before .before .before .before .before .before in
-    let site = correct-site (o .args .table) (o .args .site) (c .before .before .before .before .before .before .before .before .before .before .before .is-correct .ensures (o .args .table) (o .pre .3)) (c .before .before .before .before .before .before .before .before .before .before .if1 .left) in
-    let none = within-empty (o .args .commands) in (
-      (o .args .table, o .pre .0, site .inside),
+part-round-end-start : tie.Need-part-round-end-start
+part-round-end-start c = search needs
+
+part-round-end-end : tie.Need-part-round-end-end
+part-round-end-end c = search needs
+
+round-end-requires : tie.Need-round-end-requires
+round-end-requires c κs =
+    let o = c .before .before .before .before .before .before .before .before .before .before .before .before .before .before .before .before .before .before .before .before in
+    let a = o .args in
+    let none = ap (λ (x : Set). withinOf x (a .rules .commands)) (c .before .empty .ensures) ∙ within-empty (a .rules .commands) in (
+      (a .rules .table .sites, good-part (a .rules .table) (a .rules .commands) (now (a .sites)) (a .site) ((a .site * siteSize + siteSize) - a .site * siteSize) (o .pre .0) (omega (arith, c .before .before .before .before .before .before .before .before .before .before .before .before .before .if1 .left)) (omega arith)),
+      o .pre .3,
       o .pre .4,
-      o .pre .5,
-      ap (λ (x : Set). withinOf x (o .args .commands)) (c .before .empty .ensures) ∙ none,
-      ap (λ (x : Set). withinOf x (o .args .commands)) (c .empty2 .ensures) ∙ none,
-      room-undecided (o .args .table) (o .pre .2) (now (o .args .book)) (now (o .args .sites)) (o .pre .1 .0) (o .pre .1 .1) (o .pre .1 .2) (o .args .site) (site .inside) (c .before .before .before .before .before .before .before .before .position-of .ensures) (c .before .before .before .before .before .before .round-of .ensures) (c .before .before .before .before .before .decision .ensures) (o .args .commands) (o .pre .5) (o .pre .0) _ _ (c .before .before .before .enum-told .given .1),
+      none,
+      none,
     )
-
-code-requires : tie.Need-code-requires
-code-requires c κs = search needs
 
 enum-known-decision : tie.Need-enum-known-decision
 enum-known-decision c = search needs
 
-end-at-requires-2 : tie.Need-end-at-requires-2
-end-at-requires-2 c κs =
-    let o = c .before .before .before .before .before .before .before .before .before .before .before .before .before .before .before .before .before .before in
-    let site = correct-site (o .args .table) (o .args .site) (c .before .before .before .before .before .before .before .before .before .before .before .before .is-correct .ensures (o .args .table) (o .pre .3)) (c .before .before .before .before .before .before .before .before .before .before .before .if1 .left) in
-    let l = site .inside in
-    let w = sets-fit (o .args .table) (o .pre .2) (now (o .args .book)) (now (o .args .sites)) (o .pre .1 .0) (o .pre .1 .1) (o .pre .1 .2) (o .args .site) l (c .before .before .before .before .before .before .before .before .before .position-of .ensures) (c .before .before .before .before .before .before .before .round-of .ensures) (c .before .before .before .before .before .before .decision .ensures) (o .args .commands) (o .pre .5) _ (c .before .before .before .before .decision2 .given .1) in (
-      (o .args .table, o .pre .0, l),
+sub-round-end-2 : tie.Need-sub-round-end-2
+sub-round-end-2 c = search needs
+
+part-round-end-start-2 : tie.Need-part-round-end-start-2
+part-round-end-start-2 c = search needs
+
+part-round-end-end-2 : tie.Need-part-round-end-end-2
+part-round-end-end-2 c = search needs
+
+round-end-requires-2 : tie.Need-round-end-requires-2
+round-end-requires-2 c κs =
+    let o = c .before .before .before .before .before .before .before .before .before .before .before .before .before .before .before .before .before .before .before .before .before .before in
+    let a = o .args in
+    let i : a .site < a .rules .table .sites = omega (arith, c .before .before .before .before .before .before .before .before .before .before .before .before .before .before .before .if1 .left) in
+    let k = (a .site * siteSize + siteSize) - a .site * siteSize in
+    let h = head-at (now (a .sites)) (a .site) k (omega arith) in
+    let w = sets-fit (a .rules .table) (o .pre .2) (now (a .book)) (now (a .sites)) (o .pre .1 .0) (o .pre .1 .1) (o .pre .1 .2) (a .site) i (c .before .before .before .before .before .before .before .before .before .before .position .ensures ∙ (λ z. h z .position)) (c .before .before .before .before .before .before .before .round .ensures ∙ (λ z. h z .round)) (c .before .before .before .before .before .before .decision .ensures) (a .rules .commands) (o .pre .4) _ (c .before .before .before .before .decision2 .given .1) in (
+      (a .rules .table .sites, good-part (a .rules .table) (a .rules .commands) (now (a .sites)) (a .site) k (o .pre .0) i (omega arith)),
+      o .pre .3,
       o .pre .4,
-      o .pre .5,
       w .0,
       w .1,
-      room-decided (o .args .table) (o .pre .2) (now (o .args .book)) (now (o .args .sites)) (o .pre .1 .0) (o .pre .1 .1) (o .pre .1 .2) (o .args .site) l (c .before .before .before .before .before .before .before .before .before .position-of .ensures) (c .before .before .before .before .before .before .before .round-of .ensures) (c .before .before .before .before .before .before .decision .ensures) (o .args .commands) (o .pre .5) (o .pre .0) (o .pre .1 .3) _ (c .before .before .before .before .decision2 .given .1),
     )
-
-code-requires-2 : tie.Need-code-requires-2
-code-requires-2 c κs = search needs
 
 same-length : tie.Need-same-length
 same-length c = search needs
 
-returns-2 : tie.Need-returns-2
-returns-2 c =
-    let o = c .before .before .before .before .before .before .before .before .before .before .before .before .before .before .before .before .before .before .before .before .before in
-    let site = correct-site (o .args .table) (o .args .site) (c .before .before .before .before .before .before .before .before .before .before .before .before .before .before .before .is-correct .ensures (o .args .table) (o .pre .3)) (c .before .before .before .before .before .before .before .before .before .before .before .before .before .before .if1 .left) in
-    let l = site .inside in (
-      _,
-      (
-        c .code .ensures,
-        λ log entries k.
-            end-carried (o .args .table) (commandsOf (now (o .args .book))) (now (o .args .sites)) (λ n. c .before .before .before .before .before .before .before .before .before .before .before .before .before .before .before .before .before .before .before .before .slice-known .given n .fits) (o .args .site) log entries site
-            (site-undecided (o .args .table) (o .pre .2) (now (o .args .book)) (now (o .args .sites)) log entries k (o .args .site) l (c .before .before .before .before .before .before .before .before .before .before .before .before .position-of .ensures) (c .before .before .before .before .before .before .before .before .before .before .round-of .ensures) (c .before .before .before .before .before .before .before .before .before .decision .ensures) _ _ (c .before .before .before .before .before .before .before .enum-told .given .1)) (c .before .before .before .end-at .ensures),
-      ),
-    )
+returns-3 : tie.Need-returns-3
+returns-3 c =
+    let o = c .before .before .before .before .before .before .before .before .before .before .before .before .before .before .before .before .before .before .before .before .before .before .before in
+    let a = o .args in
+    let i : a .site < a .rules .table .sites = omega (arith, c .before .before .before .before .before .before .before .before .before .before .before .before .before .before .before .before .if1 .left) in
+    let k = (a .site * siteSize + siteSize) - a .site * siteSize in
+    let h = head-at (now (a .sites)) (a .site) k (omega arith) in
+    let r = c .before .before .round-end in
+    λ log entries g.
+    end-carried (a .rules .table) (commandsOf (now (a .book))) (now (a .sites)) (λ n. c .before .before .before .before .before .before .before .before .before .before .before .before .before .before .before .before .before .before .before .before .before .before .slice-known .given n .fits) (a .site) log entries i (c .before .before .before .before .before .before .before .before .before .before .before .before .before .before .before .is-faulty .ensures) (c .before .before .before .before .before .before .before .before .before .before .before .before .before .before .if2 .left)
+    (site-undecided (a .rules .table) (o .pre .2) (now (a .book)) (now (a .sites)) log entries g (a .site) i (c .before .before .before .before .before .before .before .before .before .before .before .position .ensures ∙ (λ z. h z .position)) (c .before .before .before .before .before .before .before .before .round .ensures ∙ (λ z. h z .round)) (c .before .before .before .before .before .before .before .decision .ensures) _ _ (c .before .before .before .before .before .enum-told .given .1))
+    (at-site (λ b after. RoundEnded (commandsOf (now (a .book))) false (c .before .before .before .before .empty .result) (c .before .before .before .before .empty .result) b (r .result) after) (now (a .sites)) (a .site) k _ (omega arith)
+    (sites-room (a .rules .table) (a .rules .commands) (now (a .sites)) (a .site) (o .pre .0) i) (r .kept .0) (r .ensures))
 
 same-length-2 : tie.Need-same-length-2
 same-length-2 c = search needs
 
-returns-3 : tie.Need-returns-3
-returns-3 c =
-    let o = c .before .before .before .before .before .before .before .before .before .before .before .before .before .before .before .before .before .before .before .before .before .before in
-    let site = correct-site (o .args .table) (o .args .site) (c .before .before .before .before .before .before .before .before .before .before .before .before .before .before .before .before .is-correct .ensures (o .args .table) (o .pre .3)) (c .before .before .before .before .before .before .before .before .before .before .before .before .before .before .before .if1 .left) in
-    let l = site .inside in (
-      _,
-      (
-        c .code2 .ensures,
-        λ log entries k.
-            end-carried (o .args .table) (commandsOf (now (o .args .book))) (now (o .args .sites)) (λ n. c .before .before .before .before .before .before .before .before .before .before .before .before .before .before .before .before .before .before .before .before .before .slice-known .given n .fits) (o .args .site) log entries site
-            (site-decided (o .args .table) (o .pre .2) (now (o .args .book)) (now (o .args .sites)) log entries k (o .args .site) l (c .before .before .before .before .before .before .before .before .before .before .before .before .before .position-of .ensures) (c .before .before .before .before .before .before .before .before .before .before .before .round-of .ensures) (c .before .before .before .before .before .before .before .before .before .before .decision .ensures) _ (c .before .before .before .before .before .before .before .before .decision2 .given .1)) (c .before .before .before .end-at2 .ensures),
-      ),
-    )
+returns-4 : tie.Need-returns-4
+returns-4 c =
+    let o = c .before .before .before .before .before .before .before .before .before .before .before .before .before .before .before .before .before .before .before .before .before .before .before .before .before in
+    let a = o .args in
+    let i : a .site < a .rules .table .sites = omega (arith, c .before .before .before .before .before .before .before .before .before .before .before .before .before .before .before .before .before .before .if1 .left) in
+    let k = (a .site * siteSize + siteSize) - a .site * siteSize in
+    let h = head-at (now (a .sites)) (a .site) k (omega arith) in
+    let r = c .before .before .round-end2 in
+    let x = c .before .before .before .before .before .before .before .decision2 .given .0 .0 in
+    λ log entries g.
+    end-carried (a .rules .table) (commandsOf (now (a .book))) (now (a .sites)) (λ n. c .before .before .before .before .before .before .before .before .before .before .before .before .before .before .before .before .before .before .before .before .before .before .before .before .slice-known .given n .fits) (a .site) log entries i (c .before .before .before .before .before .before .before .before .before .before .before .before .before .before .before .before .before .is-faulty .ensures) (c .before .before .before .before .before .before .before .before .before .before .before .before .before .before .before .before .if2 .left)
+    (site-decided (a .rules .table) (o .pre .2) (now (a .book)) (now (a .sites)) log entries g (a .site) i (c .before .before .before .before .before .before .before .before .before .before .before .before .before .position .ensures ∙ (λ z. h z .position)) (c .before .before .before .before .before .before .before .before .before .before .round .ensures ∙ (λ z. h z .round)) (c .before .before .before .before .before .before .before .before .before .decision .ensures) _ (c .before .before .before .before .before .before .before .decision2 .given .1))
+    (at-site (λ b after. RoundEnded (commandsOf (now (a .book))) true (x .nc) (x .c) b (r .result) after) (now (a .sites)) (a .site) k _ (omega arith)
+    (sites-room (a .rules .table) (a .rules .commands) (now (a .sites)) (a .site) (o .pre .0) i) (r .kept .0) (r .ensures))
 
 pub round-end-spec : {M : Type 1} → statement M
 round-end-spec =
     tie.close
     (tie.spec
-    is-correct-requires
-    refusal-requires
-    number-requires
     returns
-    position-of-requires
-    round-of-requires
+    is-faulty-requires
+    returns-2
+    mul-from
+    add-to
+    sub-position
+    part-position-start
+    part-position-end
+    position-requires
+    cast-position
+    sub-round
+    part-round-start
+    part-round-end
+    round-requires
+    cast-round
     decision-requires
     enum-told
     empty-requires
-    empty-requires-2
-    end-at-requires
-    code-requires
+    sub-round-end
+    part-round-end-start
+    part-round-end-end
+    round-end-requires
     enum-known-decision
-    end-at-requires-2
-    code-requires-2
+    sub-round-end-2
+    part-round-end-start-2
+    part-round-end-end-2
+    round-end-requires-2
     same-length
-    returns-2
+    returns-3
     same-length-2
-    returns-3)
+    returns-4)

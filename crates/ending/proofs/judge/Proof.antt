@@ -4,7 +4,7 @@ use mathlib.Core.Path.{refl}
 use native.Mathlib.Omega.{arith}
 use borrow.Author.Tests.{not-true, not-false}
 use borrow.Author.Needs.{needs}
-use Rattle.ending.proofs.Verdicts.{end-acknowledging, end-undecided, end-roomy, end-full, end-met}
+use Rattle.ending.proofs.Verdicts.{end-acknowledging, end-undecided, end-full, end-met}
 use Rattle.ending.proofs.Closing.{size-small}
 use Rattle.ending.proofs.judge.Statement.{statement}
 use Rattle.ending.proofs.judge.Tie as tie
@@ -19,12 +19,6 @@ returns-2 : tie.Need-returns-2
 returns-2 c =
     let a = c .before .before .before .before .args in
     end-undecided _ _ _ (a .nc) (a .c) (c .before .before .is-waiting .ensures) (not-false _ (c .before .if1 .left)) (not-true _ (c .if2 .taken))
-
-returns-3 : tie.Need-returns-3
-returns-3 c =
-    let o = c .before .before .before .before .before in
-    let d = not-false _ (c .before .if2 .left) in
-    end-roomy _ _ _ (o .args .nc) (o .args .c) (c .before .before .before .is-waiting .ensures) (not-false _ (c .before .before .if1 .left)) d (o .pre .1 (c .if3 .taken) d)
 
 due-requires : tie.Need-due-requires
 due-requires c κs = search needs
@@ -41,22 +35,22 @@ count-requires c κs = search needs
 cast-recorded : tie.Need-cast-recorded
 cast-recorded c = search needs
 
-add-if4 : tie.Need-add-if4
-add-if4 c =
+add-if3 : tie.Need-add-if3
+add-if3 c =
     let p = size-small (c .before .before .before .due .result) refl in
     let q = size-small (c .before .before .due2 .result) refl in
     let e = c .before .sizes .ensures in
     record { fits = omega arith }
 
+returns-3 : tie.Need-returns-3
+returns-3 c =
+    let a = c .before .before .before .before .before .before .before .before .before .args in
+    end-full _ _ _ (a .nc) (a .c) (c .before .before .before .before .before .before .before .is-waiting .ensures) (not-false _ (c .before .before .before .before .before .before .if1 .left)) (not-false _ (c .before .before .before .before .before .if2 .left)) (c .before .before .before .before .due .ensures) (c .before .before .before .due2 .ensures) (c .before .before .sizes .ensures) (c .before .count .ensures) (c .if3 .taken)
+
 returns-4 : tie.Need-returns-4
 returns-4 c =
-    let a = c .before .before .before .before .before .before .before .before .before .before .args in
-    end-full _ _ _ (a .nc) (a .c) (c .before .before .before .before .before .before .before .before .is-waiting .ensures) (not-false _ (c .before .before .before .before .before .before .before .if1 .left)) (not-false _ (c .before .before .before .before .before .before .if2 .left)) (c .before .before .before .before .due .ensures) (c .before .before .before .due2 .ensures) (c .before .before .sizes .ensures) (c .before .count .ensures) (c .if4 .taken)
-
-returns-5 : tie.Need-returns-5
-returns-5 c =
-    let a = c .before .before .before .before .before .before .before .before .before .before .args in
-    end-met _ _ _ (a .nc) (a .c) (c .before .before .before .before .before .before .before .before .is-waiting .ensures) (not-false _ (c .before .before .before .before .before .before .before .if1 .left)) (not-false _ (c .before .before .before .before .before .before .if2 .left)) (c .before .before .before .before .due .ensures) (c .before .before .before .due2 .ensures) (c .before .before .sizes .ensures) (c .before .count .ensures) (c .if4 .left)
+    let a = c .before .before .before .before .before .before .before .before .before .args in
+    end-met _ _ _ (a .nc) (a .c) (c .before .before .before .before .before .before .before .is-waiting .ensures) (not-false _ (c .before .before .before .before .before .before .if1 .left)) (not-false _ (c .before .before .before .before .before .if2 .left)) (c .before .before .before .before .due .ensures) (c .before .before .before .due2 .ensures) (c .before .before .sizes .ensures) (c .before .count .ensures) (c .if3 .left)
 
 pub judge-spec : {M : Type 1} → statement M
 judge-spec =
@@ -65,12 +59,11 @@ judge-spec =
     is-waiting-requires
     returns
     returns-2
-    returns-3
     due-requires
     due-requires-2
     sizes-requires
     count-requires
     cast-recorded
-    add-if4
-    returns-4
-    returns-5)
+    add-if3
+    returns-3
+    returns-4)

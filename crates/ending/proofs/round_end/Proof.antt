@@ -12,23 +12,12 @@ use Rattle.sets.specs.Sets.{withinOf}
 use Rattle.commands.specs.Book.{commandsOf}
 use Rattle.commands.proofs.Walk.{few-commands}
 use Rattle.ending.proofs.Next.{headed-still, round-still}
-use Rattle.ending.proofs.Closing.{ready, within-due, enough-room, round-refused, round-taken}
+use Rattle.ending.proofs.Closing.{ready, within-due, round-refused, round-taken}
 use Rattle.ending.proofs.round_end.Statement.{statement}
 use Rattle.ending.proofs.round_end.Tie as tie
 
 judge-requires : tie.Need-judge-requires
-judge-requires c κs =
-    let s = c .before .before .before .before in
-    let a = s .args in
-    let en = s .pre .2 in (
-      s .pre .0 .1 .size,
-      (λ r d.
-          let h = s .pre .5 r in
-          let l = enough-room (h .table) (commandsOf (now (a .book))) (few-commands (now (a .book))) (now (a .site)) (λ i. c .before .before .before .slice-known .given i .fits) (h .good) (a .decided) (a .nc) (a .c)
-          (s .good .1 .1 .1 .1 .1 .0 .1 .1 .0 .1) (s .good .1 .1 .1 .1 .1 .1 .0 .1 .1 .0 .1) (subst (λ (n : ℕ). withinOf (a .nc) n ≡ true) (sym en) (s .pre .3))
-          (subst (λ (n : ℕ). withinOf (a .c) n ≡ true) (sym en) (s .pre .4)) (h .log) (h .told) d (h .room d) in
-          omega arith),
-    )
+judge-requires c κs = search needs
 
 enum-told : tie.Need-enum-told
 enum-told c = search needs

@@ -3,60 +3,94 @@
 use borrow.Author.Needs.{needs}
 use native.Mathlib.Omega.{arith}
 use denote.Ref.{now}
-use Rattle.refusals.specs.declared.Verdict.the-variants.{Refused}
-use Rattle.roles.proofs.Laws.{correct-site}
-use Rattle.moves.proofs.LogReads.{read-turned-down, read-carried, position-room}
+use mathlib.Core.Path.{_∙_}
+use Prim.Native.Nat.{_+_, _*_, _-_}
+use lib.Dec.{ltb}
+use mathlib.Core.Bool.{false}
+use Rattle.layout.specs.Layout.{siteSize}
+use Rattle.site.specs.Steps.{ReadEntry}
+use Rattle.world.proofs.Sites.{at-site, head-at}
+use Rattle.moves.proofs.LogReads.{read-range, read-role, read-carried, position-room}
 use Rattle.moves.proofs.log_read.Statement.{statement}
 use Rattle.moves.proofs.log_read.Tie as tie
 
-is-correct-requires : tie.Need-is-correct-requires
-is-correct-requires c κs = search needs
-
-refusal-requires : tie.Need-refusal-requires
-refusal-requires c κs = search needs
-
-number-requires : tie.Need-number-requires
-number-requires c κs = search needs
-
 returns : tie.Need-returns
 returns c =
-    let o = c .before .before .before .before .before .before in
-    (Refused _, (c .number .ensures, read-turned-down (o .args .table) (o .args .site) (o .args .entries) (now (o .args .sites)) (λ k. c .before .before .before .before .before .slice-known .given k .fits) (c .before .before .before .is-correct .ensures (o .args .table) (o .pre .1)) (c .before .before .if1 .taken) (c .before .refusal .ensures (o .args .table) (o .pre .1))))
+    let a = c .before .before .before .before .args in
+    read-range (a .rules .table) (a .site) (a .entries) (now (a .sites)) (λ k. c .before .before .before .slice-known .given k .fits) (omega arith)
 
-position-of-requires : tie.Need-position-of-requires
-position-of-requires c κs =
-    let o = c .before .before .before .before .before in
-    let l = correct-site (o .args .table) (o .args .site) (c .before .before .is-correct .ensures (o .args .table) (o .pre .1)) (c .before .if1 .left) .inside in
-    omega (arith, o .pre .0)
+is-faulty-requires : tie.Need-is-faulty-requires
+is-faulty-requires c κs = search needs
 
-read-at-requires : tie.Need-read-at-requires
-read-at-requires c κs =
-    let o = c .before .before .before .before .before .before .before in
-    let l = correct-site (o .args .table) (o .args .site) (c .before .before .before .before .is-correct .ensures (o .args .table) (o .pre .1)) (c .before .before .before .if1 .left) .inside in
-    (omega (arith, o .pre .0), λ h. position-room (o .args .entries) (o .pre .2) (c .before .position-of .ensures) h)
+returns-2 : tie.Need-returns-2
+returns-2 c =
+    let a = c .before .before .before .before .before .before .args in
+    read-role (a .rules .table) (a .site) (a .entries) (now (a .sites)) (λ k. c .before .before .before .before .before .slice-known .given k .fits) (omega arith) (c .before .is-faulty .ensures) (c .if2 .taken)
 
-code-requires : tie.Need-code-requires
-code-requires c κs = search needs
+mul-from : tie.Need-mul-from
+mul-from c = search needs
+
+add-to : tie.Need-add-to
+add-to c = search needs
+
+sub-position : tie.Need-sub-position
+sub-position c = search needs
+
+part-position-start : tie.Need-part-position-start
+part-position-start c = search needs
+
+part-position-end : tie.Need-part-position-end
+part-position-end c = search needs
+
+position-requires : tie.Need-position-requires
+position-requires c κs = search needs
+
+cast-position : tie.Need-cast-position
+cast-position c = search needs
+
+sub-read-entry : tie.Need-sub-read-entry
+sub-read-entry c = search needs
+
+part-read-entry-start : tie.Need-part-read-entry-start
+part-read-entry-start c = search needs
+
+part-read-entry-end : tie.Need-part-read-entry-end
+part-read-entry-end c = search needs
+
+read-entry-requires : tie.Need-read-entry-requires
+read-entry-requires c κs =
+    let o = c .before .before .before .before .before .before .before .before .before .before in
+    (search needs, λ h. position-room (o .args .entries) (o .pre .1) (c .before .position .ensures) h)
 
 same-length : tie.Need-same-length
 same-length c = search needs
 
-returns-2 : tie.Need-returns-2
-returns-2 c =
-    let o = c .before .before .before .before .before .before .before .before .before .before .before in
-    let l = correct-site (o .args .table) (o .args .site) (c .before .before .before .before .before .before .before .before .is-correct .ensures (o .args .table) (o .pre .1)) (c .before .before .before .before .before .before .before .if1 .left) in
-    (_, (c .code .ensures, read-carried (o .args .table) (o .args .site) (o .args .entries) (now (o .args .sites)) (λ k. c .before .before .before .before .before .before .before .before .before .before .slice-known .given k .fits) (l .inside) (l .not-faulty) (c .before .before .before .before .before .position-of .ensures) (c .before .before .before .read-at .ensures)))
+returns-3 : tie.Need-returns-3
+returns-3 c =
+    let o = c .before .before .before .before .before .before .before .before .before .before .before .before .before in
+    let a = o .args in
+    read-carried (a .rules .table) (a .site) (a .entries) (now (a .sites)) (λ k. c .before .before .before .before .before .before .before .before .before .before .before .before .slice-known .given k .fits) (omega arith) (c .before .before .before .before .before .before .before .before .is-faulty .ensures) (c .before .before .before .before .before .before .before .if2 .left)
+    (c .before .before .before .before .position .ensures ∙ (λ z. head-at (now (a .sites)) (a .site) ((a .site * siteSize + siteSize) - a .site * siteSize) (omega arith) z .position))
+    (at-site (λ b new. ReadEntry (ltb (c .before .before .before .before .position .result) (a .entries)) false b (c .before .before .read-entry .result) new) (now (a .sites)) (a .site) ((a .site * siteSize + siteSize) - a .site * siteSize) _ (omega arith) (omega arith)
+    (c .before .before .read-entry .kept .0) (c .before .before .read-entry .ensures))
 
 pub log-read-spec : {M : Type 1} → statement M
 log-read-spec =
     tie.close
     (tie.spec
-    is-correct-requires
-    refusal-requires
-    number-requires
     returns
-    position-of-requires
-    read-at-requires
-    code-requires
+    is-faulty-requires
+    returns-2
+    mul-from
+    add-to
+    sub-position
+    part-position-start
+    part-position-end
+    position-requires
+    cast-position
+    sub-read-entry
+    part-read-entry-start
+    part-read-entry-end
+    read-entry-requires
     same-length
-    returns-2)
+    returns-3)

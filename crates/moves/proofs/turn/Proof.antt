@@ -3,42 +3,69 @@
 use borrow.Author.Needs.{needs}
 use native.Mathlib.Omega.{arith}
 use denote.Ref.{now}
-use mathlib.Core.Path.{refl, ap, _∙_}
+use mathlib.Core.Path.{ap, _∙_}
+use Prim.Native.Nat.{_+_, _*_, _-_, _<_}
 use lib.ListN.{length}
-use Rattle.roles.proofs.Laws.{correct-site}
+use Rattle.table.proofs.Laws.{good-limits}
+use Rattle.layout.specs.Layout.{siteSize}
 use Rattle.world.specs.Parts.{lent}
-use Rattle.moves.proofs.Turns.{numbered, turn-turned-down, round-told, turn-refused, room-told, acknowledged, proposed}
+use Rattle.world.proofs.Sites.{at-site, length-part, head-at}
 use Rattle.conflicts.proofs.Laws.{rows-size}
+use Rattle.moves.specs.Moves.{TurnedBy}
+use Rattle.moves.proofs.Turns.{turn-range, turn-role, round-told, turn-refused, room-told, acknowledged, proposed}
 use Rattle.moves.proofs.turn.Statement.{statement}
 use Rattle.moves.proofs.turn.Tie as tie
 
-is-correct-requires : tie.Need-is-correct-requires
-is-correct-requires c κs = search needs
-
-refusal-requires : tie.Need-refusal-requires
-refusal-requires c κs = search needs
-
-number-requires : tie.Need-number-requires
-number-requires c κs = search needs
-
 returns : tie.Need-returns
 returns c =
-    let o = c .before .before .before .before .before .before .before .before .before in
-    λ book ready. turn-turned-down (o .args .table) book (now (o .args .rows)) (lent (now (o .args .sites)) (now (o .args .log)) (o .args .entries) (now (o .args .sent))) (o .args .site) ready (λ k. c .before .before .before .before .before .before .before .before .slice-known .given k .fits) (c .before .before .before .is-correct .ensures (o .args .table) (o .pre .1)) (c .before .before .if1 .taken) (c .before .refusal .ensures (o .args .table) (o .pre .1)) (c .number .ensures)
+    let a = c .before .before .before .before .before .before .before .before .args in
+    λ book ready. turn-range (a .rules .table) book (now (a .rows)) (lent (now (a .sites)) (now (a .log)) (a .entries) (now (a .sent))) (a .site) ready (λ k. c .before .before .before .before .before .before .before .slice-known .given k .fits) (omega arith)
 
-round-of-requires : tie.Need-round-of-requires
-round-of-requires c κs =
-    let o = c .before .before .before .before .before .before .before .before in
-    let l = correct-site (o .args .table) (o .args .site) (c .before .before .is-correct .ensures (o .args .table) (o .pre .1)) (c .before .if1 .left) in
-    let i = l .inside in
-    omega (arith, o .pre .0 .1 .world .size)
+is-faulty-requires : tie.Need-is-faulty-requires
+is-faulty-requires c κs = search needs
 
-turn-at-requires : tie.Need-turn-at-requires
-turn-at-requires c κs =
-    let o = c .before .before .before .before .before .before .before .before .before .before in
-    let l = correct-site (o .args .table) (o .args .site) (c .before .before .before .before .is-correct .ensures (o .args .table) (o .pre .1)) (c .before .before .before .if1 .left) in
-    let i = l .inside in
-    (omega (arith, o .pre .0 .1 .world .size), ap length (o .pre .0 .1 .conflicts) ∙ rows-size (o .pre .0 .0))
+returns-2 : tie.Need-returns-2
+returns-2 c =
+    let a = c .before .before .before .before .before .before .before .before .before .before .args in
+    λ book ready. turn-role (a .rules .table) book (now (a .rows)) (lent (now (a .sites)) (now (a .log)) (a .entries) (now (a .sent))) (a .site) ready (λ k. c .before .before .before .before .before .before .before .before .before .slice-known .given k .fits) (omega arith) (c .before .is-faulty .ensures) (c .if2 .taken)
+
+mul-from : tie.Need-mul-from
+mul-from c = search needs
+
+add-to : tie.Need-add-to
+add-to c = let z = c .before .before .before .before .before .before .before .before .before .before .pre .0 .1 .world .size in search needs
+
+sub-round : tie.Need-sub-round
+sub-round c = search needs
+
+part-round-start : tie.Need-part-round-start
+part-round-start c = omega (arith, c .before .before .before .before .before .before .before .before .before .before .before .pre .0 .1 .world .size)
+
+part-round-end : tie.Need-part-round-end
+part-round-end c = omega (arith, c .before .before .before .before .before .before .before .before .before .before .before .pre .0 .1 .world .size)
+
+round-requires : tie.Need-round-requires
+round-requires c κs = length-part (now (c .before .before .before .before .before .before .before .before .before .before .before .before .args .sites)) (c .before .before .before .before .before .before .before .before .before .before .before .before .args .site) ((c .before .before .before .before .before .before .before .before .before .before .before .before .args .site * siteSize + siteSize) - c .before .before .before .before .before .before .before .before .before .before .before .before .args .site * siteSize) (omega arith) (omega (arith, c .before .before .before .before .before .before .before .before .before .before .before .before .pre .0 .1 .world .size))
+
+cast-round : tie.Need-cast-round
+cast-round c = search needs
+
+sub-turn-by : tie.Need-sub-turn-by
+sub-turn-by c = search needs
+
+part-turn-by-start : tie.Need-part-turn-by-start
+part-turn-by-start c = search needs
+
+part-turn-by-end : tie.Need-part-turn-by-end
+part-turn-by-end c = search needs
+
+turn-by-requires : tie.Need-turn-by-requires
+turn-by-requires c κs =
+    let o = c .before .before .before .before .before .before .before .before .before .before .before .before .before .before in
+    let a = o .args in
+    let p = round-told (a .rules .table) (o .pre .0 .0) (now (a .rows)) (lent (now (a .sites)) (now (a .log)) (a .entries) (now (a .sent))) (a .site) (o .pre .0 .1) (λ k. c .before .before .before .before .before .before .before .before .before .before .before .before .before .slice-known .given k .fits) (omega arith) (c .before .round .ensures ∙ (λ z. head-at (now (a .sites)) (a .site) ((a .site * siteSize + siteSize) - a .site * siteSize) (omega arith) z .round)) in
+    let l = p .1 in
+    (length-part (now (a .sites)) (a .site) ((a .site * siteSize + siteSize) - a .site * siteSize) (omega arith) (omega (arith, o .pre .0 .1 .world .size)), o .pre .1 .size, ap length (o .pre .0 .1 .conflicts) ∙ rows-size (o .pre .0 .0), p .2, omega (arith, c .before .round .ensures))
 
 enum-known-answer : tie.Need-enum-known-answer
 enum-known-answer c = search needs
@@ -46,63 +73,71 @@ enum-known-answer c = search needs
 enum-known-answer-2 : tie.Need-enum-known-answer-2
 enum-known-answer-2 c = search needs
 
-enum-known-answer-3 : tie.Need-enum-known-answer-3
-enum-known-answer-3 c = search needs
-
-number-requires-2 : tie.Need-number-requires-2
-number-requires-2 c κs = search needs
-
 add-acknowledgment-requires : tie.Need-add-acknowledgment-requires
 add-acknowledgment-requires c κs =
-    let o = c .before .before .before .before .before .before .before .before .before .before .before .before .before .before .before .before .before in
-    let l = correct-site (o .args .table) (o .args .site) (c .before .before .before .before .before .before .before .before .before .before .before .is-correct .ensures (o .args .table) (o .pre .1)) (c .before .before .before .before .before .before .before .before .before .before .if1 .left) in
-    let p = round-told (o .args .table) (o .pre .0 .0) (now (o .args .rows)) (lent (now (o .args .sites)) (now (o .args .log)) (o .args .entries) (now (o .args .sent))) (o .args .site) (o .pre .0 .1) (λ k. c .before .before .before .before .before .before .before .before .before .before .before .before .before .before .before .before .slice-known .given k .fits) (l .inside) (c .before .before .before .before .before .before .before .before .round-of .ensures) in (
+    let o = c .before .before .before .before .before .before .before .before .before .before .before .before .before .before .before .before .before .before .before .before .before in
+    let a = o .args in
+    let b = lent (now (a .sites)) (now (a .log)) (a .entries) (now (a .sent)) in
+    let i : a .site < a .rules .table .sites = omega (arith, c .before .before .before .before .before .before .before .before .before .before .before .before .before .if1 .left) in
+    let e = c .before .before .before .before .before .before .before .before .round .ensures ∙ (λ z. head-at (now (a .sites)) (a .site) ((a .site * siteSize + siteSize) - a .site * siteSize) (omega arith) z .round) in
+    let p = round-told (a .rules .table) (o .pre .0 .0) (now (a .rows)) b (a .site) (o .pre .0 .1) (λ k. c .before .before .before .before .before .before .before .before .before .before .before .before .before .before .before .before .before .before .before .before .slice-known .given k .fits) i e in
+    let h = at-site (TurnedBy (now (a .rows)) (now (a .kept)) (a .site) (c .before .before .before .before .before .before .turn-by .result)) (now (a .sites)) (a .site) ((a .site * siteSize + siteSize) - a .site * siteSize) _ (omega arith) (omega (arith, i, o .pre .0 .1 .world .size)) (c .before .before .before .before .before .before .turn-by .kept .0) (c .before .before .before .before .before .before .turn-by .ensures) in (
       o .pre .0 .1 .world .sent,
       p .2,
       p .0,
       p .1,
-      room-told (o .args .table) (o .pre .0 .0) (now (o .args .rows)) (lent (now (o .args .sites)) (now (o .args .log)) (o .args .entries) (now (o .args .sent))) (o .args .site) (o .pre .0 .1) (λ k. c .before .before .before .before .before .before .before .before .before .before .before .before .before .before .before .before .slice-known .given k .fits) (l .inside) (l .not-faulty) (c .before .before .before .before .before .before .turn-at .ensures) _ (c .before .before .answer2 .given .1) _ (c .before .before .before .before .before .before .before .before .round-of .ensures),
+      room-told (a .rules .table) (o .pre .0 .0) (now (a .rows)) b (a .site) (o .pre .0 .1) (λ k. c .before .before .before .before .before .before .before .before .before .before .before .before .before .before .before .before .before .before .before .before .slice-known .given k .fits) i (c .before .before .before .before .before .before .before .before .before .before .before .before .is-faulty .ensures) (c .before .before .before .before .before .before .before .before .before .before .before .if2 .left) (o .pre .1) h _ (c .before .before .answer2 .given .1) _ e,
     )
+
+enum-known-answer-3 : tie.Need-enum-known-answer-3
+enum-known-answer-3 c = search needs
 
 put-check-requires : tie.Need-put-check-requires
 put-check-requires c κs =
-    let o = c .before .before .before .before .before .before .before .before .before .before .before .before .before .before .before .before .before in
-    let l = correct-site (o .args .table) (o .args .site) (c .before .before .before .before .before .before .before .before .before .before .before .is-correct .ensures (o .args .table) (o .pre .1)) (c .before .before .before .before .before .before .before .before .before .before .if1 .left) in
-    let p = round-told (o .args .table) (o .pre .0 .0) (now (o .args .rows)) (lent (now (o .args .sites)) (now (o .args .log)) (o .args .entries) (now (o .args .sent))) (o .args .site) (o .pre .0 .1) (λ k. c .before .before .before .before .before .before .before .before .before .before .before .before .before .before .before .before .slice-known .given k .fits) (l .inside) (c .before .before .before .before .before .before .before .before .round-of .ensures) in
+    let o = c .before .before .before .before .before .before .before .before .before .before .before .before .before .before .before .before .before .before .before .before .before in
+    let a = o .args in
+    let i : a .site < a .rules .table .sites = omega (arith, c .before .before .before .before .before .before .before .before .before .before .before .before .before .if1 .left) in
+    let e = c .before .before .before .before .before .before .before .before .round .ensures ∙ (λ z. head-at (now (a .sites)) (a .site) ((a .site * siteSize + siteSize) - a .site * siteSize) (omega arith) z .round) in
+    let p = round-told (a .rules .table) (o .pre .0 .0) (now (a .rows)) (lent (now (a .sites)) (now (a .log)) (a .entries) (now (a .sent))) (a .site) (o .pre .0 .1) (λ k. c .before .before .before .before .before .before .before .before .before .before .before .before .before .before .before .before .before .before .before .before .slice-known .given k .fits) i e in
     (o .pre .0 .1 .world .sent, p .2, p .0, p .1)
 
 write-entry-requires : tie.Need-write-entry-requires
 write-entry-requires c κs =
-    let o = c .before .before .before .before .before .before .before .before .before .before .before .before .before .before .before .before .before .before .before .before .before .before .before in
-    let l = correct-site (o .args .table) (o .args .site) (c .before .before .before .before .before .before .before .before .before .before .before .before .before .before .before .before .before .is-correct .ensures (o .args .table) (o .pre .1)) (c .before .before .before .before .before .before .before .before .before .before .before .before .before .before .before .before .if1 .left) in
-    let p = round-told (o .args .table) (o .pre .0 .0) (now (o .args .rows)) (lent (now (o .args .sites)) (now (o .args .log)) (o .args .entries) (now (o .args .sent))) (o .args .site) (o .pre .0 .1) (λ k. c .before .before .before .before .before .before .before .before .before .before .before .before .before .before .before .before .before .before .before .before .before .before .slice-known .given k .fits) (l .inside) (c .before .before .before .before .before .before .before .before .before .before .before .before .before .before .round-of .ensures) in
-    let m = o .pre .0 .1 .room in
-    let a = p .2 in
-    let q = p .1 in
-    (omega arith, omega arith, omega arith)
+    let o = c .before .before .before .before .before .before .before .before .before .before .before .before .before .before .before .before .before .before .before .before .before .before .before .before .before .before .before in
+    let a = o .args in
+    let i : a .site < a .rules .table .sites = omega (arith, c .before .before .before .before .before .before .before .before .before .before .before .before .before .before .before .before .before .before .before .if1 .left) in
+    let e = c .before .before .before .before .before .before .before .before .before .before .before .before .before .before .round .ensures ∙ (λ z. head-at (now (a .sites)) (a .site) ((a .site * siteSize + siteSize) - a .site * siteSize) (omega arith) z .round) in
+    let p = round-told (a .rules .table) (o .pre .0 .0) (now (a .rows)) (lent (now (a .sites)) (now (a .log)) (a .entries) (now (a .sent))) (a .site) (o .pre .0 .1) (λ k. c .before .before .before .before .before .before .before .before .before .before .before .before .before .before .before .before .before .before .before .before .before .before .before .before .before .before .slice-known .given k .fits) i e in
+    (omega (arith, o .pre .0 .1 .room), omega (arith, p .2), omega (arith, p .1))
 
-add-t37 : tie.Need-add-t37
-add-t37 c =
-    let o = c .before .before .before .before .before .before .before .before .before .before .before .before .before .before .before .before .before .before .before .before .before .before .before .before .before .before in
-    let l = o .pre .0 .1 .room in
-    let m = o .pre .0 .1 .world .short in
-    omega arith
+add-t48 : tie.Need-add-t48
+add-t48 c = omega (arith, c .before .before .before .before .before .before .before .before .before .before .before .before .before .before .before .before .before .before .before .before .before .before .before .before .before .before .before .before .before .before .pre .0 .1 .room, c .before .before .before .before .before .before .before .before .before .before .before .before .before .before .before .before .before .before .before .before .before .before .before .before .before .before .before .before .before .before .pre .0 .1 .world .short)
 
 same-length : tie.Need-same-length
 same-length c = search needs
 
+returns-3 : tie.Need-returns-3
+returns-3 c =
+    let o = c .before .before .before .before .before .before .before .before .before .before .before .before .before .before .before .before .before .before .before .before in
+    let a = o .args in
+    let i : a .site < a .rules .table .sites = omega (arith, c .before .before .before .before .before .before .before .before .before .before .before .before .if1 .left) in
+    let h = at-site (TurnedBy (now (a .rows)) (now (a .kept)) (a .site) (c .before .before .before .before .before .turn-by .result)) (now (a .sites)) (a .site) ((a .site * siteSize + siteSize) - a .site * siteSize) _ (omega arith) (omega (arith, i, o .pre .0 .1 .world .size)) (c .before .before .before .before .before .turn-by .kept .0) (c .before .before .before .before .before .turn-by .ensures) in
+    λ book ready. turn-refused (a .rules .table) book (now (a .rows)) (lent (now (a .sites)) (now (a .log)) (a .entries) (now (a .sent))) (a .site) ready (λ k. c .before .before .before .before .before .before .before .before .before .before .before .before .before .before .before .before .before .before .before .slice-known .given k .fits) i (c .before .before .before .before .before .before .before .before .before .before .before .is-faulty .ensures) (c .before .before .before .before .before .before .before .before .before .before .if2 .left) (o .pre .1) h _ (c .before .answer .given .1)
+
 same-length-2 : tie.Need-same-length-2
 same-length-2 c = search needs
 
-returns-2 : tie.Need-returns-2
-returns-2 c =
-    let o = c .before .before .before .before .before .before .before .before .before .before .before .before .before .before .before .before .before in
-    let l = correct-site (o .args .table) (o .args .site) (c .before .before .before .before .before .before .before .before .before .before .before .is-correct .ensures (o .args .table) (o .pre .1)) (c .before .before .before .before .before .before .before .before .before .before .if1 .left) in
-    λ book ready. numbered (o .args .table) book (now (o .args .rows)) (lent (now (o .args .sites)) (now (o .args .log)) (o .args .entries) (now (o .args .sent))) (o .args .site) ready (λ k. c .before .before .before .before .before .before .before .before .before .before .before .before .before .before .before .before .slice-known .given k .fits) (c .number2 .ensures)
-    (turn-refused (o .args .table) book (now (o .args .rows)) (lent (now (o .args .sites)) (now (o .args .log)) (o .args .entries) (now (o .args .sent))) (o .args .site) ready (λ k. c .before .before .before .before .before .before .before .before .before .before .before .before .before .before .before .before .slice-known .given k .fits) (l .inside) (l .not-faulty) (c .before .before .before .before .before .before .turn-at .ensures) _ (c .before .before .answer .given .1))
-
 same-length-3 : tie.Need-same-length-3
 same-length-3 c = search needs
+
+returns-4 : tie.Need-returns-4
+returns-4 c =
+    let o = c .before .before .before .before .before .before .before .before .before .before .before .before .before .before .before .before .before .before .before .before .before .before .before .before in
+    let a = o .args in
+    let i : a .site < a .rules .table .sites = omega (arith, c .before .before .before .before .before .before .before .before .before .before .before .before .before .before .before .before .if1 .left) in
+    let e = c .before .before .before .before .before .before .before .before .before .before .before .round .ensures ∙ (λ z. head-at (now (a .sites)) (a .site) ((a .site * siteSize + siteSize) - a .site * siteSize) (omega arith) z .round) in
+    let h = at-site (TurnedBy (now (a .rows)) (now (a .kept)) (a .site) (c .before .before .before .before .before .before .before .before .before .turn-by .result)) (now (a .sites)) (a .site) ((a .site * siteSize + siteSize) - a .site * siteSize) _ (omega arith) (omega (arith, i, o .pre .0 .1 .world .size)) (c .before .before .before .before .before .before .before .before .before .turn-by .kept .0) (c .before .before .before .before .before .before .before .before .before .turn-by .ensures) in
+    λ book ready. acknowledged (a .rules .table) book (now (a .rows)) (lent (now (a .sites)) (now (a .log)) (a .entries) (now (a .sent))) (a .site) ready (λ k. c .before .before .before .before .before .before .before .before .before .before .before .before .before .before .before .before .before .before .before .before .before .before .before .slice-known .given k .fits) i (c .before .before .before .before .before .before .before .before .before .before .before .before .before .before .before .is-faulty .ensures) (c .before .before .before .before .before .before .before .before .before .before .before .before .before .before .if2 .left) (o .pre .1) h _ (c .before .before .before .before .before .answer2 .given .1) _ e (c .before .before .add-acknowledgment .ensures)
 
 same-length-4 : tie.Need-same-length-4
 same-length-4 c = search needs
@@ -113,44 +148,46 @@ same-length-5 c = search needs
 same-length-6 : tie.Need-same-length-6
 same-length-6 c = search needs
 
-returns-3 : tie.Need-returns-3
-returns-3 c =
-    let o = c .before .before .before .before .before .before .before .before .before .before .before .before .before .before .before .before .before .before .before .before in
-    let l = correct-site (o .args .table) (o .args .site) (c .before .before .before .before .before .before .before .before .before .before .before .before .before .before .is-correct .ensures (o .args .table) (o .pre .1)) (c .before .before .before .before .before .before .before .before .before .before .before .before .before .if1 .left) in
-    λ book ready. numbered (o .args .table) book (now (o .args .rows)) (lent (now (o .args .sites)) (now (o .args .log)) (o .args .entries) (now (o .args .sent))) (o .args .site) ready (λ k. c .before .before .before .before .before .before .before .before .before .before .before .before .before .before .before .before .before .before .before .slice-known .given k .fits) refl
-    (acknowledged (o .args .table) book (now (o .args .rows)) (lent (now (o .args .sites)) (now (o .args .log)) (o .args .entries) (now (o .args .sent))) (o .args .site) ready (λ k. c .before .before .before .before .before .before .before .before .before .before .before .before .before .before .before .before .before .before .before .slice-known .given k .fits) (l .inside) (l .not-faulty) (c .before .before .before .before .before .before .before .before .before .turn-at .ensures) _ (c .before .before .before .before .before .answer2 .given .1) _ (c .before .before .before .before .before .before .before .before .before .before .before .round-of .ensures) (c .before .before .add-acknowledgment .ensures))
-
-returns-4 : tie.Need-returns-4
-returns-4 c =
-    let o = c .before .before .before .before .before .before .before .before .before .before .before .before .before .before .before .before .before .before .before .before .before .before .before .before .before .before in
-    let l = correct-site (o .args .table) (o .args .site) (c .before .before .before .before .before .before .before .before .before .before .before .before .before .before .before .before .before .before .before .before .is-correct .ensures (o .args .table) (o .pre .1)) (c .before .before .before .before .before .before .before .before .before .before .before .before .before .before .before .before .before .before .before .if1 .left) in
-    λ book ready. numbered (o .args .table) book (now (o .args .rows)) (lent (now (o .args .sites)) (now (o .args .log)) (o .args .entries) (now (o .args .sent))) (o .args .site) ready (λ k. c .before .before .before .before .before .before .before .before .before .before .before .before .before .before .before .before .before .before .before .before .before .before .before .before .before .slice-known .given k .fits) refl
-    (proposed (o .args .table) book (now (o .args .rows)) (lent (now (o .args .sites)) (now (o .args .log)) (o .args .entries) (now (o .args .sent))) (o .args .site) ready (λ k. c .before .before .before .before .before .before .before .before .before .before .before .before .before .before .before .before .before .before .before .before .before .before .before .before .before .slice-known .given k .fits) (l .inside) (l .not-faulty) (c .before .before .before .before .before .before .before .before .before .before .before .before .before .before .before .turn-at .ensures) _ _ (c .before .before .before .before .before .before .before .before .before .before .before .answer3 .given .1) _ (c .before .before .before .before .before .before .before .before .before .before .before .before .before .before .before .before .before .round-of .ensures) (c .before .before .before .before .before .before .before .before .put-check .ensures) (c .before .before .write-entry .ensures))
+returns-5 : tie.Need-returns-5
+returns-5 c =
+    let o = c .before .before .before .before .before .before .before .before .before .before .before .before .before .before .before .before .before .before .before .before .before .before .before .before .before .before .before .before .before .before in
+    let a = o .args in
+    let i : a .site < a .rules .table .sites = omega (arith, c .before .before .before .before .before .before .before .before .before .before .before .before .before .before .before .before .before .before .before .before .before .before .if1 .left) in
+    let e = c .before .before .before .before .before .before .before .before .before .before .before .before .before .before .before .before .before .round .ensures ∙ (λ z. head-at (now (a .sites)) (a .site) ((a .site * siteSize + siteSize) - a .site * siteSize) (omega arith) z .round) in
+    let h = at-site (TurnedBy (now (a .rows)) (now (a .kept)) (a .site) (c .before .before .before .before .before .before .before .before .before .before .before .before .before .before .before .turn-by .result)) (now (a .sites)) (a .site) ((a .site * siteSize + siteSize) - a .site * siteSize) _ (omega arith) (omega (arith, i, o .pre .0 .1 .world .size)) (c .before .before .before .before .before .before .before .before .before .before .before .before .before .before .before .turn-by .kept .0) (c .before .before .before .before .before .before .before .before .before .before .before .before .before .before .before .turn-by .ensures) in
+    λ book ready. proposed (a .rules .table) book (now (a .rows)) (lent (now (a .sites)) (now (a .log)) (a .entries) (now (a .sent))) (a .site) ready (λ k. c .before .before .before .before .before .before .before .before .before .before .before .before .before .before .before .before .before .before .before .before .before .before .before .before .before .before .before .before .before .slice-known .given k .fits) i (c .before .before .before .before .before .before .before .before .before .before .before .before .before .before .before .before .before .before .before .before .before .is-faulty .ensures) (c .before .before .before .before .before .before .before .before .before .before .before .before .before .before .before .before .before .before .before .before .if2 .left) (o .pre .1) h _ _ (c .before .before .before .before .before .before .before .before .before .before .before .answer3 .given .1) _ e (c .before .before .before .before .before .before .before .before .put-check .ensures) (c .before .before .write-entry .ensures)
 
 pub turn-spec : {M : Type 1} → statement M
 turn-spec =
     tie.close
     (tie.spec
-    is-correct-requires
-    refusal-requires
-    number-requires
     returns
-    round-of-requires
-    turn-at-requires
+    is-faulty-requires
+    returns-2
+    mul-from
+    add-to
+    sub-round
+    part-round-start
+    part-round-end
+    round-requires
+    cast-round
+    sub-turn-by
+    part-turn-by-start
+    part-turn-by-end
+    turn-by-requires
     enum-known-answer
-    number-requires-2
     enum-known-answer-2
     add-acknowledgment-requires
     enum-known-answer-3
     put-check-requires
     write-entry-requires
-    add-t37
+    add-t48
     same-length
-    returns-2
+    returns-3
     same-length-2
     same-length-3
-    returns-3
+    returns-4
     same-length-4
     same-length-5
     same-length-6
-    returns-4)
+    returns-5)

@@ -1,4 +1,4 @@
--- `moves::turn_by`: a turn that is not enabled changes nothing; else the conflict test by the rows.
+-- `moves::turn_by`: a turn that is not enabled changes nothing; else the tests by the rows and by what is kept.
 -- Assumes nothing.
 use borrow.Author.Needs.{needs}
 use denote.Ref.{now}
@@ -14,20 +14,23 @@ same-length c = search needs
 
 returns : tie.Need-returns
 returns c =
-    let o = c .before .before .before .before .before in
-    λ i. not-turned (now (o .args .rows)) i _ (λ k. c .before .before .before .before .slice-known .given k .fits) (c .before .has-turn .ensures) (c .if1 .taken)
+    let a = c .before .before .before .before .before .before .args in
+    not-turned (now (a .rows)) (now (a .kept)) (a .i) _ (λ k. c .before .before .before .before .before .slice-known .given k .fits) (c .before .has-turn .ensures) (c .if1 .taken)
 
 undelivered-requires : tie.Need-undelivered-requires
 undelivered-requires c κs = search needs
 
-pending-requires : tie.Need-pending-requires
-pending-requires c κs = search needs
+is-free-requires : tie.Need-is-free-requires
+is-free-requires c κs = search needs
 
-without-requires : tie.Need-without-requires
-without-requires c κs = search needs
+round-requires : tie.Need-round-requires
+round-requires c κs = search needs
 
-is-free-between-requires : tie.Need-is-free-between-requires
-is-free-between-requires c κs = search needs
+cast-round : tie.Need-cast-round
+cast-round c = search needs
+
+third-requires : tie.Need-third-requires
+third-requires c κs = search needs
 
 take-turn-requires : tie.Need-take-turn-requires
 take-turn-requires c κs = search needs
@@ -37,8 +40,8 @@ same-length-2 c = search needs
 
 returns-2 : tie.Need-returns-2
 returns-2 c =
-    let o = c .before .before .before .before .before .before .before .before .before .before .before .before .before .before .before in
-    λ i. turned-by (now (o .args .rows)) i _ (c .before .before .before .before .before .before .before .before .undelivered .ensures) (c .before .before .before .before .before .before .pending .ensures) (c .before .before .before .before .before .without .ensures) (c .before .before .before .before .is-free-between .ensures) (c .before .before .take-turn .ensures)
+    let a = c .before .before .before .before .before .before .before .before .before .before .before .before .before .before .before .before .args in
+    turned-by (now (a .rows)) (now (a .kept)) (a .i) _ (c .before .before .before .before .before .before .before .before .undelivered .ensures) (c .before .before .before .before .before .before .before .is-free .ensures) (c .before .before .before .before .before .round .ensures) (c .before .before .before .before .third .ensures) (c .before .before .take-turn .ensures)
 
 pub turn-by-spec : {M : Type 1} → statement M
 turn-by-spec =
@@ -48,9 +51,10 @@ turn-by-spec =
     same-length
     returns
     undelivered-requires
-    pending-requires
-    without-requires
-    is-free-between-requires
+    is-free-requires
+    round-requires
+    cast-round
+    third-requires
     take-turn-requires
     same-length-2
     returns-2)

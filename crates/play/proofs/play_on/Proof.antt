@@ -1,140 +1,189 @@
-use mathlib.Core.Path.{_≡_, refl, sym, _∙_}
+-- `play::play_on`: what is left of the steps becomes less, one after another.
+-- Assumes nothing.
+use mathlib.Core.Path.{_≡_, refl, sym, ap, _∙_}
 use Prim.Native.Nat.{ℕ, _+_, _-_, _*_, _≤_, _<_}
 use native.Mathlib.Omega.{arith}
 use borrow.Author.Needs.{needs}
 use denote.Ref.{now}
 use lib.ListN.{length}
 use Rattle.commands.specs.Book.{commandsOf}
+use Rattle.steps.specs.Meaning.{meaning}
+use Rattle.steps.proofs.Walk.{inside}
 use Rattle.rounds.specs.Rounds.{Kept}
 use Rattle.world.specs.Parts.{lent}
 use Rattle.play.specs.Played.{lineRoom}
-use Rattle.play.proofs.Laws.{Playing, playing-none, playing-end}
-use Rattle.play.proofs.Batches.{onward, playing-next}
+use Rattle.play.proofs.Laws.{Playing, playing-none, playing-more, playing-last, playing-end}
+use Rattle.play.proofs.Room.{entries-few, acks-few}
 use Rattle.play.proofs.play_on.Statement.{statement}
 use Rattle.play.proofs.play_on.Tie as tie
 
 abbrev Inv-loop : tie.InvT-loop
-Inv-loop sites₀ log₀ sent₀ kept₀ table roles book places rows commands steps out₀ from n entries₀ end₀ at₀ number₀ sites log sent kept out entries end at number =
+Inv-loop sites₀ log₀ sent₀ kept₀ rules book places rows steps out₀ from entries₀ end₀ at₀ number₀ sites log sent kept out entries end at number =
     (at ≤ length steps)
-    × (at < length steps → 2 * number ≤ at + 2)
-    × (2 * number ≤ at + 3)
+    × (2 * number ≤ at + 2)
     × (end + lineRoom ≤ from + lineRoom * number)
     × (length sites ≡ length sites₀)
     × (length log ≡ length log₀)
     × (length sent ≡ length sent₀)
     × (length out ≡ length out₀)
-    × Playing table (commandsOf book) steps out₀ from sites₀ (lent sites log entries sent) out end at number
-    × Kept table rows log entries kept
+    × Playing (rules .table) (commandsOf book) steps out₀ from sites₀ (lent sites log entries sent) out end at number
+    × Kept (rules .table) rows log entries kept
 
 abbrev μ-loop : tie.MeasureT-loop
-μ-loop sites₀ log₀ sent₀ kept₀ table roles book places rows commands steps out₀ from n entries₀ end₀ at₀ number₀ sites log sent kept out entries end at number =
+μ-loop sites₀ log₀ sent₀ kept₀ rules book places rows steps out₀ from entries₀ end₀ at₀ number₀ sites log sent kept out entries end at number =
     length steps - at
 
 loop-holds : tie.Need-loop-holds Inv-loop μ-loop
 loop-holds c =
-    let a = c .before .before .before .before .before .before .before .before .before .before in (
+    let o = c .before .before .before .before .before .before .before .before .before in
+    let a = o .args in (
       omega arith,
-      (λ l. omega arith),
       omega arith,
       omega arith,
       refl,
       refl,
       refl,
       refl,
-      playing-none (a .args .table) (commandsOf (now (a .args .book))) (now (a .args .steps)) (now (a .args .out)) (a .args .from) (a .pre .0 .held .world),
-      a .pre .2,
+      playing-none (a .rules .table) (commandsOf (now (a .book))) (now (a .steps)) (now (a .out)) (a .from) (o .pre .0 .world),
+      o .pre .1,
     )
 
-play-next-requires : tie.Need-play-next-requires Inv-loop μ-loop
-play-next-requires c κs =
-    let a = c .before .before .before .before .before .before .before .before .before .before .before .before .before .before .before .before in
+read-step-requires : tie.Need-read-step-requires Inv-loop μ-loop
+read-step-requires c κs = c .before .loop .inv .0
+
+enum-known-reading : tie.Need-enum-known-reading Inv-loop μ-loop
+enum-known-reading c = search needs
+
+enum-told : tie.Need-enum-told Inv-loop μ-loop
+enum-told c = search needs
+
+report-requires : tie.Need-report-requires Inv-loop μ-loop
+report-requires c κs =
+    let o = c .before .before .before .before .before .before .before .before .before .before .before .before .before .before .before in
     let l = c .before .before .before .before .before .loop in
-    let p = l .inv .8 in
-    let q = a .pre .0 .held in (
-      (
-        p .past,
-        record {
-          good = q .good;
-          short = q .short;
-          log = omega (arith, q .log, l .inv .5);
-          noted = q .noted;
-          conflicts = q .conflicts;
-          counted = q .counted;
-          world = p .world;
-        },
-      ),
-      a .pre .1,
-      l .inv .9,
-      omega (arith, c .before .before .before .before .loop-test .taken),
-    )
-
-tell-requires : tie.Need-tell-requires Inv-loop μ-loop
-tell-requires c κs =
-    let a = c .before .before .before .before .before .before .before .before .before .before .before .before .before .before .before .before .before .before .before .before .before .before .before .before .before .before in
-    let l = c .before .before .before .before .before .before .before .before .before .before .before .before .before .before .before .loop in
-    let s = now (a .args .steps) in
-    let g : l .at < length s = omega (arith, c .before .before .before .before .before .before .before .before .before .before .before .before .before .before .loop-test .taken) in
-    let x = onward (a .args .table) (commandsOf (now (a .args .book))) s (l .at) _ _ _ g (c .before .before .before .before .before .before .before .before .before .play-next .ensures .0) in
-    let m = l .inv .1 g in (
-      omega (arith, a .pre .0 .room, a .pre .0 .held .short, l .inv .0, l .inv .3, l .inv .7),
-      omega (arith, a .pre .0 .held .short, m, x .further, x .inside),
-      (x .verdict, x .number),
-    )
-
-loop-less : tie.Need-loop-less Inv-loop μ-loop
-loop-less c =
-    let a = c .before .before .before .before .before .before .before .before .before .before .before .before .before .before .before .before .before .before .before .before .before .before .before .before .before .before .before .before .before in
-    let l = c .before .before .before .before .before .before .before .before .before .before .before .before .before .before .before .before .before .before .loop in
-    let s = now (a .args .steps) in
-    let g : l .at < length s = omega (arith, c .before .before .before .before .before .before .before .before .before .before .before .before .before .before .before .before .before .loop-test .taken) in
-    let x = onward (a .args .table) (commandsOf (now (a .args .book))) s (l .at) _ _ _ g (c .before .before .before .before .before .before .before .before .before .before .before .before .play-next .ensures .0) in
-    let told = c .before .before .tell .ensures in
-    omega (arith, told .onward, x .further, x .inside)
-
-loop-again : tie.Need-loop-again Inv-loop μ-loop
-loop-again c =
-    let a = c .before .before .before .before .before .before .before .before .before .before .before .before .before .before .before .before .before .before .before .before .before .before .before .before .before .before .before .before .before in
-    let l = c .before .before .before .before .before .before .before .before .before .before .before .before .before .before .before .before .before .before .loop in
-    let s = now (a .args .steps) in
-    let g : l .at < length s = omega (arith, c .before .before .before .before .before .before .before .before .before .before .before .before .before .before .before .before .before .loop-test .taken) in
-    let b = c .before .before .before .before .before .before .before .before .before .before .before .before .play-next in
-    let x = onward (a .args .table) (commandsOf (now (a .args .book))) s (l .at) _ _ _ g (b .ensures .0) in
-    let told = c .before .before .tell .ensures in
-    let m = l .inv .1 g in (
-      omega (arith, told .onward, x .inside),
-      (λ n. let f = x .far (omega (arith, n, told .onward)) in omega (arith, told .onward, told .counted, m, f)),
-      omega (arith, told .onward, told .counted, m, x .further),
-      omega (arith, told .room, told .counted, l .inv .3),
-      b .kept .0 ∙ l .inv .4,
-      b .kept .1 .0 ∙ l .inv .5,
-      b .kept .1 .1 .0 ∙ l .inv .6,
-      c .before .before .tell .kept .0 ∙ l .inv .7,
-      playing-next (a .args .table) (commandsOf (now (a .args .book))) s (l .at) _ _ _ g (now (a .args .out)) (a .args .from) (l .inv .8)
-          (omega (arith, a .pre .0 .room, a .pre .0 .held .short, l .inv .0, l .inv .3, l .inv .7)) told (b .ensures .0),
-      b .ensures .1,
-    )
+    (omega (arith, o .pre .0 .room, o .pre .0 .short, l .inv .0, l .inv .1, l .inv .2, l .inv .6, c .before .before .before .before .loop-test .taken), omega (arith, o .pre .0 .short, l .inv .0, l .inv .1))
 
 same-length : tie.Need-same-length Inv-loop μ-loop
-same-length c = search needs
+same-length c = c .before .before .before .before .before .before .before .before .loop .inv .3
 
 same-length-2 : tie.Need-same-length-2 Inv-loop μ-loop
-same-length-2 c = search needs
+same-length-2 c = c .before .before .before .before .before .before .before .before .loop .inv .4
 
 same-length-3 : tie.Need-same-length-3 Inv-loop μ-loop
-same-length-3 c = search needs
+same-length-3 c = c .before .before .before .before .before .before .before .before .loop .inv .5
 
 same-length-4 : tie.Need-same-length-4 Inv-loop μ-loop
-same-length-4 c = c .before .loop .inv .9 .size ∙ sym (c .before .before .before .before .before .before .before .before .before .before .before .before .pre .2 .size)
+same-length-4 c = c .before .before .before .before .before .before .before .before .loop .inv .8 .size ∙ sym (c .before .before .before .before .before .before .before .before .before .before .before .before .before .before .before .before .before .before .pre .1 .size)
 
 same-length-5 : tie.Need-same-length-5 Inv-loop μ-loop
-same-length-5 c = search needs
+same-length-5 c = c .before .before .report .kept .0 ∙ c .before .before .before .before .before .before .before .before .loop .inv .6
 
 returns : tie.Need-returns Inv-loop μ-loop
 returns c =
-    let a = c .before .before .before .before .before .before .before .before .before .before .before .before in
+    let o = c .before .before .before .before .before .before .before .before .before .before .before .before .before .before .before .before .before .before in
+    let a = o .args in
+    let l = c .before .before .before .before .before .before .before .before .loop in
+    let w = c .before .before .report .ensures in
+    let g : l .at < length (now (a .steps)) = omega (arith, c .before .before .before .before .before .before .before .loop-test .taken) in
+    let far : l .end ≤ length (l .out) = omega (arith, o .pre .0 .room, o .pre .0 .short, l .inv .0, l .inv .1, l .inv .2, l .inv .6, g) in
+    playing-end (a .rules .table) (commandsOf (now (a .book))) (now (a .steps)) (now (a .out)) (a .from)
+    (playing-last (a .rules .table) (commandsOf (now (a .book))) (now (a .steps)) (now (a .out)) (a .from) (l .inv .7) far g (sym (c .before .before .before .before .before .before .read-step .ensures) ∙ c .before .before .before .before .enum-told .given .1) refl (w .0))
+    (omega arith) (omega (arith, o .pre .0 .short, l .inv .1, l .inv .2, w .1, g))
+
+step-requires : tie.Need-step-requires Inv-loop μ-loop
+step-requires c κs =
+    let o = c .before .before .before .before .before .before .before .before .before .before .before .before .before .before .before .before .before .before .before in
+    let a = o .args in
+    let t = a .rules .table in
+    let k = now (a .book) in
+    let q = o .pre .0 in
+    let l = c .before .before .before .before .before .before .before .before .before .loop in
+    let p = l .inv .7 in
+    let n = entries-few t k (q .good) (p .past) (p .world) in (
+      (record {
+        table = q .good;
+        conflicts = q .conflicts;
+        world = p .world .good;
+        room = omega (arith, q .log, l .inv .4);
+        acks = acks-few t k (q .good) (p .past) (p .world) (meaning (c .before .before .before .before .before .reading .given .0 .0));
+      }),
+      q .noted,
+      q .counted,
+      l .inv .8,
+    )
+
+report-requires-2 : tie.Need-report-requires-2 Inv-loop μ-loop
+report-requires-2 c κs =
+    let o = c .before .before .before .before .before .before .before .before .before .before .before .before .before .before .before .before .before .before .before .before .before .before .before .before .before .before .before .before .before in
+    let l = c .before .before .before .before .before .before .before .before .before .before .before .before .before .before .before .before .before .before .before .loop in
+    (omega (arith, o .pre .0 .room, o .pre .0 .short, l .inv .0, l .inv .1, l .inv .2, l .inv .6, c .before .before .before .before .before .before .before .before .before .before .before .before .before .before .before .before .before .before .loop-test .taken), omega (arith, o .pre .0 .short, l .inv .0, l .inv .1))
+
+size-requires : tie.Need-size-requires Inv-loop μ-loop
+size-requires c κs = search needs
+
+add-at : tie.Need-add-at Inv-loop μ-loop
+add-at c =
+    let o = c .before .before .before .before .before .before .before .before .before .before .before .before .before .before .before .before .before .before .before .before .before .before .before .before .before .before .before .before .before .before .before .before .before in
+    let l = c .before .before .before .before .before .before .before .before .before .before .before .before .before .before .before .before .before .before .before .before .before .before .before .loop in
+    let i = inside (now (o .args .steps)) (l .at) (l .inv .0) (sym (c .before .before .before .before .before .before .before .before .before .before .before .before .before .before .before .before .before .before .before .before .before .read-step .ensures) ∙ c .before .before .before .before .before .before .before .before .before .before .before .before .before .before .before .before .before .before .before .reading .given .1) (c .size .ensures) in
+    record { fits = omega (arith, o .pre .0 .short, i .1) }
+
+add-number : tie.Need-add-number Inv-loop μ-loop
+add-number c =
+    let o = c .before .before .before .before .before .before .before .before .before .before .before .before .before .before .before .before .before .before .before .before .before .before .before .before .before .before .before .before .before .before .before .before .before in
+    let l = c .before .before .before .before .before .before .before .before .before .before .before .before .before .before .before .before .before .before .before .before .before .before .before .loop in
+    record { fits = omega (arith, o .pre .0 .short, l .inv .0, l .inv .1) }
+
+loop-less : tie.Need-loop-less Inv-loop μ-loop
+loop-less c =
+    let o = c .before .before .before .before .before .before .before .before .before .before .before .before .before .before .before .before .before .before .before .before .before .before .before .before .before .before .before .before .before .before .before .before .before in
+    let l = c .before .before .before .before .before .before .before .before .before .before .before .before .before .before .before .before .before .before .before .before .before .before .before .loop in
+    let i = inside (now (o .args .steps)) (l .at) (l .inv .0) (sym (c .before .before .before .before .before .before .before .before .before .before .before .before .before .before .before .before .before .before .before .before .before .read-step .ensures) ∙ c .before .before .before .before .before .before .before .before .before .before .before .before .before .before .before .before .before .before .before .reading .given .1) (c .size .ensures) in
+    omega (arith, i .0, i .1)
+
+loop-again : tie.Need-loop-again Inv-loop μ-loop
+loop-again c =
+    let o = c .before .before .before .before .before .before .before .before .before .before .before .before .before .before .before .before .before .before .before .before .before .before .before .before .before .before .before .before .before .before .before .before .before in
+    let a = o .args in
+    let l = c .before .before .before .before .before .before .before .before .before .before .before .before .before .before .before .before .before .before .before .before .before .before .before .loop in
+    let b = c .before .before .before .before .before .before .before .before .before .before .before .before .before .step in
+    let w = c .before .before .before .report2 .ensures in
+    let e = sym (c .before .before .before .before .before .before .before .before .before .before .before .before .before .before .before .before .before .before .before .before .before .read-step .ensures) ∙ c .before .before .before .before .before .before .before .before .before .before .before .before .before .before .before .before .before .before .before .reading .given .1 in
+    let i = inside (now (a .steps)) (l .at) (l .inv .0) e (c .size .ensures) in
+    let far : l .end ≤ length (l .out) = omega (arith, o .pre .0 .room, o .pre .0 .short, l .inv .0, l .inv .1, l .inv .2, l .inv .6, c .before .before .before .before .before .before .before .before .before .before .before .before .before .before .before .before .before .before .before .before .before .before .loop-test .taken) in (
+      i .1,
+      omega (arith, l .inv .1, i .0),
+      omega (arith, w .1, l .inv .2),
+      b .kept .0 ∙ l .inv .3,
+      b .kept .1 .0 ∙ l .inv .4,
+      b .kept .1 .1 .0 ∙ l .inv .5,
+      c .before .before .before .report2 .kept .0 ∙ l .inv .6,
+      playing-more (a .rules .table) (commandsOf (now (a .book))) (now (a .steps)) (now (a .out)) (a .from) (l .inv .7) far e (ap (λ (z : ℕ). l .at + z) (c .size .ensures)) (b .ensures .0) (w .0),
+      b .ensures .1,
+    )
+
+same-length-6 : tie.Need-same-length-6 Inv-loop μ-loop
+same-length-6 c = search needs
+
+same-length-7 : tie.Need-same-length-7 Inv-loop μ-loop
+same-length-7 c = search needs
+
+same-length-8 : tie.Need-same-length-8 Inv-loop μ-loop
+same-length-8 c = search needs
+
+same-length-9 : tie.Need-same-length-9 Inv-loop μ-loop
+same-length-9 c = c .before .loop .inv .8 .size ∙ sym (c .before .before .before .before .before .before .before .before .before .before .before .pre .1 .size)
+
+same-length-10 : tie.Need-same-length-10 Inv-loop μ-loop
+same-length-10 c = search needs
+
+returns-2 : tie.Need-returns-2 Inv-loop μ-loop
+returns-2 c =
+    let o = c .before .before .before .before .before .before .before .before .before .before .before in
+    let a = o .args in
     let l = c .before .loop in
-    playing-end (a .args .table) (commandsOf (now (a .args .book))) (now (a .args .steps)) (now (a .args .out)) (a .args .from) (l .inv .8)
-    (omega arith) (omega (arith, a .pre .0 .held .short, l .inv .2, l .inv .3))
+    playing-end (a .rules .table) (commandsOf (now (a .book))) (now (a .steps)) (now (a .out)) (a .from) (l .inv .7)
+    (omega arith) (omega (arith, o .pre .0 .short, l .inv .0, l .inv .1, l .inv .2))
 
 pub play-on-spec : {M : Type 1} → statement M
 play-on-spec =
@@ -143,13 +192,26 @@ play-on-spec =
     Inv-loop
     μ-loop
     loop-holds
-    play-next-requires
-    tell-requires
-    loop-less
-    loop-again
+    read-step-requires
+    enum-known-reading
+    enum-told
+    report-requires
     same-length
     same-length-2
     same-length-3
     same-length-4
     same-length-5
-    returns)
+    returns
+    step-requires
+    report-requires-2
+    size-requires
+    add-at
+    add-number
+    loop-less
+    loop-again
+    same-length-6
+    same-length-7
+    same-length-8
+    same-length-9
+    same-length-10
+    returns-2)

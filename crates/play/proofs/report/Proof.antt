@@ -1,31 +1,52 @@
--- `play::report`: a line where the answer is not 0.
+-- `play::report`: a line where the step is refused.
 -- Assumes nothing.
 use native.Mathlib.Omega.{arith}
 use borrow.Author.Needs.{needs}
-use Rattle.lines.proofs.Laws.{step-short}
-use Rattle.play.proofs.Laws.{code-small, silent, loud}
+use Rattle.play.proofs.Laws.{number-small, line-short, silent, loud}
 use Rattle.play.proofs.report.Statement.{statement}
 use Rattle.play.proofs.report.Tie as tie
 
+enum-known-verdict : tie.Need-enum-known-verdict
+enum-known-verdict c = search needs
+
+enum-told : tie.Need-enum-told
+enum-told c = search needs
+
 returns : tie.Need-returns
-returns c = let a = c .before .before .args in (silent _ (a .at) (a .number) (c .if1 .taken), omega arith)
+returns c = let a = c .before .before .before .args in (silent _ (a .at) (a .number) (c .enum-told .given .1), omega arith)
+
+number-requires : tie.Need-number-requires
+number-requires c κs = search needs
+
+cast-cause : tie.Need-cast-cause
+cast-cause c = search needs
 
 put-step-line-requires : tie.Need-put-step-line-requires
 put-step-line-requires c κs =
-    let s = c .before .before .before in
-    let n = code-small (s .pre .2 .0) in
-    omega (arith, step-short (s .args .number) (s .args .code) (s .pre .1) (omega (arith, s .pre .2 .1)))
+    let o = c .before .before .before .before .before .before in
+    let l = number-small (c .before .before .before .verdict .given .0 .0) in
+    omega (arith, o .pre .0, line-short (o .args .number) (c .before .number .result) (o .pre .1) (omega (arith, l, c .before .number .ensures)))
 
 same-length : tie.Need-same-length
 same-length c = search needs
 
 returns-2 : tie.Need-returns-2
 returns-2 c =
-    let s = c .before .before .before .before .before .before in
-    let n = code-small (s .pre .2 .0) in (
-      loud (s .args .number) (c .before .before .before .before .if1 .left) (c .before .before .put-step-line .ensures),
-      omega (arith, step-short (s .args .number) (s .args .code) (s .pre .1) (omega (arith, s .pre .2 .1)), c .before .before .put-step-line .ensures .end),
+    let o = c .before .before .before .before .before .before .before .before .before in
+    let w = c .before .before .put-step-line .ensures in (
+      loud (o .args .number) (c .before .before .before .before .before .before .verdict .given .1) (c .before .before .before .before .number .ensures) w,
+      omega (arith, w .end, line-short (o .args .number) (c .before .before .before .before .number .result) (o .pre .1) (omega (arith, number-small (c .before .before .before .before .before .before .verdict .given .0 .0), c .before .before .before .before .number .ensures))),
     )
 
 pub report-spec : {M : Type 1} → statement M
-report-spec = tie.close (tie.spec returns put-step-line-requires same-length returns-2)
+report-spec =
+    tie.close
+    (tie.spec
+    enum-known-verdict
+    enum-told
+    returns
+    number-requires
+    cast-cause
+    put-step-line-requires
+    same-length
+    returns-2)

@@ -62,7 +62,6 @@ enter-first-requires c κs =
       er,
       once-read (now (a .kept)) (c .before .before .before .before .before .before .round-of .result) (c .before .before .before .before .before .site-of .result)
           (c .before .before .before .load .ensures) (c .before .before .has .ensures) (c .before .if1 .left),
-      s .pre .6,
     )
 
 same-length-2 : tie.Need-same-length-2

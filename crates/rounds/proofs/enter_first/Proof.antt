@@ -4,8 +4,10 @@ use borrow.Author.Needs.{needs}
 use mathlib.Core.Path.{sym, ap, _∙_}
 use denote.Ref.{now}
 use native.Mathlib.Omega.{arith}
-use Rattle.table.specs.Table.{faultyOf}
+use Rattle.sets.specs.declared.Set.{Set}
+use Rattle.sets.specs.Sets.{inSet}
 use Rattle.table.proofs.Laws.{good-limits}
+use Rattle.calm.specs.Rows.{freeBy}
 use Rattle.rounds.proofs.Noting.{taken-decided, taken-unfree, taken-waiting, counts-before, taken-deciding}
 use Rattle.rounds.proofs.enter_first.Statement.{statement}
 use Rattle.rounds.proofs.enter_first.Tie as tie
@@ -46,25 +48,26 @@ returns c =
     taken-decided (a .table) (now (a .rows)) (now (a .log)) (a .k) (a .round) (now (a .kept)) (a .site) (s .pre .0) (s .pre .1) (s .pre .4) (s .pre .5) (s .pre .6) (s .pre .7)
     (s .pre .8) (c .before .before .before .note-first .ensures) (c .if1 .taken)
 
-has-free-nc-requires : tie.Need-has-free-nc-requires
-has-free-nc-requires c κs =
-    let s = c .before .before .before .before .before .before .before .before .before .before .before in
-    (s .pre .2, s .pre .3, λ e. s .pre .9 (ap (faultyOf (s .args .table)) (sym (s .pre .6)) ∙ e))
+nc-of-requires : tie.Need-nc-of-requires
+nc-of-requires c κs = search needs
+
+is-free-requires : tie.Need-is-free-requires
+is-free-requires c κs = search needs
 
 same-length-2 : tie.Need-same-length-2
 same-length-2 c = search needs
 
 returns-2 : tie.Need-returns-2
 returns-2 c =
-    let s = c .before .before .before .before .before .before .before .before .before .before .before .before .before in
+    let s = c .before .before .before .before .before .before .before .before .before .before .before .before .before .before in
     let a = s .args in
     taken-unfree (a .table) (now (a .rows)) (now (a .log)) (a .k) (a .round) (now (a .kept)) (a .site) (s .pre .0) (s .pre .1) (s .pre .4) (s .pre .5) (s .pre .6) (s .pre .7)
-    (s .pre .8) (c .before .before .before .before .before .note-first .ensures) (c .before .before .if1 .left)
-    (c .before .has-free-nc .ensures) (c .if2 .taken)
+    (s .pre .8) (c .before .before .before .before .before .before .note-first .ensures) (c .before .before .before .if1 .left)
+    (c .before .is-free .ensures ∙ ap (λ (x : Set). freeBy (now (a .rows)) (inSet x)) (c .before .before .nc-of .ensures)) (c .if2 .taken)
 
 with-requires : tie.Need-with-requires
 with-requires c κs =
-    let s = c .before .before .before .before .before .before .before .before .before .before .before .before .before in
+    let s = c .before .before .before .before .before .before .before .before .before .before .before .before .before .before in
     omega (arith, s .pre .4, good-limits (s .args .table) (s .pre .0))
 
 add-store : tie.Need-add-store
@@ -84,33 +87,33 @@ same-length-3 c = search needs
 
 returns-3 : tie.Need-returns-3
 returns-3 c =
-    let s = c .before .before .before .before .before .before .before .before .before .before .before .before .before .before .before .before .before .before .before .before .before in
+    let s = c .before .before .before .before .before .before .before .before .before .before .before .before .before .before .before .before .before .before .before .before .before .before in
     let a = s .args in
     taken-waiting (a .table) (now (a .rows)) (now (a .log)) (a .k) (a .round) (now (a .kept)) (a .site) (s .pre .0) (s .pre .1) (s .pre .4) (s .pre .5) (s .pre .6) (s .pre .7)
-    (s .pre .8) (c .before .before .before .before .before .before .before .before .before .before .before .before .before .note-first .ensures)
-    (c .before .before .before .before .before .before .before .before .before .before .if1 .left)
-    (c .before .before .before .before .before .before .before .before .before .has-free-nc .ensures)
+    (s .pre .8) (c .before .before .before .before .before .before .before .before .before .before .before .before .before .before .note-first .ensures)
+    (c .before .before .before .before .before .before .before .before .before .before .before .if1 .left)
+    (c .before .before .before .before .before .before .before .before .before .is-free .ensures ∙ ap (λ (x : Set). freeBy (now (a .rows)) (inSet x)) (c .before .before .before .before .before .before .before .before .before .before .nc-of .ensures))
     (c .before .before .before .before .before .before .before .before .if2 .left)
-    (c .before .before .before .before .before .before .before .before .before .before .before .before .before .before .before .before .load .ensures)
+    (c .before .before .before .before .before .before .before .before .before .before .before .before .before .before .before .before .before .load .ensures)
     (c .before .before .before .before .before .before .before .with .ensures) (c .before .before .before .before .before .store .ensures)
     (c .before .before .size .ensures) (c .before .n-chk .ensures) (c .if3 .taken)
 
 note-decision-requires : tie.Need-note-decision-requires
 note-decision-requires c κs =
-    let s = c .before .before .before .before .before .before .before .before .before .before .before .before .before .before .before .before .before .before .before .before .before .before in
+    let s = c .before .before .before .before .before .before .before .before .before .before .before .before .before .before .before .before .before .before .before .before .before .before .before in
     let a = s .args in
-    let size = c .before .before .before .before .before .before .store .kept .1 .0 ∙ c .before .before .before .before .before .before .before .before .before .before .before .before .before .before .note-first .kept .0 ∙ s .pre .1 .size in (
+    let size = c .before .before .before .before .before .before .store .kept .1 .0 ∙ c .before .before .before .before .before .before .before .before .before .before .before .before .before .before .before .note-first .kept .0 ∙ s .pre .1 .size in (
       s .pre .0,
       s .pre .2,
       size,
       s .pre .5,
       sym (s .pre .7),
       counts-before (a .table) (now (a .rows)) (now (a .log)) (a .k) (a .round) (now (a .kept)) (a .site) (s .pre .0) (s .pre .1) (s .pre .4) (s .pre .5) (s .pre .6) (s .pre .7)
-          (s .pre .8) (c .before .before .before .before .before .before .before .before .before .before .before .before .before .before .note-first .ensures)
-          (c .before .before .before .before .before .before .before .before .before .before .before .if1 .left)
-          (c .before .before .before .before .before .before .before .before .before .before .has-free-nc .ensures)
+          (s .pre .8) (c .before .before .before .before .before .before .before .before .before .before .before .before .before .before .before .note-first .ensures)
+          (c .before .before .before .before .before .before .before .before .before .before .before .before .if1 .left)
+          (c .before .before .before .before .before .before .before .before .before .before .is-free .ensures ∙ ap (λ (x : Set). freeBy (now (a .rows)) (inSet x)) (c .before .before .before .before .before .before .before .before .before .before .before .nc-of .ensures))
           (c .before .before .before .before .before .before .before .before .before .if2 .left)
-          (c .before .before .before .before .before .before .before .before .before .before .before .before .before .before .before .before .before .load .ensures)
+          (c .before .before .before .before .before .before .before .before .before .before .before .before .before .before .before .before .before .before .load .ensures)
           (c .before .before .before .before .before .before .before .before .with .ensures) (c .before .before .before .before .before .before .store .ensures),
     )
 
@@ -119,14 +122,14 @@ same-length-4 c = search needs
 
 returns-4 : tie.Need-returns-4
 returns-4 c =
-    let s = c .before .before .before .before .before .before .before .before .before .before .before .before .before .before .before .before .before .before .before .before .before .before .before .before .before in
+    let s = c .before .before .before .before .before .before .before .before .before .before .before .before .before .before .before .before .before .before .before .before .before .before .before .before .before .before in
     let a = s .args in
     taken-deciding (a .table) (now (a .rows)) (now (a .log)) (a .k) (a .round) (now (a .kept)) (a .site) (s .pre .0) (s .pre .1) (s .pre .4) (s .pre .5) (s .pre .6) (s .pre .7)
-    (s .pre .8) (c .before .before .before .before .before .before .before .before .before .before .before .before .before .before .before .before .before .note-first .ensures)
-    (c .before .before .before .before .before .before .before .before .before .before .before .before .before .before .if1 .left)
-    (c .before .before .before .before .before .before .before .before .before .before .before .before .before .has-free-nc .ensures)
+    (s .pre .8) (c .before .before .before .before .before .before .before .before .before .before .before .before .before .before .before .before .before .before .note-first .ensures)
+    (c .before .before .before .before .before .before .before .before .before .before .before .before .before .before .before .if1 .left)
+    (c .before .before .before .before .before .before .before .before .before .before .before .before .before .is-free .ensures ∙ ap (λ (x : Set). freeBy (now (a .rows)) (inSet x)) (c .before .before .before .before .before .before .before .before .before .before .before .before .before .before .nc-of .ensures))
     (c .before .before .before .before .before .before .before .before .before .before .before .before .if2 .left)
-    (c .before .before .before .before .before .before .before .before .before .before .before .before .before .before .before .before .before .before .before .before .load .ensures)
+    (c .before .before .before .before .before .before .before .before .before .before .before .before .before .before .before .before .before .before .before .before .before .load .ensures)
     (c .before .before .before .before .before .before .before .before .before .before .before .with .ensures) (c .before .before .before .before .before .before .before .before .before .store .ensures)
     (c .before .before .before .before .before .before .size .ensures) (c .before .before .before .before .before .n-chk .ensures) (c .before .before .before .before .if3 .left)
     (c .before .before .note-decision .ensures)
@@ -145,7 +148,8 @@ enter-first-spec =
     note-first-requires
     same-length
     returns
-    has-free-nc-requires
+    nc-of-requires
+    is-free-requires
     same-length-2
     returns-2
     with-requires

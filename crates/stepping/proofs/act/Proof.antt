@@ -3,10 +3,10 @@
 use borrow.Author.Needs.{needs}
 use denote.Ref.{now}
 use native.Mathlib.Omega.{arith}
-use Rattle.commands.specs.Book.{commandsOf}
 use mathlib.Core.Path.{sym}
+use Rattle.commands.specs.Book.{commandsOf}
 use Rattle.world.specs.Parts.{lent}
-use Rattle.stepping.proofs.Arms.{is-arrival, arm, numbered, ready-as, good-sites, kept-log, few}
+use Rattle.stepping.proofs.Arms.{is-arrival, arm, ready-as, good-sites, kept-log, few}
 use Rattle.stepping.proofs.act.Statement.{statement}
 use Rattle.stepping.proofs.act.Tie as tie
 
@@ -15,54 +15,65 @@ enum-known-step c = search needs
 
 false-entry-requires : tie.Need-false-entry-requires
 false-entry-requires c κs =
-    let o = c .before .before .before .before .before .before .before .before .before .before .before .before in
-    (o .pre .0 .room, o .pre .0 .table, o .pre .2, (now (o .args .rows), o .pre .4))
+    let o = c .before .before .before .before .before .before .before .before .before .before .before in
+    (o .pre .0 .room, o .pre .0 .table, (now (o .args .rows), o .pre .3))
 
 enum-known-step-2 : tie.Need-enum-known-step-2
 enum-known-step-2 c = search needs
 
 turn-requires : tie.Need-turn-requires
 turn-requires c κs =
-    let o = c .before .before .before .before .before .before .before .before .before .before .before .before .before .before in
-    ((now (o .args .book), ready-as (o .args .table) (now (o .args .book)) (now (o .args .rows)) (lent (now (o .args .sites)) (now (o .args .log)) (o .args .entries) (now (o .args .sent))) (c .before .before .before .before .step2 .given .1) (o .pre .0)), o .pre .2)
+    let o = c .before .before .before .before .before .before .before .before .before .before .before .before .before in
+    let a = o .args in
+    ((now (a .book), ready-as (a .rules .table) (now (a .book)) (now (a .rows)) (lent (now (a .sites)) (now (a .log)) (a .entries) (now (a .sent))) (c .before .before .before .before .step2 .given .1) (o .pre .0)), o .pre .3)
 
 enum-known-step-3 : tie.Need-enum-known-step-3
 enum-known-step-3 c = search needs
 
 fast-delivery-requires : tie.Need-fast-delivery-requires
 fast-delivery-requires c κs =
-    let o = c .before .before .before .before .before .before .before .before .before .before .before .before in
-    (good-sites (o .args .table) (now (o .args .book)) (o .args .commands) (lent (now (o .args .sites)) (now (o .args .log)) (o .args .entries) (now (o .args .sent))) (o .pre .3) (o .pre .0 .world), o .pre .0 .table, o .pre .2, o .pre .1, o .pre .3)
+    let o = c .before .before .before .before .before .before .before .before .before .before .before in
+    let a = o .args in
+    (good-sites (a .rules .table) (now (a .book)) (a .rules .commands) (lent (now (a .sites)) (now (a .log)) (a .entries) (now (a .sent))) (o .pre .2) (o .pre .0 .world), o .pre .0 .table, o .pre .1, o .pre .2)
 
 enum-known-step-4 : tie.Need-enum-known-step-4
 enum-known-step-4 c = search needs
 
 log-read-requires : tie.Need-log-read-requires
 log-read-requires c κs =
-    let o = c .before .before .before .before .before .before .before .before .before .before .before .before in
-    let w = o .pre .0 .world in
-    (w .size, o .pre .2, omega (arith, w .room, w .short))
+    let w = c .before .before .before .before .before .before .before .before .before .before .before .pre .0 .world in
+    (w .size, omega (arith, w .room, w .short))
 
 enum-known-step-5 : tie.Need-enum-known-step-5
 enum-known-step-5 c = search needs
 
 round-end-requires : tie.Need-round-end-requires
 round-end-requires c κs =
-    let o = c .before .before .before .before .before .before .before .before .before .before .before .before in
-    (good-sites (o .args .table) (now (o .args .book)) (o .args .commands) (lent (now (o .args .sites)) (now (o .args .log)) (o .args .entries) (now (o .args .sent))) (o .pre .3) (o .pre .0 .world), (now (o .args .log), o .args .entries, kept-log (o .args .table) (now (o .args .book)) (o .args .commands) (lent (now (o .args .sites)) (now (o .args .log)) (o .args .entries) (now (o .args .sent))) (o .pre .3) (o .pre .0 .world) (o .pre .0 .conflicts) (λ k. c .before .before .before .before .before .before .before .before .before .before .slice-known2 .given k .fits) (o .pre .4), o .pre .0 .ends _), o .pre .0 .table, o .pre .2, o .pre .1, o .pre .3)
+    let o = c .before .before .before .before .before .before .before .before .before .before .before in
+    let a = o .args in
+    let b = lent (now (a .sites)) (now (a .log)) (a .entries) (now (a .sent)) in (
+      good-sites (a .rules .table) (now (a .book)) (a .rules .commands) b (o .pre .2) (o .pre .0 .world),
+      (now (a .log), a .entries, kept-log (a .rules .table) (now (a .book)) (a .rules .commands) b (o .pre .2) (o .pre .0 .world) (o .pre .0 .conflicts) (λ k. c .before .before .before .before .before .before .before .before .before .slice-known2 .given k .fits) (o .pre .3)),
+      o .pre .0 .table,
+      o .pre .1,
+      o .pre .2,
+    )
 
 arrive-requires : tie.Need-arrive-requires
 arrive-requires c κs =
-    let o = c .before .before .before .before .before .before .before .before .before .before .before in
-    (o .pre .0 .world .size, o .pre .0 .table, o .pre .2, o .pre .0 .world .sent, few (o .args .table) (now (o .args .book)) (o .args .commands) (lent (now (o .args .sites)) (now (o .args .log)) (o .args .entries) (now (o .args .sent))) (o .pre .3) (o .pre .0 .world))
+    let o = c .before .before .before .before .before .before .before .before .before .before in
+    let a = o .args in
+    (o .pre .0 .world .size, o .pre .0 .table, o .pre .0 .world .sent, few (a .rules .table) (now (a .book)) (a .rules .commands) (lent (now (a .sites)) (now (a .log)) (a .entries) (now (a .sent))) (o .pre .2) (o .pre .0 .world))
 
 same-length : tie.Need-same-length
 same-length c = search needs
 
 returns : tie.Need-returns
 returns c =
-    let o = c .before .before .before .before .before .before .before .before .before .before .before .before .before .before .before in
-    arm (o .args .table) (commandsOf (now (o .args .book))) (lent (now (o .args .sites)) (now (o .args .log)) (o .args .entries) (now (o .args .sent))) _ (c .before .before .before .before .before .step .given .1) (c .before .before .false-entry .ensures (commandsOf (now (o .args .book))) (now (o .args .sites)) (now (o .args .sent)) (sym (o .pre .3)) (o .pre .0 .world) (λ k. c .before .before .before .before .before .before .before .before .before .before .before .before .before .before .slice-known .given k .fits))
+    let o = c .before .before .before .before .before .before .before .before .before .before .before .before .before .before in
+    let a = o .args in
+    arm (a .rules .table) (commandsOf (now (a .book))) (lent (now (a .sites)) (now (a .log)) (a .entries) (now (a .sent))) _ (c .before .before .before .before .before .step .given .1)
+    (c .before .before .false-entry .ensures (commandsOf (now (a .book))) (now (a .sites)) (now (a .sent)) (sym (o .pre .2)) (o .pre .0 .world) (λ k. c .before .before .before .before .before .before .before .before .before .before .before .before .before .slice-known .given k .fits))
 
 same-length-2 : tie.Need-same-length-2
 same-length-2 c = search needs
@@ -75,47 +86,54 @@ same-length-4 c = search needs
 
 returns-2 : tie.Need-returns-2
 returns-2 c =
-    let o = c .before .before .before .before .before .before .before .before .before .before .before .before .before .before .before .before .before .before .before .before .before in
-    arm (o .args .table) (commandsOf (now (o .args .book))) (lent (now (o .args .sites)) (now (o .args .log)) (o .args .entries) (now (o .args .sent))) _ (c .before .before .before .before .before .before .before .before .before .before .before .step2 .given .1) (c .before .before .before .before .before .before .turn .ensures (now (o .args .book)) (ready-as (o .args .table) (now (o .args .book)) (now (o .args .rows)) (lent (now (o .args .sites)) (now (o .args .log)) (o .args .entries) (now (o .args .sent))) (c .before .before .before .before .before .before .before .before .before .before .before .step2 .given .1) (o .pre .0)))
+    let o = c .before .before .before .before .before .before .before .before .before .before .before .before .before .before .before .before .before .before .before .before in
+    let a = o .args in
+    let b = lent (now (a .sites)) (now (a .log)) (a .entries) (now (a .sent)) in
+    arm (a .rules .table) (commandsOf (now (a .book))) b _ (c .before .before .before .before .before .before .before .before .before .before .before .step2 .given .1)
+    (c .before .before .before .before .before .before .turn .ensures (now (a .book)) (ready-as (a .rules .table) (now (a .book)) (now (a .rows)) b (c .before .before .before .before .before .before .before .before .before .before .before .step2 .given .1) (o .pre .0)))
 
 same-length-5 : tie.Need-same-length-5
 same-length-5 c = search needs
 
 returns-3 : tie.Need-returns-3
 returns-3 c =
-    let o = c .before .before .before .before .before .before .before .before .before .before .before .before .before .before .before in
-    let h = c .before .before .fast-delivery .ensures in
-    arm (o .args .table) (commandsOf (now (o .args .book))) (lent (now (o .args .sites)) (now (o .args .log)) (o .args .entries) (now (o .args .sent))) _ (c .before .before .before .before .before .step3 .given .1) (numbered (o .args .table) (commandsOf (now (o .args .book))) (lent (now (o .args .sites)) (now (o .args .log)) (o .args .entries) (now (o .args .sent))) _ (h .0, (h .1 .0, h .1 .1 (now (o .args .log)) (o .args .entries) (now (o .args .sent)) (o .pre .0 .world))))
+    let o = c .before .before .before .before .before .before .before .before .before .before .before .before .before .before in
+    let a = o .args in
+    arm (a .rules .table) (commandsOf (now (a .book))) (lent (now (a .sites)) (now (a .log)) (a .entries) (now (a .sent))) _ (c .before .before .before .before .before .step3 .given .1)
+    (c .before .before .fast-delivery .ensures (now (a .log)) (a .entries) (now (a .sent)) (o .pre .0 .world))
 
 same-length-6 : tie.Need-same-length-6
 same-length-6 c = search needs
 
 returns-4 : tie.Need-returns-4
 returns-4 c =
-    let o = c .before .before .before .before .before .before .before .before .before .before .before .before .before .before .before in
-    let h = c .before .before .log-read .ensures in
-    arm (o .args .table) (commandsOf (now (o .args .book))) (lent (now (o .args .sites)) (now (o .args .log)) (o .args .entries) (now (o .args .sent))) _ (c .before .before .before .before .before .step4 .given .1) (numbered (o .args .table) (commandsOf (now (o .args .book))) (lent (now (o .args .sites)) (now (o .args .log)) (o .args .entries) (now (o .args .sent))) _ (h .0, (h .1 .0, h .1 .1 (commandsOf (now (o .args .book))) (now (o .args .log)) (now (o .args .sent)) (o .pre .0 .world) (o .pre .0 .twice))))
+    let o = c .before .before .before .before .before .before .before .before .before .before .before .before .before .before in
+    let a = o .args in
+    arm (a .rules .table) (commandsOf (now (a .book))) (lent (now (a .sites)) (now (a .log)) (a .entries) (now (a .sent))) _ (c .before .before .before .before .before .step4 .given .1)
+    (c .before .before .log-read .ensures (commandsOf (now (a .book))) (now (a .log)) (now (a .sent)) (o .pre .0 .world))
 
 same-length-7 : tie.Need-same-length-7
 same-length-7 c = search needs
 
-same-length-8 : tie.Need-same-length-8
-same-length-8 c = search needs
-
 returns-5 : tie.Need-returns-5
 returns-5 c =
-    let o = c .before .before .before .before .before .before .before .before .before .before .before .before .before .before .before in
-    let h = c .before .before .round-end .ensures in
-    arm (o .args .table) (commandsOf (now (o .args .book))) (lent (now (o .args .sites)) (now (o .args .log)) (o .args .entries) (now (o .args .sent))) _ (c .before .before .before .before .before .step5 .given .1) (numbered (o .args .table) (commandsOf (now (o .args .book))) (lent (now (o .args .sites)) (now (o .args .log)) (o .args .entries) (now (o .args .sent))) _ (h .0, (h .1 .0, h .1 .1 (now (o .args .log)) (o .args .entries) (kept-log (o .args .table) (now (o .args .book)) (o .args .commands) (lent (now (o .args .sites)) (now (o .args .log)) (o .args .entries) (now (o .args .sent))) (o .pre .3) (o .pre .0 .world) (o .pre .0 .conflicts) (λ k. c .before .before .before .before .before .before .before .before .before .before .before .before .before .slice-known2 .given k .fits) (o .pre .4)) (now (o .args .sent)) (o .pre .0 .world))))
+    let o = c .before .before .before .before .before .before .before .before .before .before .before .before .before .before in
+    let a = o .args in
+    let b = lent (now (a .sites)) (now (a .log)) (a .entries) (now (a .sent)) in
+    arm (a .rules .table) (commandsOf (now (a .book))) b _ (c .before .before .before .before .before .step5 .given .1)
+    (c .before .before .round-end .ensures (now (a .log)) (a .entries) (kept-log (a .rules .table) (now (a .book)) (a .rules .commands) b (o .pre .2) (o .pre .0 .world) (o .pre .0 .conflicts) (λ k. c .before .before .before .before .before .before .before .before .before .before .before .before .slice-known2 .given k .fits) (o .pre .3)) (now (a .sent)) (o .pre .0 .world))
+
+same-length-8 : tie.Need-same-length-8
+same-length-8 c = search needs
 
 same-length-9 : tie.Need-same-length-9
 same-length-9 c = search needs
 
 returns-6 : tie.Need-returns-6
 returns-6 c =
-    let o = c .before .before .before .before .before .before .before .before .before .before .before .before .before .before in
-    let h = c .before .before .arrive .ensures (is-arrival (o .args .step) (c .before .before .before .before .before .match .keys6)) in
-    numbered (o .args .table) (commandsOf (now (o .args .book))) (lent (now (o .args .sites)) (now (o .args .log)) (o .args .entries) (now (o .args .sent))) _ (h .0, (h .1 .0, h .1 .1 (commandsOf (now (o .args .book))) (now (o .args .log)) (o .args .entries) (sym (o .pre .3)) (o .pre .0 .world)))
+    let o = c .before .before .before .before .before .before .before .before .before .before .before .before .before in
+    let a = o .args in
+    c .before .before .arrive .ensures (is-arrival (a .step) (c .before .before .before .before .before .match .keys6)) (commandsOf (now (a .book))) (now (a .log)) (a .entries) (sym (o .pre .2)) (o .pre .0 .world)
 
 pub act-spec : {M : Type 1} → statement M
 act-spec =

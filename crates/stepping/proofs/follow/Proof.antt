@@ -11,7 +11,7 @@ append-requires c κs =
     let o = c .before .before .before .before .before in
     let e = o .pre .3 (c .before .if1 .taken) in
     let g = o .pre .4 e in
-    (o .pre .0, o .pre .1, g .0, o .pre .2, g .1, g .2, g .3)
+    (o .pre .0, o .pre .1, g .0, o .pre .2, g .1, g .2)
 
 same-length : tie.Need-same-length
 same-length c = search needs

@@ -4,6 +4,7 @@ use borrow.Author.Needs.{needs}
 use denote.Ref.{now}
 use mathlib.Core.Path.{ap, _∙_}
 use lib.ListN.{length}
+use Rattle.commands.specs.Book.{commandsOf}
 use Rattle.conflicts.proofs.Laws.{rows-size}
 use Rattle.world.specs.Parts.{lent}
 use Rattle.stepping.proofs.Following.{kept-still, one-more, appended-good}
@@ -16,14 +17,15 @@ act-requires c κs = search needs
 follow-requires : tie.Need-follow-requires
 follow-requires c κs =
     let o = c .before .before .before .before .before .before .before .before .before .before .before .before .before .before .before .before .before .before .before .before .before in
-    let book = now (o .args .book) in
+    let t = o .args .rules .table in
+    let book = commandsOf (now (o .args .book)) in
     let b = lent (now (o .args .sites)) (now (o .args .log)) (o .args .entries) (now (o .args .sent)) in
-    let h = c .before .before .before .before .before .before .before .before .act .ensures .outcome in (
+    let h = c .before .before .before .before .before .before .before .before .before .act .ensures in (
       o .pre .0 .table,
-      kept-still (o .args .table) book (now (o .args .rows)) b (o .pre .0) h (now (o .args .kept)) (o .pre .4),
-      ap length (o .pre .0 .conflicts) ∙ rows-size book,
-      one-more (o .args .table) book (now (o .args .rows)) b (o .pre .0) h,
-      appended-good (o .args .table) book (now (o .args .rows)) b (o .pre .0) h,
+      kept-still t book b (o .pre .0 .room) h (now (o .args .rows)) (now (o .args .kept)) (o .pre .3),
+      ap length (o .pre .0 .conflicts) ∙ rows-size (now (o .args .book)),
+      one-more t book b (o .pre .0 .room) h,
+      appended-good t book b (o .pre .0 .room) h,
     )
 
 same-length : tie.Need-same-length
@@ -39,7 +41,7 @@ same-length-4 : tie.Need-same-length-4
 same-length-4 c = search needs
 
 returns : tie.Need-returns
-returns c = (c .before .before .before .before .before .before .before .before .before .before .before .act .ensures, c .before .before .follow .ensures)
+returns c = (c .before .before .before .before .before .before .before .before .before .before .before .before .act .ensures, c .before .before .follow .ensures)
 
 pub step-spec : {M : Type 1} → statement M
 step-spec =
