@@ -1,78 +1,83 @@
+-- `delivering::end_round`: the round ends with the decided sets, or undecided.
+-- Assumes nothing.
 use borrow.Author.Needs.{needs}
+use mathlib.Core.Path.{_≡_, refl, sym, ap, subst, _∙_}
+use mathlib.Core.Bool.{true}
+use native.Mathlib.Omega.{arith}
+use denote.Ref.{now}
+use lib.ListN.{length}
+use Rattle.sets.specs.declared.Set.{Set}
+use Rattle.sets.specs.Sets.{withinOf}
+use Rattle.conflicts.proofs.Laws.{rows-size}
+use Rattle.layout.proofs.Tables.{within-empty}
+use Rattle.delivering.proofs.Laws.{decided-by, within-sets, ended-undecided, ended-decided}
 use Rattle.delivering.proofs.end_round.Statement.{statement}
 use Rattle.delivering.proofs.end_round.Tie as tie
-use Rattle.delivering.proofs.end_round.Reads as reads
-use Rattle.delivering.proofs.end_round.Lts as lts
-use Rattle.conflicts.proofs.conflict_rows.Reads as conflict-rows-reads
-use Rattle.ending.proofs.round_end.Reads as round-end-reads
-use Rattle.judging.proofs.position_of.Reads as position-of-reads
-use Rattle.layout.proofs.round.Reads as round-reads
-use Rattle.recovery.proofs.decide.Reads as decide-reads
-use Rattle.sets.proofs.Set.empty.Reads as empty-reads
 
--- src/lib.rt:69:54
 slice-aggregate-conflict-rows : tie.Need-slice-aggregate-conflict-rows
 slice-aggregate-conflict-rows c = search needs
 
--- src/lib.rt:69:5
 conflict-rows-requires : tie.Need-conflict-rows-requires
-conflict-rows-requires c κs = search needs
+conflict-rows-requires c κs = (refl, sym (c .before .before .before .before .before .before .pre .3), c .before .before .before .before .before .before .pre .2)
 
--- src/lib.rt:70:9
 position-of-requires : tie.Need-position-of-requires
 position-of-requires c κs = search needs
 
--- src/lib.rt:71:17
 round-requires : tie.Need-round-requires
 round-requires c κs = search needs
 
--- src/lib.rt:71:17
 cast-round : tie.Need-cast-round
 cast-round c = search needs
 
--- src/lib.rt:72:66
 slice-aggregate-decide : tie.Need-slice-aggregate-decide
 slice-aggregate-decide c = search needs
 
--- src/lib.rt:72:9
 decide-requires : tie.Need-decide-requires
-decide-requires c κs = search needs
+decide-requires c κs = (c .before .before .before .before .before .before .before .before .before .before .before .before .before .pre .1, omega (arith, c .before .before .before .before .before .before .before .before .before .before .before .before .before .pre .4, c .before .before .before .position-of .ensures), ap length (c .before .before .before .before .before .before .conflict-rows .ensures) ∙ rows-size (now (c .before .before .before .before .before .before .before .before .before .before .before .before .before .args .book)))
 
--- src/lib.rt:75:17
 enum-told : tie.Need-enum-told
 enum-told c = search needs
 
--- src/lib.rt:75:17
 empty-requires : tie.Need-empty-requires
 empty-requires c κs = search needs
 
--- src/lib.rt:76:13
 round-end-requires : tie.Need-round-end-requires
-round-end-requires c κs = ?
+round-end-requires c κs =
+    let p = c .before .before .before .before .before .before .before .before .before .before .before .before .before .before .before .before .before .before .pre in
+    let a = c .before .before .before .before .before .before .before .before .before .before .before .before .before .before .before .before .before .before .args in
+    let w = subst (λ (x : Set). withinOf x (a .rules .commands) ≡ true) (sym (c .before .empty .ensures)) (within-empty (a .rules .commands)) in
+    ((a .rules .table .sites, p .0), p .2, p .3, w, w)
 
--- src/lib.rt:78:27
 enum-known-decision : tie.Need-enum-known-decision
 enum-known-decision c = search needs
 
--- src/lib.rt:81:13
 round-end-requires-2 : tie.Need-round-end-requires-2
-round-end-requires-2 c κs = ?
+round-end-requires-2 c κs =
+    let p = c .before .before .before .before .before .before .before .before .before .before .before .before .before .before .before .before .before .before .before .before .pre in
+    let a = c .before .before .before .before .before .before .before .before .before .before .before .before .before .before .before .before .before .before .before .before .args in
+    let d = decided-by (a .rules .table) (now (a .book)) (now (a .log)) (now (a .site)) (c .before .before .before .before .before .before .before .before .before .before .before .before .before .conflict-rows .ensures) (c .before .before .before .before .before .before .before .before .before .before .position-of .ensures) (c .before .before .before .before .before .before .before .before .round .ensures) (c .before .before .before .before .before .before .decide .ensures) in
+    let w = within-sets (a .rules .table) (p .1) (now (a .book)) (now (a .log)) (now (a .site)) (p .3) (λ i. c .before .before .before .before .before .before .before .before .before .before .before .before .before .before .before .before .shared-slice-known3 .given i .fits) (p .4) (p .5) d _ (c .before .before .before .before .decision .given .1) in
+    ((a .rules .table .sites, p .0), p .2, p .3, w .0, w .1)
 
--- src/lib.rt:54:1
 same-length : tie.Need-same-length
 same-length c = search needs
 
--- src/lib.rt:54:1
 returns : tie.Need-returns
-returns c = ?
+returns c =
+    let p = c .before .before .before .before .before .before .before .before .before .before .before .before .before .before .before .before .before .before .before .before .before .pre in
+    let a = c .before .before .before .before .before .before .before .before .before .before .before .before .before .before .before .before .before .before .before .before .before .args in
+    let d = decided-by (a .rules .table) (now (a .book)) (now (a .log)) (now (a .site)) (c .before .before .before .before .before .before .before .before .before .before .before .before .before .before .conflict-rows .ensures) (c .before .before .before .before .before .before .before .before .before .before .before .position-of .ensures) (c .before .before .before .before .before .before .before .before .before .round .ensures) (c .before .before .before .before .before .before .before .decide .ensures) in
+    ended-undecided (a .rules .table) (p .1) (now (a .book)) (now (a .log)) (now (a .site)) (p .3) (λ i. c .before .before .before .before .before .before .before .before .before .before .before .before .before .before .before .before .before .shared-slice-known3 .given i .fits) (p .4) (p .5) d (p .0) (c .before .before .before .before .before .enum-told .given .1) (c .before .before .round-end .ensures)
 
--- src/lib.rt:54:1
 same-length-2 : tie.Need-same-length-2
 same-length-2 c = search needs
 
--- src/lib.rt:54:1
 returns-2 : tie.Need-returns-2
-returns-2 c = ?
+returns-2 c =
+    let p = c .before .before .before .before .before .before .before .before .before .before .before .before .before .before .before .before .before .before .before .before .before .before .before .pre in
+    let a = c .before .before .before .before .before .before .before .before .before .before .before .before .before .before .before .before .before .before .before .before .before .before .before .args in
+    let d = decided-by (a .rules .table) (now (a .book)) (now (a .log)) (now (a .site)) (c .before .before .before .before .before .before .before .before .before .before .before .before .before .before .before .before .conflict-rows .ensures) (c .before .before .before .before .before .before .before .before .before .before .before .before .before .position-of .ensures) (c .before .before .before .before .before .before .before .before .before .before .before .round .ensures) (c .before .before .before .before .before .before .before .before .before .decide .ensures) in
+    ended-decided (a .rules .table) (p .1) (now (a .book)) (now (a .log)) (now (a .site)) (p .3) (λ i. c .before .before .before .before .before .before .before .before .before .before .before .before .before .before .before .before .before .before .before .shared-slice-known3 .given i .fits) (p .4) (p .5) d (p .0) _ (c .before .before .before .before .before .before .before .decision .given .1) (c .before .before .round-end2 .ensures)
 
 pub end-round-spec : {M : Type 1} → statement M
 end-round-spec =

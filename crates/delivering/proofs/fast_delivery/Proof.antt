@@ -1,81 +1,63 @@
+-- `delivering::fast_delivery`: a law for each answer.
+-- Assumes nothing.
 use borrow.Author.Needs.{needs}
+use denote.Ref.{now}
+use Rattle.layout.specs.Layout.{siteSize}
+use Rattle.judging.proofs.Laws.{first-length, noPlaces, full-room}
+use Rattle.delivering.proofs.Laws.{fast-refused, fast-range, fast-sized, fast-ready, fast-done}
 use Rattle.delivering.proofs.fast_delivery.Statement.{statement}
 use Rattle.delivering.proofs.fast_delivery.Tie as tie
-use Rattle.delivering.proofs.fast_delivery.Reads as reads
-use Rattle.delivering.proofs.fast_delivery.Lts as lts
-use Rattle.fast.proofs.fast_delivery.Reads as fast-delivery-reads
-use Rattle.judging.proofs.judge_site.Reads as judge-site-reads
-use Rattle.judging.proofs.number.Reads as number-reads
-use Rattle.refusals.proofs.code.Reads as code-reads
-use Rattle.refusals.proofs.number.Reads as number-reads′
 
--- src/lib.rt:33:76
 slice-aggregate-judge-site : tie.Need-slice-aggregate-judge-site
 slice-aggregate-judge-site c = search needs
 
--- src/lib.rt:33:9
 judge-site-requires : tie.Need-judge-site-requires
 judge-site-requires c κs = search needs
 
--- src/lib.rt:34:25
 enum-known-judged : tie.Need-enum-known-judged
 enum-known-judged c = search needs
 
--- src/lib.rt:35:9
 enum-told : tie.Need-enum-told
 enum-told c = search needs
 
--- src/lib.rt:35:9
 number-requires : tie.Need-number-requires
 number-requires c κs = search needs
 
--- src/lib.rt:35:9
 same-length : tie.Need-same-length
 same-length c = search needs
 
--- src/lib.rt:35:9
 returns : tie.Need-returns
-returns c = ?
+returns c = let a = c .before .before .before .before .before .before .before .before .before .args in fast-refused (a .sites) (a .faults) (now (a .book)) (now (a .site)) (a .command) (c .before .before .before .before .judge-site .ensures .0) (c .before .enum-told .given .1) (c .number .ensures)
 
--- src/lib.rt:40:9
 number-requires-2 : tie.Need-number-requires-2
 number-requires-2 c κs = search needs
 
--- src/lib.rt:40:9
 same-length-2 : tie.Need-same-length-2
 same-length-2 c = search needs
 
--- src/lib.rt:40:9
 returns-2 : tie.Need-returns-2
-returns-2 c = ?
+returns-2 c = let a = c .before .before .before .before .before .before .before .before .before .before .before .before .args in fast-range (a .sites) (a .faults) (now (a .book)) (now (a .site)) (a .command) (c .before .before .before .before .before .before .before .judge-site .ensures .0) (c .before .before .before .before .judged .given .1) (c .before .if1 .taken) (c .number2 .ensures)
 
--- src/lib.rt:43:9
 slice-relend-prefix-fast-delivery : tie.Need-slice-relend-prefix-fast-delivery
-slice-relend-prefix-fast-delivery c = ?
+slice-relend-prefix-fast-delivery c = let a = c .before .before .before .before .before .before .before .before .before .before .before .args in fast-sized (a .sites) (a .faults) (now (a .book)) (now (a .site)) (a .command) (c .before .before .before .before .before .before .judge-site .ensures .0) (c .before .before .before .judged .given .1)
 
--- src/lib.rt:43:9
 slice-aggregate-fast-delivery : tie.Need-slice-aggregate-fast-delivery
-slice-aggregate-fast-delivery c = ?
+slice-aggregate-fast-delivery c = let a = c .before .before .before .before .before .before .before .before .before .before .before .before .args in first-length siteSize (now (a .site)) (fast-sized (a .sites) (a .faults) (now (a .book)) (now (a .site)) (a .command) (c .before .before .before .before .before .before .before .judge-site .ensures .0) (c .before .before .before .before .judged .given .1))
 
--- src/lib.rt:46:9
 slice-aggregate-fast-delivery-2 : tie.Need-slice-aggregate-fast-delivery-2
 slice-aggregate-fast-delivery-2 c = search needs
 
--- src/lib.rt:42:9
 fast-delivery-requires : tie.Need-fast-delivery-requires
-fast-delivery-requires c κs = ?
+fast-delivery-requires c κs = let a = c .before .before .before .before .before .before .before .before .before .before .before .before .before .args in fast-ready (a .sites) (a .faults) (now (a .book)) (now (a .site)) (a .command) (c .before .before .before .before .before .before .before .before .judge-site .ensures .0) (c .before .before .before .before .before .judged .given .1) (c .before .before .if1 .left) noPlaces full-room (c .before .before .before .before .before .before .before .before .judge-site .ensures .1)
 
--- src/lib.rt:50:5
 code-requires : tie.Need-code-requires
 code-requires c κs = search needs
 
--- src/lib.rt:23:1
 same-length-3 : tie.Need-same-length-3
 same-length-3 c = search needs
 
--- src/lib.rt:23:1
 returns-3 : tie.Need-returns-3
-returns-3 c = ?
+returns-3 c = let a = c .before .before .before .before .before .before .before .before .before .before .before .before .before .before .before .before .before .args in fast-done (a .sites) (a .faults) (now (a .book)) (now (a .site)) (a .command) (c .before .before .before .before .before .before .before .before .before .before .before .before .judge-site .ensures .0) (c .before .before .before .before .before .before .before .before .before .judged .given .1) (c .before .before .before .before .before .before .if1 .left) (λ i. c .before .before .before .before .before .before .before .before .before .before .before .before .before .before .before .slice-known .given i .fits) (c .before .before .before .fast-delivery .ensures) (c .code .ensures)
 
 pub fast-delivery-spec : {M : Type 1} → statement M
 fast-delivery-spec =

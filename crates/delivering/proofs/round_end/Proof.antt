@@ -1,68 +1,54 @@
+-- `delivering::round_end`: a law for each answer.
+-- Assumes nothing.
 use borrow.Author.Needs.{needs}
+use denote.Ref.{now}
+use Rattle.layout.specs.Layout.{siteSize}
+use Rattle.judging.proofs.Laws.{first-length, noPlaces, full-room}
+use Rattle.delivering.proofs.Laws.{end-refused, end-sized, end-ready, end-done}
 use Rattle.delivering.proofs.round_end.Statement.{statement}
 use Rattle.delivering.proofs.round_end.Tie as tie
-use Rattle.delivering.proofs.round_end.Reads as reads
-use Rattle.delivering.proofs.round_end.Lts as lts
-use Rattle.delivering.proofs.end_round.Reads as end-round-reads
-use Rattle.judging.proofs.judge_site_and_log.Reads as judge-site-and-log-reads
-use Rattle.judging.proofs.number.Reads as number-reads
-use Rattle.refusals.proofs.code.Reads as code-reads
 
--- src/lib.rt:98:9
 slice-aggregate-judge-site-and-log : tie.Need-slice-aggregate-judge-site-and-log
 slice-aggregate-judge-site-and-log c = search needs
 
--- src/lib.rt:91:9
 judge-site-and-log-requires : tie.Need-judge-site-and-log-requires
 judge-site-and-log-requires c κs = search needs
 
--- src/lib.rt:100:25
 enum-known-judged : tie.Need-enum-known-judged
 enum-known-judged c = search needs
 
--- src/lib.rt:101:9
 enum-told : tie.Need-enum-told
 enum-told c = search needs
 
--- src/lib.rt:101:9
 number-requires : tie.Need-number-requires
 number-requires c κs = search needs
 
--- src/lib.rt:101:9
 same-length : tie.Need-same-length
 same-length c = search needs
 
--- src/lib.rt:101:9
 returns : tie.Need-returns
-returns c = ?
+returns c = let a = c .before .before .before .before .before .before .before .before .before .before .args in end-refused (a .sites) (a .faults) (now (a .book)) (now (a .site)) (now (a .log)) (c .before .before .before .before .judge-site-and-log .ensures .0) (c .before .enum-told .given .1) (c .number .ensures)
 
--- src/lib.rt:103:29
 slice-relend-prefix-end-round : tie.Need-slice-relend-prefix-end-round
-slice-relend-prefix-end-round c = ?
+slice-relend-prefix-end-round c = let a = c .before .before .before .before .before .before .before .before .before .before .args in end-sized (a .sites) (a .faults) (now (a .book)) (now (a .site)) (now (a .log)) (c .before .before .before .before .judge-site-and-log .ensures .0) (c .before .judged .given .1)
 
--- src/lib.rt:103:29
 slice-aggregate-end-round : tie.Need-slice-aggregate-end-round
-slice-aggregate-end-round c = ?
+slice-aggregate-end-round c = let a = c .before .before .before .before .before .before .before .before .before .before .before .args in first-length siteSize (now (a .site)) (end-sized (a .sites) (a .faults) (now (a .book)) (now (a .site)) (now (a .log)) (c .before .before .before .before .before .judge-site-and-log .ensures .0) (c .before .before .judged .given .1))
 
--- src/lib.rt:103:67
 slice-aggregate-end-round-2 : tie.Need-slice-aggregate-end-round-2
 slice-aggregate-end-round-2 c = search needs
 
--- src/lib.rt:103:9
 end-round-requires : tie.Need-end-round-requires
-end-round-requires c κs = ?
+end-round-requires c κs = let a = c .before .before .before .before .before .before .before .before .before .before .before .before .args in end-ready (a .sites) (a .faults) (now (a .book)) (now (a .site)) (now (a .log)) (c .before .before .before .before .before .before .judge-site-and-log .ensures .0) (c .before .before .before .judged .given .1) noPlaces full-room (c .before .before .before .before .before .before .judge-site-and-log .ensures .1)
 
--- src/lib.rt:104:5
 code-requires : tie.Need-code-requires
 code-requires c κs = search needs
 
--- src/lib.rt:87:1
 same-length-2 : tie.Need-same-length-2
 same-length-2 c = search needs
 
--- src/lib.rt:87:1
 returns-2 : tie.Need-returns-2
-returns-2 c = ?
+returns-2 c = let a = c .before .before .before .before .before .before .before .before .before .before .before .before .before .before .before .before .args in end-done (a .sites) (a .faults) (now (a .book)) (now (a .site)) (now (a .log)) (c .before .before .before .before .before .before .before .before .before .before .judge-site-and-log .ensures .0) (c .before .before .before .before .before .before .before .judged .given .1) (λ i. c .before .before .before .before .before .before .before .before .before .before .before .before .before .before .slice-known .given i .fits) (c .before .before .before .end-round .ensures) (c .code .ensures)
 
 pub round-end-spec : {M : Type 1} → statement M
 round-end-spec =
