@@ -1,14 +1,14 @@
 -- What the calls that deliver answer: one law an answer.
 -- Assumes nothing.
 use mathlib.Core.Path.{_≡_, refl, sym, ap, subst, _∙_}
-use mathlib.Core.Bool.{Bool, true, false, _&&_, not}
+use mathlib.Core.Bool.{Bool, true, false, not}
 use mathlib.Core.List.{List, _++_}
 use Prim.Native.Nat.{ℕ, _*_, _/_, _≤_, _<_}
 use native.Mathlib.Omega.{arith}
 use lib.Dec.{leb, ltb}
 use lib.ListN.{length, take, drop, getD}
 use borrow.Author.Tests.{lt-ltb, le-ltb}
-use Rattle.theory.specs.Counting.{left, right, not-true, all-at}
+use Rattle.theory.specs.Counting.{left, not-true, all-at}
 use Rattle.refusals.specs.declared.Refusal.the-variants.{Range, Disabled, Size}
 use Rattle.refusals.specs.declared.Verdict.{Verdict}
 use Rattle.refusals.specs.Refusals.{codeOf}
@@ -23,8 +23,9 @@ use Rattle.protocol.specs.Recovery as recovery
 use Rattle.protocol.specs.Site as protocol
 use Rattle.system.specs.Dash.{dash}
 use Rattle.calm.specs.Rows.{rowsSystem}
-use Rattle.entries.specs.Entries.{entrySize, entryOf, numbersOf, inRangeOf, goodAt, goodTo, logTo, logOf}
+use Rattle.entries.specs.Entries.{entrySize, entryOf, inRangeOf, goodAt, goodTo, logTo, logOf}
 use Rattle.protocol.specs.Recovery.{entries}
+use Rattle.entries.proofs.Judging.{in-range-told}
 use Rattle.entries.proofs.Logs.{log-of-take}
 use Rattle.recovery.specs.declared.Sets.{Sets}
 use Rattle.recovery.specs.declared.Decision.{Decision}
@@ -104,11 +105,7 @@ module _ (t : SiteTable) (book log : List ℕ) {commands : ℕ} (count : length 
       (all-at k (goodAt log (t .sites) commands) good p l)
 
   pub good-nc : (p : ℕ) → p < k → withinOf (entryOf log p .nc) (length (commandsOf book)) ≡ true
-  good-nc p l =
-      let e = entryOf log p in
-      let n = length (commandsOf book) in
-      right (numbersOf (t .sites) (e .site) (e .round)) (withinOf (e .nc) n)
-      (left (numbersOf (t .sites) (e .site) (e .round) && withinOf (e .nc) n) (withinOf (e .c) n) (good-range p l))
+  good-nc p l = in-range-told (t .sites) (length (commandsOf book)) (entryOf log p) (good-range p l) .nc
 
 module _ (t : SiteTable) (table : isGood t ≡ true) (book log b : List ℕ) {commands : ℕ} (count : length (commandsOf book) ≡ commands)
     (small : (i : ℕ) → getD log i 0 < 256)
