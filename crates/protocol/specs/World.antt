@@ -5,9 +5,9 @@ use mathlib.Core.List.{List, [], _∷_, _++_, foldl}
 use mathlib.Core.Option.{Option, none, some}
 use Prim.Native.Nat.{ℕ, zero, suc, pred}
 use lib.Dec.{eqb, leb, ltb}
+use Rattle.refusals.specs.Refusals.{settled}
 use Rattle.refusals.specs.declared.Refusal.the-variants.{Range, Role, Disabled, ThirdEntry}
 use Rattle.refusals.specs.declared.Verdict.{Verdict}
-use Rattle.refusals.specs.declared.Verdict.the-variants.{Taken, Refused}
 use Rattle.theory.specs.Sets.{Set, ∅, only, _∪_, pick}
 use Rattle.theory.specs.Lists.{nth}
 use Rattle.protocol.specs.System.{System, Demands, granted, _else_⨾_, verdict, correct, known}
@@ -174,11 +174,10 @@ module _ (S : System) where
 
   -- A refused step leaves everything as it was.
   abbrev pub settle : Verdict → World → World → World
-  settle Taken new old = new
-  settle (Refused r) new old = old
+  settle = settled
 
   abbrev pub step : World → Step → World
-  step w t = settle (judge w t) (change w t) w
+  step w t = settled (judge w t) (change w t) w
 
   -- Each step gets what the step before it left.
   abbrev pub play : World → List Step → World
