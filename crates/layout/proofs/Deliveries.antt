@@ -17,7 +17,8 @@ use Rattle.signed.proofs.Laws.{signed-word, read-signed, bytes-signed}
 use Rattle.sets.specs.Sets.{capacity}
 use Rattle.layout.specs.Layout.{siteSize, deliveriesPlace, heardPlace, deliverySize, slot, deliveryOf, deliveriesOf, deliveryBytes, deliveriesBytes}
 use Rattle.layout.proofs.Header.{next}
-use Rattle.layout.proofs.Agree.{agree-before, deliveries-agree}
+use Rattle.wire.proofs.Agree.{agree-before}
+use Rattle.layout.proofs.Agree.{deliveries-agree}
 use Rattle.layout.proofs.Senders.{read-bytes}
 
 -- What the code of record_delivery does, in one step.

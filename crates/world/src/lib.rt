@@ -2,9 +2,8 @@
 ghost use mathlib.Core.Path.{_≡_};
 ghost use Prim.Native.Nat.{_+_, _*_, _≤_};
 ghost use lib.ListN.{length};
-ghost use Rattle.layout.specs.Layout.{siteSize, headOf};
+ghost use Rattle.layout.specs.Layout.{siteAt, siteSize, headOf};
 ghost use Rattle.sent.specs.Sent.{sentSize};
-ghost use Rattle.world.specs.World.{siteAt};
 ghost use Rattle.world.specs.Started.{Started};
 use layout::Site;
 use table::SiteTable;
