@@ -105,10 +105,6 @@ log-of-appended b k e h f =
     ∙ log-appended b k e h f
     ∙ ap (λ (l : recovery.Log). l ++ (viewEntry e ∷ [])) (sym (log-whole b k h))
 
-pub log-of-length : (b : List ℕ) → length (logOf b) ≡ length b / entrySize
-unfolding logOf
-log-of-length b = log-length b (length b / entrySize)
-
 pub log-of-take : (b : List ℕ) (k : ℕ) → k ≤ length b / entrySize → take k (logOf b) ≡ logTo b k
 unfolding logOf
 log-of-take b k h = log-take b k (length b / entrySize) h

@@ -30,19 +30,12 @@ impl Entry {
 // The cells of a table of counts, one for each site and round: 11 times 32.
 pub const CELLS: usize = 352;
 
-fn wide(x: u8) -> usize
-    ensures { λ r. ⌜ (r ≡ x) × (r < 256) ⌝ }
-{
-    x as usize
-}
-
 // The site of the k-th entry.
 pub fn site_of(log: &[u8], k: usize) -> usize
     requires { ⌜ k * entrySize + entrySize ≤ length (now log) ⌝ }
     ensures { λ r. ⌜ r ≡ entryOf (now (log .entry)) k .site ⌝ }
 {
-    let byte = wire::get1(log, k * Entry::BYTES);
-    wide(byte)
+    wire::get1(log, k * Entry::BYTES) as usize
 }
 
 // The round of the k-th entry.
@@ -50,8 +43,7 @@ pub fn round_of(log: &[u8], k: usize) -> usize
     requires { ⌜ k * entrySize + entrySize ≤ length (now log) ⌝ }
     ensures { λ r. ⌜ r ≡ entryOf (now (log .entry)) k .round ⌝ }
 {
-    let byte = wire::get1(log, k * Entry::BYTES + 1);
-    wide(byte)
+    wire::get1(log, k * Entry::BYTES + 1) as usize
 }
 
 // NC of the k-th entry.
@@ -193,6 +185,5 @@ pub fn counted(counts: &[u8], site: usize, round: usize) -> usize
     requires { ⌜ (length (now counts) ≡ cells) × (site < maxSites) × (1 ≤ round) × (round ≤ lastRound) ⌝ }
     ensures { λ r. ⌜ ((log : List ℕ) (k : ℕ) → Counting log k (now (counts .entry)) → r ≡ entries site round (logTo log k)) ⌝ }
 {
-    let count = wire::get1(counts, site * Entry::ROUNDS + (round - 1));
-    wide(count)
+    wire::get1(counts, site * Entry::ROUNDS + (round - 1)) as usize
 }

@@ -11,7 +11,7 @@ use mir.Syntax.{w32}
 use mir.Val.{SFits}
 use Rattle.theory.specs.Machine.{Delivery}
 use Rattle.wire.specs.Wire.{bytes, readLe, splice}
-use Rattle.wire.proofs.Laws.{length-bytes, peel, read-same, read-before, length-splice}
+use Rattle.wire.proofs.Laws.{length-bytes, peel, read-same, read-before, length-splice, read-bytes}
 use Rattle.signed.specs.Signed.{signed32, word32}
 use Rattle.signed.proofs.Laws.{signed-word, read-signed, bytes-signed}
 use Rattle.sets.specs.Sets.{capacity}
@@ -19,7 +19,6 @@ use Rattle.layout.specs.Layout.{siteSize, deliveriesPlace, heardPlace, d
 use Rattle.layout.proofs.Header.{next}
 use Rattle.wire.proofs.Agree.{agree-before}
 use Rattle.layout.proofs.Agree.{deliveries-agree}
-use Rattle.layout.proofs.Senders.{read-bytes}
 
 -- What the code of record_delivery does, in one step.
 pub delivery-written : (b : List ℕ) (at m : ℕ) (z : ℤ) {word : ℕ} {l l′ : List ℕ} → at ≤ length b → SFits w32 z → word ≡ word32 (signed32 (word32 z))

@@ -4,20 +4,19 @@ use mathlib.Core.Path.{_≡_, refl, sym, ap, subst, _∙_}
 use mathlib.Core.Bool.{Bool, true, false, _&&_}
 use mathlib.Core.List.{List}
 use mathlib.Core.Logic.{_⊎_, inl, inr, ⊎-elim}
-use Prim.Native.Nat.{ℕ, _+_, _*_, _-_, _≤_, _<_}
+use Prim.Native.Nat.{ℕ, _+_, _-_, _≤_, _<_}
 use native.Mathlib.Omega.{arith}
 use native.Mathlib.Decide.{decLt}
-use lib.Dec.{leb, ltb}
-use lib.ListN.{length, drop, getD, replicate, length-replicate}
+use lib.Dec.{leb}
+use lib.ListN.{length, drop, replicate, length-replicate}
 use borrow.Author.Tests.{leb-true, leb-false, le-leb, lt-leb}
 use Rattle.theory.specs.Sets.{pick}
 use Rattle.theory.specs.Counting.{never}
 use Rattle.wire.specs.Wire.{readLe, bytes, splice}
 use Rattle.wire.proofs.Laws.{length-bytes, length-splice, drop-after}
 use Rattle.wire.proofs.Small.{Small, splice-small, zeros-small, bytes-small, read-zeros}
-use Rattle.sets.specs.declared.Set.{Set}
-use Rattle.sets.specs.Sets.{has, emptyOf, withinOf, readSet}
-use Rattle.sets.proofs.Laws.{has-empty, agree-set}
+use Rattle.sets.specs.Sets.{has, withinOf, readSet}
+use Rattle.sets.proofs.Laws.{has-empty}
 use Rattle.register.specs.Register.{Within}
 use Rattle.layout.specs.declared.Site.{Site}
 use Rattle.layout.specs.Layout.{siteSize, spanPlace, registerPlace, deliveriesPlace, heardPlace, siteRounds, rowAt, inTable, cell, slot, headOf, heardIn, spanWith, emptied, reached}

@@ -280,7 +280,7 @@ word-ext (suc k) p q h = rw (word-ext k p q (λ m l. h m (omega arith)), h k (om
 
 -- ---- sets
 
-same-word : {a b : ℕ} → a ≡ b → _≡_ {A = Set} (record { bits = a }) (record { bits = b })
+pub same-word : {a b : ℕ} → a ≡ b → _≡_ {A = Set} (record { bits = a }) (record { bits = b })
 same-word e = λ i. record { bits = e i }
 
 pub in-empty : (m : ℕ) → inSet emptyOf m ≡ false

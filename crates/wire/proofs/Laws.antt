@@ -1,13 +1,12 @@
 -- Laws of numbers in bytes: what a read gives after a write at the same place and at others, and both ways between a number and its bytes. General in the width.
 -- Assumes nothing.
-use Prim.Native.Nat.{ℕ, zero, suc, _+_, _*_, _-_, _/_, _%_, _^_, _≤_, _<_, min}
+use Prim.Native.Nat.{ℕ, zero, suc, _+_, _*_, _-_, _/_, _%_, _^_, _≤_, _<_}
 use mathlib.Core.Path.{_≡_, refl, sym, ap, _∙_}
 use mathlib.Core.List.{List, [], _∷_, _++_, append-assoc, append-nil}
 use native.Mathlib.Nat.{pow-suc, div-lt-iff-lt-mul, add-assoc, mul-assoc, mul-comm}
-use native.Mathlib.Numerals.{add-one, towards-suc}
 use native.Mathlib.Omega.{arith}
 use lib.ListN.{length, take, drop, getD, length-append, length-take, length-drop, take-append-drop}
-use lib.Seq.{drop-cons, sets, sets-eq, drop-drop, take-at, drop-at, take-append-le, drop-append-le, take-append-add, take-add, length-take-le, take-all, getD-drop}
+use lib.Seq.{drop-cons, sets, sets-eq, drop-drop, take-at, drop-at, take-append-le, drop-append-le, length-take-le, take-all}
 use borrow.Rule.Slice.PartMut.{putMid}
 use Rattle.wire.specs.Wire.{value, bytes, readLe, splice}
 
@@ -127,6 +126,10 @@ module _ (s : List ℕ) (small : (i : ℕ) → getD s i 0 < 256) where
       let d : (getD s at 0 + 256 * readLe n s (suc at)) / 256 ≡ readLe n s (suc at) = omega arith in
       let k : at + suc n ≡ suc at + n = omega arith in
       rw (read-suc n s at (omega arith), m, d, k) (ap (λ (l : List ℕ). getD s at 0 ∷ l) (peel n (suc at) (omega arith)) ∙ sym (drop-cons s at 0 (omega arith)))
+
+  -- The bytes of what was read are what stands there.
+  pub read-bytes : (n at : ℕ) → at + n ≤ length s → bytes n (readLe n s at) ≡ take n (drop at s)
+  read-bytes n at h = sym (take-at (bytes n (readLe n s at)) (drop (at + n) s) n (length-bytes n (readLe n s at))) ∙ ap (take n) (peel n at h)
 
   -- Writing what was read changes nothing.
   pub splice-same : (n at : ℕ) → at + n ≤ length s → splice s at (bytes n (readLe n s at)) ≡ s

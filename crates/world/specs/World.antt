@@ -6,7 +6,7 @@ use mathlib.Core.List.{List}
 use mathlib.Core.Option.{Option, none, some}
 use Prim.Native.Nat.{ℕ, _*_, _≤_, _<_}
 use lib.Dec.{ltb}
-use lib.ListN.{length, take, drop}
+use lib.ListN.{length, drop}
 use Rattle.refusals.specs.Refusals.{codeOf, isTaken}
 use Rattle.refusals.specs.declared.Verdict.{Verdict}
 use Rattle.theory.specs.Sets as theory

@@ -3,11 +3,8 @@
 use mathlib.Core.Path.{refl, sym, ap, _∙_}
 use borrow.Author.Tests.{ne-eqb, lt-leb}
 use lib.Dec.{leb}
-use Prim.Native.Nat.{ℕ, _≤_}
+use Prim.Native.Nat.{ℕ}
 use Rattle.theory.specs.Counting.{not-true, not-false}
-use Rattle.wire.specs.Wire.{readLe}
-use Rattle.layout.specs.declared.Site.{Site}
-use Rattle.layout.specs.Layout.{positionPlace, headOf}
 use Rattle.layout.specs.Good.{goodHead}
 use Rattle.lent.proofs.Judged.{fails, judged, short, positioned, recorded}
 use borrow.Author.Needs.{needs}

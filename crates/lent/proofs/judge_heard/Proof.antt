@@ -2,7 +2,7 @@
 -- Rests on Judged.
 use mathlib.Core.Bool.{true}
 use mathlib.Core.Path.{_≡_, sym, ap, _∙_}
-use Prim.Native.Nat.{ℕ, _+_, _-_, _≤_, _<_}
+use Prim.Native.Nat.{ℕ, _+_, _-_, _≤_}
 use Rattle.theory.specs.Sets.{all}
 use Rattle.theory.specs.Counting.{not-true, not-false, all-none, all-more}
 use Rattle.table.specs.Table.{maxSites}

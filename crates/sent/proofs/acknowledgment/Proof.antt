@@ -1,7 +1,7 @@
 -- `sent::acknowledgment`: the count tells whether there is an a-th, and its set stands a - 1 sets after the first.
 -- Rests on Laws.
 use mathlib.Core.Path.{_≡_, ap, _∙_}
-use Prim.Native.Nat.{_-_, _≤_, _<_}
+use Prim.Native.Nat.{_-_, _≤_}
 use lib.Dec.{eqb, ltb}
 use borrow.Author.Tests.{ne-eqb, eqb-false, ltb-true, ltb-false}
 use Rattle.theory.specs.Counting.{second, neither}

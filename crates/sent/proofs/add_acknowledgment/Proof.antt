@@ -1,6 +1,6 @@
 -- `sent::add_acknowledgment`: the set is written after those that are there, and the count is raised.
 -- Rests on Writes.
-use mathlib.Core.Path.{_≡_, ap, _∙_}
+use mathlib.Core.Path.{ap, _∙_}
 use Prim.Native.Nat.{_<_}
 use Rattle.wire.specs.Wire.{readLe}
 use Rattle.sent.specs.Sent.{cellOf, countPlace, setPlace, maxAcknowledgments}
