@@ -8,6 +8,7 @@ use mathlib.Core.Option.{Option, none, some}
 use Prim.Native.Nat.{ℕ, suc, _<_}
 use lib.Dec.{eqb}
 use borrow.Author.Tests.{eqb-true}
+use Rattle.refusals.specs.Refusals.{isTaken, settled}
 use Rattle.refusals.specs.declared.Verdict.{Verdict}
 use Rattle.refusals.specs.declared.Verdict.the-variants.{Taken, Refused}
 use Rattle.theory.specs.Sets.{Set, _∪_, _∖_, pick, members}
@@ -21,8 +22,8 @@ use Rattle.protocol.specs.Recovery.{Entry, Log, Tally, decide, ncSet, cSet, pro
 use Rattle.protocol.specs.StandingLaws.{same-some}
 use Rattle.protocol.specs.RecoveryLaws.{decide-grows}
 use Rattle.protocol.specs.Site.{Site, acknowledge, propose, deliverFast, finish, due, decision, tallyOr, isSome, acknowledges}
-use Rattle.protocol.specs.World.{World, Step, command, acknowledgment, check, falseAcknowledgment, falseCheck, falseEntry, turn, fastDelivery, logRead, roundEnd, start, put, demands, change, judge, settle, step, play, entryOf, acknowledgingTurn, proposingTurn}
-use Rattle.protocol.specs.CommonSequence.{Reading, isTaken, taken, deliverNew, endRound, readStep, delivers}
+use Rattle.protocol.specs.World.{World, Step, command, acknowledgment, check, falseAcknowledgment, falseCheck, falseEntry, turn, fastDelivery, logRead, roundEnd, start, put, demands, change, judge, step, play, entryOf, acknowledgingTurn, proposingTurn}
+use Rattle.protocol.specs.CommonSequence.{Reading, taken, deliverNew, endRound, readStep, delivers}
 use Rattle.protocol.specs.Steps.{Met, met, turn-keeps}
 use Rattle.agreement.specs.History.{History, decision-log}
 use Rattle.agreement.specs.HistoryLaws.{Sound, history-sound}
@@ -77,7 +78,7 @@ module _ (S : System) where
   step-longer : (w : World S) (t : Step) → Longer (w .log) (step S w t .log)
   step-longer w t = go (judge S w t)
     where
-      go : (d : Verdict) → Longer (w .log) (settle S d (change S w t) w .log)
+      go : (d : Verdict) → Longer (w .log) (settled d (change S w t) w .log)
       go Taken = change-longer w t
       go (Refused r) = same-log (w .log)
 
@@ -192,9 +193,9 @@ module _ (S : System) where
         here = longer-chain (w .log) (play S w (t ∷ l) .log) log (play-longer w (t ∷ l)) more
 
         go : (d : Verdict) → judge S w t ≡ d
-            → foldl (readStep S i log) (reading (settle S d (change S w t) w .site i)) (taken S (settle S d (change S w t) w) l) ≡ reading (play S (settle S d (change S w t) w) l .site i)
-            → foldl (readStep S i log) (reading (w .site i)) (pick (isTaken d) (t ∷ taken S (settle S d (change S w t) w) l) (taken S (settle S d (change S w t) w) l))
-            ≡ reading (play S (settle S d (change S w t) w) l .site i)
+            → foldl (readStep S i log) (reading (settled d (change S w t) w .site i)) (taken S (settled d (change S w t) w) l) ≡ reading (play S (settled d (change S w t) w) l .site i)
+            → foldl (readStep S i log) (reading (w .site i)) (pick (isTaken d) (t ∷ taken S (settled d (change S w t) w) l) (taken S (settled d (change S w t) w) l))
+            ≡ reading (play S (settled d (change S w t) w) l .site i)
         go Taken e ih =
             ap (λ (x : Reading). foldl (readStep S i log) x (taken S (change S w t) l)) (change-reads w g i t (met (demands S w t) e) log here) ∙ ih
         go (Refused r) e ih = ih

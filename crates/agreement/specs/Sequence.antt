@@ -10,7 +10,7 @@ use native.Mathlib.Omega.{arith}
 use lib.Dec.{eqb, ltb}
 use borrow.Author.Tests.{eqb-true, ltb-true}
 use Rattle.theory.specs.Sets.{Set, ∅, only, _∪_, _∖_, pick, members}
-use Rattle.theory.specs.Counting.{both, left, right, either, never, not-true, known}
+use Rattle.theory.specs.Counting.{both, left, right, either, never, not-true, known, true-or}
 use Rattle.theory.specs.Members.{members-ext, members-none, members-one}
 use Rattle.theory.specs.Traces.{Alike, same, chain}
 use Rattle.theory.specs.TraceLaws.{alike-equal, alike-before, alike-after, merge}
@@ -107,13 +107,9 @@ module _ (S : System) where
             (chain (alike-equal machine (append-assoc (v .past .sequence) (members commands (s .fast)) (m ∷ [])))
             (alike-before machine (v .past .sequence)
             (chain (alike-equal machine (λ i. members commands (s .fast) ++ single i))
-            (merge machine commands (s .fast) (s .fast ∪ only m) (λ k l e. grow (s .fast k) (eqb k m) e) (λ x y lx ly hx hy. free-pair S (s .pending) (p .calm) x y lx ly (inside x hx) (inside y hy)))))));
+            (merge machine commands (s .fast) (s .fast ∪ only m) (λ k l e. true-or (s .fast k) (eqb k m) e) (λ x y lx ly hx hy. free-pair S (s .pending) (p .calm) x y lx ly (inside x hx) (inside y hy)))))));
       }
     where
-      grow : (a b : Bool) → a ≡ true → (a || b) ≡ true
-      grow true b e = refl
-      grow false b e = absurd (never false e refl)
-
       inside : (x : ℕ) → (s .fast ∪ only m) x ≡ true → s .pending x ≡ true
       inside x h = ⊎-elim (p .holds x) (λ e. ap (s .pending) (eqb-true x m e) ∙ pm) (either (s .fast x) (eqb x m) h)
 

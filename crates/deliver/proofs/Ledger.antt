@@ -24,7 +24,8 @@ use Rattle.protocol.specs.Site as protocol
 use Rattle.system.specs.Dash.{dash, commandAt}
 use Rattle.layout.specs.Layout.{siteSize, heardPlace, registerPlace, deliveriesPlace, slot, deliveryBytes, deliveriesOf, ledgerOf}
 use Rattle.layout.specs.Good.{GoodTables}
-use Rattle.layout.proofs.Agree.{Agree, agree-before, agree-part, register-agree, deliveries-agree}
+use Rattle.wire.proofs.Agree.{Agree, agree-before, agree-part}
+use Rattle.layout.proofs.Agree.{register-agree, deliveries-agree}
 use Rattle.layout.proofs.Deliveries.{length-delivery, deliveries-more}
 use Rattle.layout.proofs.Tables.{executed-apart, tables-executed, tables-recorded}
 use Rattle.deliver.specs.Delivering.{Delivered, inOrder}

@@ -10,7 +10,7 @@ use lib.Dec.{eqb}
 use lib.ListN.{length}
 use borrow.Author.Tests.{eq-eqb, ne-eqb}
 use Rattle.theory.specs.Sets.{pick, members}
-use Rattle.theory.specs.Counting.{known, last-or-below, lt-or-le, never}
+use Rattle.theory.specs.Counting.{known, last-or-below, lt-or-le, and-false}
 use Rattle.theory.specs.Members.{members-none, members-ext}
 use Rattle.sets.specs.declared.Set.{Set}
 use Rattle.sets.specs.Sets.{inSet, emptyOf, withOf, isEmptyOf, firstOf, restOf, withinOf}
@@ -25,14 +25,6 @@ unfolding members
 members-first zero p m l h b = absurd (omega arith)
 members-first (suc n) p m l h b = go (last-or-below m n l) (λ k. members-first n p m k h b)
   where
-    and-false : (a c : Bool) → a ≡ false → (a && c) ≡ false
-    and-false true c e = absurd (never true refl e)
-    and-false false c e = refl
-
-    and-none : (a : Bool) → (a && false) ≡ false
-    and-none true = refl
-    and-none false = refl
-
     and-true : (a : Bool) → (a && true) ≡ a
     and-true true = refl
     and-true false = refl
@@ -41,9 +33,9 @@ members-first (suc n) p m l h b = go (last-or-below m n l) (λ k. members-first 
         → members n p ++ pick (p n) (n ∷ []) [] ≡ m ∷ (members n (λ j. p j && not (eqb j m)) ++ pick (p n && not (eqb n m)) (n ∷ []) [])
     go (inl e) r =
         let none : members n p ≡ [] = members-none n p (λ j k. b j (omega arith)) in
-        let rest : members n (λ j. p j && not (eqb j m)) ≡ [] = members-none n (λ j. p j && not (eqb j m)) (λ j k. and-false (p j) (not (eqb j m)) (b j (omega arith))) in
+        let rest : members n (λ j. p j && not (eqb j m)) ≡ [] = members-none n (λ j. p j && not (eqb j m)) (λ j k. ap (λ (x : Bool). x && not (eqb j m)) (b j (omega arith))) in
         let here : p n ≡ true = ap p (sym e) ∙ h in
-        let gone : (p n && not (eqb n m)) ≡ false = ap (λ (x : Bool). p n && not x) (eq-eqb n m (sym e)) ∙ and-none (p n) in
+        let gone : (p n && not (eqb n m)) ≡ false = ap (λ (x : Bool). p n && not x) (eq-eqb n m (sym e)) ∙ and-false (p n) in
         (λ i. none i ++ pick (here i) (n ∷ []) []) ∙ ap (λ (x : ℕ). x ∷ []) (sym e) ∙ (λ i. m ∷ (sym rest i ++ pick (sym gone i) (n ∷ []) []))
     go (inr k) r =
         let same : p n ≡ (p n && not (eqb n m)) = sym (ap (λ (x : Bool). p n && not x) (ne-eqb n m (λ e. omega arith)) ∙ and-true (p n)) in

@@ -1,14 +1,14 @@
 -- What the calls that deliver answer: one law an answer.
 -- Assumes nothing.
 use mathlib.Core.Path.{_≡_, refl, sym, ap, subst, _∙_}
-use mathlib.Core.Bool.{Bool, true, false, _&&_, not}
+use mathlib.Core.Bool.{Bool, true, false, not}
 use mathlib.Core.List.{List, _++_}
 use Prim.Native.Nat.{ℕ, _*_, _/_, _≤_, _<_}
 use native.Mathlib.Omega.{arith}
 use lib.Dec.{leb, ltb}
 use lib.ListN.{length, take, drop, getD}
 use borrow.Author.Tests.{lt-ltb, le-ltb}
-use Rattle.theory.specs.Counting.{left, right, not-true, all-at}
+use Rattle.theory.specs.Counting.{left, all-at}
 use Rattle.refusals.specs.declared.Refusal.{Refusal}
 use Rattle.refusals.specs.declared.Refusal.the-variants.{Range}
 use Rattle.refusals.specs.declared.Verdict.{Verdict}
@@ -25,8 +25,9 @@ use Rattle.protocol.specs.Recovery as recovery
 use Rattle.protocol.specs.Site as protocol
 use Rattle.system.specs.Dash.{dash}
 use Rattle.calm.specs.Rows.{rowsSystem}
-use Rattle.entries.specs.Entries.{entrySize, entryOf, numbersOf, inRangeOf, goodAt, goodTo, logTo, logOf}
+use Rattle.entries.specs.Entries.{entrySize, entryOf, inRangeOf, goodAt, goodTo, logTo, logOf}
 use Rattle.protocol.specs.Recovery.{entries}
+use Rattle.entries.proofs.Judging.{in-range-told}
 use Rattle.entries.proofs.Logs.{log-of-take}
 use Rattle.recovery.specs.declared.Sets.{Sets}
 use Rattle.recovery.specs.declared.Decision.{Decision}

@@ -2,4 +2,3 @@ pub mod Verdicts
 pub mod Closing
 pub mod Telling
 pub mod Next
-pub mod Together

@@ -4,7 +4,7 @@ ghost use mathlib.Core.Path.{_≡_};
 ghost use Prim.Native.Nat.{ℕ, _+_, _≤_};
 ghost use lib.ListN.{length};
 ghost use Rattle.wire.specs.Wire.{splice};
-ghost use Rattle.sets.specs.Sets.{withinOf, sizeOf};
+ghost use Rattle.sets.specs.Sets.{withinOf};
 ghost use Rattle.commands.specs.Book.{commandsOf};
 ghost use Rattle.layout.specs.Layout.{siteSize, siteRounds, headOf, headBytes, Headed};
 ghost use Rattle.layout.specs.Good.{Good};
@@ -22,17 +22,6 @@ fn due(site: &[u8], set: Set) -> Set
     set.without(layout::delivered(site).union(layout::fast(site)))
 }
 
-// The sizes of two sets together: counted once where they have no command in common.
-fn sizes(a: Set, b: Set) -> usize
-    ensures { λ r. ⌜ r ≡ sizeOf a + sizeOf b ⌝ }
-{
-    if a.common(b).is_empty() {
-        a.union(b).size()
-    } else {
-        a.size() + b.size()
-    }
-}
-
 // Whether the round ends with the decided sets, and else the refusal.
 fn judge(site: &[u8], commands: usize, decided: bool, nc: Set, c: Set) -> Verdict
     requires { ⌜ length (now site) ≡ siteSize ⌝ }
@@ -44,7 +33,7 @@ fn judge(site: &[u8], commands: usize, decided: bool, nc: Set, c: Set) -> Verdic
     if !decided {
         return Verdict::Refused(Refusal::Disabled);
     }
-    let more = sizes(due(site, nc), due(site, c));
+    let more = due(site, nc).size() + due(site, c).size();
     let recorded = layout::count(site) as usize;
     if recorded + more > commands {
         return Verdict::Refused(Refusal::Size);

@@ -9,7 +9,7 @@ use Prim.Native.Nat.{ℕ, _/_, _≤_, _<_}
 use native.Mathlib.Omega.{arith}
 use lib.Dec.{leb, ltb}
 use lib.ListN.{length, take, drop, getD}
-use borrow.Author.Tests.{lt-ltb, le-ltb, lt-leb, le-leb}
+use borrow.Author.Tests.{lt-ltb, le-ltb}
 use Rattle.theory.specs.Sets.{pick}
 use Rattle.theory.specs.Lists.{nth}
 use Rattle.theory.specs.Counting.{not-true, not-false, lt-or-le}
@@ -26,6 +26,7 @@ use Rattle.entries.specs.declared.Entry.{Entry}
 use Rattle.entries.specs.Entries.{entrySize, entryOf, viewEntry, logTo, logOf, inRangeOf}
 use Rattle.entries.proofs.Logs.{log-nth, log-end, log-of-take}
 use Rattle.layout.specs.Layout.{siteSize, headOf}
+use Rattle.site.proofs.Turning.{third-entry}
 use Rattle.site.specs.Steps.{ReadEntry}
 use Rattle.judging.specs.Outcomes.{outcome, answered, _then_}
 use Rattle.judging.specs.declared.Judgement.{Judgement}
@@ -68,13 +69,6 @@ module _ (log : List ℕ) (p : ℕ) where
   unfolding logOf
   past h = log-end log (length log / entrySize) p h
 
-not-leb : (k : ℕ) → not (leb 2 k) ≡ ltb k 2
-not-leb k = go (lt-or-le k 2)
-  where
-    go : (k < 2) ⊎ (2 ≤ k) → not (leb 2 k) ≡ ltb k 2
-    go (inl h) = simp (lt-leb 2 k h, lt-ltb k 2 h)
-    go (inr h) = simp (le-leb 2 k h, le-ltb k 2 h)
-
 module _ (n f : ℕ) (book log : List ℕ) (p : ℕ) where
   -- What is looked at is the protocol's.
   range-is : protocol.nextInRange (systemOf n f book) (nth (logOf log) p) ≡ nextInRangeOf log p n (length (commandsOf book))
@@ -106,7 +100,7 @@ module _ (n f : ℕ) (book log : List ℕ) (p : ℕ) where
           ≡ protocol.noThird (systemOf n f book) (take p (logOf log)) (nth (logOf log) p)
       go (inl h) =
           (λ i. not (pick (lt-ltb p (entriesIn log) h i) (leb 2 (entries (entryOf log p .site) (entryOf log p .round) (logTo log p))) false))
-          ∙ not-leb (entries (entryOf log p .site) (entryOf log p .round) (logTo log p))
+          ∙ third-entry (entries (entryOf log p .site) (entryOf log p .round) (logTo log p))
           ∙ (λ i. protocol.noThird (systemOf n f book) (sym (log-of-take log p l) i) (sym (there log p h) i))
       go (inr h) =
           (λ i. not (pick (le-ltb p (entriesIn log) h i) (leb 2 (entries (entryOf log p .site) (entryOf log p .round) (logTo log p))) false))

@@ -13,7 +13,7 @@ use Rattle.wire.specs.Wire.{value, readLe, bytes, splice}
 use Rattle.wire.proofs.Laws.{length-bytes, length-splice, read-same, read-before, read-after, read-lt, splice-two, peel}
 use Rattle.sets.specs.declared.Set.{Set}
 use Rattle.sets.specs.Sets.{readSet, writeSet}
-use Rattle.sets.proofs.Laws.{read-written, read-other, length-write, read-fits}
+use Rattle.sets.proofs.Laws.{read-written, read-other, length-write, read-fits, same-word}
 use Rattle.entries.specs.declared.Entry.{Entry}
 use Rattle.entries.specs.Entries.{entrySize, readEntry, entryOf, entryBytes, writeEntry}
 
@@ -71,10 +71,6 @@ wrote b k e h e1 e2 e3 e4 =
     (e2 ∙ ap (λ (x : List ℕ). splice x (k * entrySize + 1) (bytes 1 (e .round))) e1))
     ∙ fields-write b (k * entrySize) e (omega arith)
 
-pub length-wrote : (b : List ℕ) (k : ℕ) (e : Entry) → k * entrySize + entrySize ≤ length b → length (writeEntry b k e) ≡ length b
-unfolding writeEntry
-length-wrote b k e h = length-splice b (k * entrySize) (entryBytes e) (omega (arith, length-entry e))
-
 keep : (b : List ℕ) (at : ℕ) (s : Set) (n k : ℕ) → at ≤ length b → k + n ≤ at → readLe n (writeSet b at s) k ≡ readLe n b k
 unfolding writeSet
 keep b at s n k h l = read-before n b at (bytes 8 (s .bits)) k h l
@@ -112,9 +108,6 @@ unfolding readLe
 read-first n b more at h =
     ap value (ap (take n) (drop-append-le at b more (omega arith)) ∙ take-append-le n (drop at b) more (omega (arith, length-drop at b)))
 
-same-set : {a b : ℕ} → a ≡ b → _≡_ {A = Set} (record { bits = a }) (record { bits = b })
-same-set e = λ i. record { bits = e i }
-
 above : {j k : ℕ} → (j ≡ k → ⊥) → k ≤ j → k < j
 above {j} {k} n l = go (eq-or-lt-of-le l)
   where
@@ -133,21 +126,21 @@ entry-other b k e j h n = go (length-entry e) (lt-or-le j k)
     go z (inl l) =
         same-entry (read-beside 1 b (k * entrySize) (entryBytes e) (j * entrySize) (omega arith) (inl (omega arith)))
         (read-beside 1 b (k * entrySize) (entryBytes e) (j * entrySize + 1) (omega arith) (inl (omega arith)))
-        (same-set (read-beside 8 b (k * entrySize) (entryBytes e) (j * entrySize + 2) (omega arith) (inl (omega arith))))
-        (same-set (read-beside 8 b (k * entrySize) (entryBytes e) (j * entrySize + 10) (omega arith) (inl (omega arith))))
+        (same-word (read-beside 8 b (k * entrySize) (entryBytes e) (j * entrySize + 2) (omega arith) (inl (omega arith))))
+        (same-word (read-beside 8 b (k * entrySize) (entryBytes e) (j * entrySize + 10) (omega arith) (inl (omega arith))))
     go z (inr l) =
         let m : k < j = above n l in
         same-entry (read-beside 1 b (k * entrySize) (entryBytes e) (j * entrySize) (omega arith) (inr (omega arith)))
         (read-beside 1 b (k * entrySize) (entryBytes e) (j * entrySize + 1) (omega arith) (inr (omega arith)))
-        (same-set (read-beside 8 b (k * entrySize) (entryBytes e) (j * entrySize + 2) (omega arith) (inr (omega arith))))
-        (same-set (read-beside 8 b (k * entrySize) (entryBytes e) (j * entrySize + 10) (omega arith) (inr (omega arith))))
+        (same-word (read-beside 8 b (k * entrySize) (entryBytes e) (j * entrySize + 2) (omega arith) (inr (omega arith))))
+        (same-word (read-beside 8 b (k * entrySize) (entryBytes e) (j * entrySize + 10) (omega arith) (inr (omega arith))))
 
 -- The entries of longer bytes.
 pub entry-first : (b more : List ℕ) (k : ℕ) → k * entrySize + entrySize ≤ length b → entryOf (b ++ more) k ≡ entryOf b k
 unfolding readEntry readSet
 entry-first b more k h =
     same-entry (read-first 1 b more (k * entrySize) (omega arith)) (read-first 1 b more (k * entrySize + 1) (omega arith))
-    (same-set (read-first 8 b more (k * entrySize + 2) (omega arith))) (same-set (read-first 8 b more (k * entrySize + 10) (omega arith)))
+    (same-word (read-first 8 b more (k * entrySize + 2) (omega arith))) (same-word (read-first 8 b more (k * entrySize + 10) (omega arith)))
 
 -- An entry appended to bytes.
 pub entry-appended : (b : List ℕ) (k : ℕ) (e : Entry) → length b ≡ k * entrySize → Fits e → entryOf (b ++ entryBytes e) k ≡ e

@@ -1,16 +1,16 @@
 -- How entries are counted and judged, and what the judgment says in the protocol's terms.
 -- Assumes nothing.
 use mathlib.Core.Path.{_≡_, refl, sym, ap, _∙_}
-use mathlib.Core.Bool.{Bool, true, false, _&&_, not}
+use mathlib.Core.Bool.{Bool, true, false, _&&_}
 use mathlib.Core.List.{List}
 use Prim.Native.Nat.{ℕ, zero, suc, _+_, _/_, _≤_, _<_}
 use native.Mathlib.Omega.{arith}
 use lib.Dec.{eqb, leb, ltb}
 use lib.ListN.{length, take}
-use borrow.Author.Tests.{lt-ltb, le-ltb, le-leb, lt-leb, ltb-true, leb-true, eq-eqb, ne-eqb}
+use borrow.Author.Tests.{ltb-true, leb-true, eq-eqb, ne-eqb}
 use Rattle.theory.specs.Sets.{one, all}
 use Rattle.theory.specs.Lists.{nth}
-use Rattle.theory.specs.Counting.{both, left, right, not-true, not-false, all-ext}
+use Rattle.theory.specs.Counting.{both, left, right, all-ext}
 use Rattle.sets.specs.Sets.{withinOf}
 use Rattle.table.specs.declared.SiteTable.{SiteTable}
 use Rattle.register.specs.declared.Command.{Command}
@@ -20,7 +20,7 @@ use Rattle.protocol.specs.StandingLaws.{entries-more}
 use Rattle.protocol.specs.Site.{entryInRange, nextInRange, noThird}
 use Rattle.system.specs.Dash.{dash, lastRound}
 use Rattle.entries.specs.declared.Entry.{Entry}
-use Rattle.entries.specs.Entries.{entrySize, entryOf, viewEntry, logTo, logOf, oneOf, numbersOf, inRangeOf, goodAt, goodTo}
+use Rattle.entries.specs.Entries.{entrySize, entryOf, viewEntry, logTo, logOf, oneOf, inRangeOf, goodAt, goodTo}
 use Rattle.entries.proofs.Logs.{log-none, log-more, log-take, log-nth}
 
 -- ---- how many entries a site has in a round
@@ -68,48 +68,31 @@ module _ (b : List ℕ) (j r : ℕ) where
       go true = refl
       go false = refl
 
--- ---- ranges, one law for each answer
-
-module _ (n s r : ℕ) where
-  pub numbers-site : n ≤ s → false ≡ numbersOf n s r
-  numbers-site h = simp (le-ltb s n h)
-
-  pub numbers-zero : s < n → r < 1 → false ≡ numbersOf n s r
-  numbers-zero a h = simp (lt-ltb s n a, lt-leb 1 r h)
-
-  pub numbers-round : s < n → 1 ≤ r → leb r lastRound ≡ numbersOf n s r
-  numbers-round a h = simp (lt-ltb s n a, le-leb 1 r h)
-
-  pub numbers-told : numbersOf n s r ≡ true → (s < n) × (1 ≤ r) × (r ≤ lastRound)
-  numbers-told h =
-      let f = left (ltb s n && leb 1 r) (leb r lastRound) h in
-      (ltb-true s n (left (ltb s n) (leb 1 r) f), leb-true 1 r (right (ltb s n) (leb 1 r) f), leb-true r lastRound (right (ltb s n && leb 1 r) (leb r lastRound) h))
-
-module _ (n m : ℕ) (e : Entry) {t : Bool} (et : t ≡ numbersOf n (e .site) (e .round)) where
-  pub range-numbers : not t ≡ true → false ≡ inRangeOf n m e
-  range-numbers h = sym (ap (λ (x : Bool). x && withinOf (e .nc) m && withinOf (e .c) m) (sym et ∙ not-true t h))
-
-  module _ (h : not t ≡ false) {u : Bool} (eu : u ≡ withinOf (e .nc) m) where
-    range-sets : inRangeOf n m e ≡ u && withinOf (e .c) m
-    range-sets = λ i. (sym et ∙ not-false t h) i && sym eu i && withinOf (e .c) m
-
-    pub range-nc : not u ≡ true → false ≡ inRangeOf n m e
-    range-nc g = sym (range-sets ∙ ap (λ (x : Bool). x && withinOf (e .c) m) (not-true u g))
-
-    pub range-c : not u ≡ false → {v : Bool} → v ≡ withinOf (e .c) m → v ≡ inRangeOf n m e
-    range-c g p = p ∙ sym (range-sets ∙ ap (λ (x : Bool). x && withinOf (e .c) m) (not-false u g))
+-- ---- ranges
 
 -- What an entry in range says.
-pub record Range (n : ℕ) (e : Entry) : Type 0 where
+pub record Range (n m : ℕ) (e : Entry) : Type 0 where
   pub site : e .site < n
   pub some-round : 1 ≤ e .round
   pub round : e .round ≤ lastRound
+  pub nc : withinOf (e .nc) m ≡ true
+  pub c : withinOf (e .c) m ≡ true
 
-pub in-range-told : (n m : ℕ) (e : Entry) → inRangeOf n m e ≡ true → Range n e
+pub in-range-told : (n m : ℕ) (e : Entry) → inRangeOf n m e ≡ true → Range n m e
 in-range-told n m e h =
-    let f = left (numbersOf n (e .site) (e .round) && withinOf (e .nc) m) (withinOf (e .c) m) h in
-    let w = numbers-told n (e .site) (e .round) (left (numbersOf n (e .site) (e .round)) (withinOf (e .nc) m) f) in
-    record { site = w .0; some-round = w .1; round = w .2 }
+    let sites = ltb (e .site) n in
+    let first = leb 1 (e .round) in
+    let last = leb (e .round) lastRound in
+    let s = left (sites && first && last && withinOf (e .nc) m) (withinOf (e .c) m) h in
+    let f = left (sites && first && last) (withinOf (e .nc) m) s in
+    let g = left (sites && first) last f in
+    record {
+      site = ltb-true (e .site) n (left sites first g);
+      some-round = leb-true 1 (e .round) (right sites first g);
+      round = leb-true (e .round) lastRound (right (sites && first) last f);
+      nc = right (sites && first && last) (withinOf (e .nc) m) s;
+      c = right (sites && first && last && withinOf (e .nc) m) (withinOf (e .c) m) h;
+    }
 
 -- The range of an entry is the protocol's.
 pub range-protocol : (t : SiteTable) (book : List Command) (e : Entry)

@@ -10,6 +10,7 @@ use native.Mathlib.Omega.{arith}
 use lib.ListN.{length, take, drop, length-append, length-take, take-append-drop}
 use lib.Seq.{take-at, take-append-le}
 use Rattle.theory.specs.Lists.{nth}
+use Rattle.theory.specs.ListLaws.{nth-append, nth-last, nth-end}
 use Rattle.theory.specs.Counting.{last-or-below}
 use Rattle.protocol.specs.Recovery as recovery
 use Rattle.entries.specs.declared.Entry.{Entry}
@@ -52,16 +53,6 @@ log-take b j (suc k) h = go (last-or-below j (suc k) (omega arith)) (λ l. log-t
         let z = log-length b k in
         take-append-le j (logTo b k) (viewEntry (entryOf b k) ∷ []) (omega arith) ∙ r (omega arith)
 
-nth-append : {A : Type 0} (l more : List A) (i : ℕ) → i < length l → nth (l ++ more) i ≡ nth l i
-nth-append [] more i h = absurd (omega arith)
-nth-append (x ∷ l) more zero h = refl
-nth-append (x ∷ l) more (suc i) h = nth-append l more i (omega arith)
-
-nth-last : {A : Type 0} (l : List A) (x : A) (i : ℕ) → i ≡ length l → nth (l ++ (x ∷ [])) i ≡ some x
-nth-last [] x i h = rw h refl
-nth-last (y ∷ l) x zero h = absurd (omega arith)
-nth-last (y ∷ l) x (suc i) h = nth-last l x i (omega arith)
-
 -- The entry at a position.
 pub log-nth : (b : List ℕ) (k i : ℕ) → i < k → nth (logTo b k) i ≡ some (viewEntry (entryOf b i))
 unfolding logTo
@@ -75,11 +66,6 @@ log-nth b (suc k) i h = go (last-or-below i k h) (λ l. log-nth b k i l)
     go (inr l) r =
         let z = log-length b k in
         nth-append (logTo b k) (viewEntry (entryOf b k) ∷ []) i (omega arith) ∙ r l
-
-nth-end : {A : Type 0} (l : List A) (i : ℕ) → length l ≤ i → nth l i ≡ none
-nth-end [] i h = refl
-nth-end (x ∷ l) zero h = absurd (omega arith)
-nth-end (x ∷ l) (suc i) h = nth-end l i (omega arith)
 
 -- There is none at its end.
 pub log-end : (b : List ℕ) (k i : ℕ) → k ≤ i → nth (logTo b k) i ≡ none
@@ -118,10 +104,6 @@ log-of-appended b k e h f =
     log-whole (b ++ entryBytes e) (k + 1) (omega (arith, length-append b (entryBytes e), length-entry e))
     ∙ log-appended b k e h f
     ∙ ap (λ (l : recovery.Log). l ++ (viewEntry e ∷ [])) (sym (log-whole b k h))
-
-pub log-of-length : (b : List ℕ) → length (logOf b) ≡ length b / entrySize
-unfolding logOf
-log-of-length b = log-length b (length b / entrySize)
 
 pub log-of-take : (b : List ℕ) (k : ℕ) → k ≤ length b / entrySize → take k (logOf b) ≡ logTo b k
 unfolding logOf

@@ -51,13 +51,10 @@ logOf b = logTo b (length b / entrySize)
 abbrev pub oneOf : List ℕ → ℕ → ℕ → ℕ → ℕ
 oneOf b k site round = one (eqb (entryOf b k .site) site && eqb (entryOf b k .round) round)
 
--- A site and a round are in range.
-abbrev pub numbersOf : ℕ → ℕ → ℕ → Bool
-numbersOf sites site round = ltb site sites && leb 1 round && leb round lastRound
-
 -- Site, round and sets of an entry are in range.
 abbrev pub inRangeOf : ℕ → ℕ → Entry → Bool
-inRangeOf sites commands e = numbersOf sites (e .site) (e .round) && withinOf (e .nc) commands && withinOf (e .c) commands
+inRangeOf sites commands e =
+    ltb (e .site) sites && leb 1 (e .round) && leb (e .round) lastRound && withinOf (e .nc) commands && withinOf (e .c) commands
 
 -- The k-th entry is no third of its site and round among those before it.
 abbrev pub noThirdAt : List ℕ → ℕ → Bool
@@ -70,14 +67,6 @@ goodAt b sites commands k = inRangeOf sites commands (entryOf b k) && noThirdAt 
 -- So are all of the first k.
 abbrev pub goodTo : List ℕ → ℕ → ℕ → ℕ → Bool
 goodTo b sites commands k = all k (goodAt b sites commands)
-
--- Of each of the first k entries, the numbers are in range and it is no third;
-abbrev pub numberedTo : List ℕ → ℕ → ℕ → Bool
-numberedTo b sites k = all k (λ i. numbersOf sites (entryOf b i .site) (entryOf b i .round) && noThirdAt b i)
-
--- of each, the sets are in range.
-abbrev pub setsTo : List ℕ → ℕ → ℕ → Bool
-setsTo b commands k = all k (λ i. withinOf (entryOf b i .nc) commands && withinOf (entryOf b i .c) commands)
 
 -- The cells of a table of counts, one for each site and round.
 abbrev pub cells : ℕ

@@ -5,12 +5,11 @@ ghost use mathlib.Core.Path.{_≡_};
 ghost use Prim.Native.Nat.{ℕ, _+_, _*_, _≤_, _<_};
 ghost use lib.Dec.{eqb};
 ghost use lib.ListN.{length, replicate};
-ghost use Rattle.sets.specs.Sets.{least, unionOf};
+ghost use Rattle.sets.specs.Sets.{least};
 ghost use Rattle.table.specs.Table.{maxSites};
 ghost use Rattle.protocol.specs.Recovery.{entries};
 ghost use Rattle.system.specs.Dash.{lastRound};
-ghost use Rattle.entries.specs.Entries.{entrySize, entryOf, writeEntry, logTo, oneOf, numbersOf, inRangeOf, numberedTo, setsTo, goodTo};
-ghost use Rattle.entries.specs.Entries.{cells, Counting};
+ghost use Rattle.entries.specs.Entries.{entrySize, entryOf, writeEntry, logTo, oneOf, inRangeOf, goodTo, cells, Counting};
 use sets::Set;
 
 // One proposal in the log: the site that made it, its round, NC and C.
@@ -31,19 +30,12 @@ impl Entry {
 // The cells of a table of counts, one for each site and round: 11 times 32.
 pub const CELLS: usize = 352;
 
-fn wide(x: u8) -> usize
-    ensures { λ r. ⌜ (r ≡ x) × (r < 256) ⌝ }
-{
-    x as usize
-}
-
 // The site of the k-th entry.
 pub fn site_of(log: &[u8], k: usize) -> usize
     requires { ⌜ k * entrySize + entrySize ≤ length (now log) ⌝ }
     ensures { λ r. ⌜ r ≡ entryOf (now (log .entry)) k .site ⌝ }
 {
-    let byte = wire::get1(log, k * Entry::BYTES);
-    wide(byte)
+    wire::get1(log, k * Entry::BYTES) as usize
 }
 
 // The round of the k-th entry.
@@ -51,8 +43,7 @@ pub fn round_of(log: &[u8], k: usize) -> usize
     requires { ⌜ k * entrySize + entrySize ≤ length (now log) ⌝ }
     ensures { λ r. ⌜ r ≡ entryOf (now (log .entry)) k .round ⌝ }
 {
-    let byte = wire::get1(log, k * Entry::BYTES + 1);
-    wide(byte)
+    wire::get1(log, k * Entry::BYTES + 1) as usize
 }
 
 // NC of the k-th entry.
@@ -153,96 +144,17 @@ pub fn first_of(log: &[u8], k: usize, round: usize) -> usize
     k
 }
 
-// Whether a site and a round are in range.
-fn numbers_in_range(site: usize, round: usize, sites: usize) -> bool
-    ensures { λ r. ⌜ r ≡ numbersOf sites site round ⌝ }
-{
-    if site >= sites {
-        return false;
-    }
-    if round < 1 {
-        return false;
-    }
-    round <= Entry::ROUNDS
-}
-
 // Whether site, round and sets of an entry are in range.
 pub fn in_range(entry: Entry, sites: usize, commands: usize) -> bool
     ensures { λ r. ⌜ r ≡ inRangeOf sites commands entry ⌝ }
 {
-    if !numbers_in_range(entry.site, entry.round, sites) {
-        return false;
-    }
     let nc = entry.nc;
-    if !nc.within(commands) {
-        return false;
-    }
     let c = entry.c;
-    c.within(commands)
-}
-
-// The bits of a count, with those gathered before.
-fn gathered(bits: Set, count: u8) -> Set
-    ensures { λ r. ⌜ r ≡ unionOf bits (record { bits = count }) ⌝ }
-{
-    Set {
-        bits: bits.bits | count as u64,
-    }
-}
-
-// Whether a log read would take the numbers of each of the first k entries: in range, and no third of its site and round. The table,
-// where it would, has them counted. An entry is a third where the count before it is 2, the one count that has bit 1.
-fn count_prefix(log: &[u8], k: usize, sites: usize, counts: &mut [u8]) -> bool
-    requires { ⌜ (k * entrySize ≤ length (now log)) × (sites ≤ maxSites) × (now counts ≡ replicate cells 0) ⌝ }
-    ensures { λ r. ⌜ (r ≡ numberedTo (now (log .entry)) sites k) × (r ≡ true → Counting (now (log .entry)) k (now (counts .exit))) ⌝ }
-{
-    let mut found = Set::empty();
-    let mut i: usize = 0;
-    while i < k {
-        let site = site_of(log, i);
-        let round = round_of(log, i);
-        if !numbers_in_range(site, round, sites) {
-            return false;
-        }
-        let cell = site * Entry::ROUNDS + (round - 1);
-        let before = counts[cell];
-        found = gathered(found, before);
-        counts[cell] = std::num::wrapping_add_u8(before, 1);
-        i += 1;
-    }
-    !found.has(1)
-}
-
-// Whether the sets of the first k entries have no command from a number on. All are gathered before they are looked at, those of both
-// halves side by side, so that a union waits for one of two before it. Of an odd number the middle entry is in both halves.
-fn sets_within(log: &[u8], k: usize, commands: usize) -> bool
-    requires { ⌜ k * entrySize ≤ length (now log) ⌝ }
-    ensures { λ r. ⌜ r ≡ setsTo (now (log .entry)) commands k ⌝ }
-{
-    if commands >= Set::CAPACITY {
-        return true;
-    }
-    let later = k / 2;
-    let half = k - later;
-    let mut ncs = Set::empty();
-    let mut cs = Set::empty();
-    let mut later_ncs = Set::empty();
-    let mut later_cs = Set::empty();
-    let mut i: usize = 0;
-    while i < half {
-        let nc = nc_of(log, i);
-        let c = c_of(log, i);
-        let later_nc = nc_of(log, later + i);
-        let later_c = c_of(log, later + i);
-        ncs = ncs.union(nc);
-        cs = cs.union(c);
-        later_ncs = later_ncs.union(later_nc);
-        later_cs = later_cs.union(later_c);
-        i += 1;
-    }
-    let first = ncs.union(cs);
-    let second = later_ncs.union(later_cs);
-    first.within(commands) & second.within(commands)
+    (entry.site < sites)
+        & (1 <= entry.round)
+        & (entry.round <= Entry::ROUNDS)
+        & nc.within(commands)
+        & c.within(commands)
 }
 
 // Whether a log read would take each of the first k entries: in range, and no third of its site and round. The table, where it would,
@@ -251,10 +163,21 @@ pub fn judge_prefix(log: &[u8], k: usize, sites: usize, commands: usize, counts:
     requires { ⌜ (k * entrySize ≤ length (now log)) × (sites ≤ maxSites) × (now counts ≡ replicate cells 0) ⌝ }
     ensures { λ r. ⌜ (r ≡ goodTo (now (log .entry)) sites commands k) × (r ≡ true → Counting (now (log .entry)) k (now (counts .exit))) ⌝ }
 {
-    if !count_prefix(log, k, sites, counts) {
-        return false;
+    let mut i: usize = 0;
+    while i < k {
+        let entry = read_entry(log, i);
+        if !in_range(entry, sites, commands) {
+            return false;
+        }
+        let cell = entry.site * Entry::ROUNDS + (entry.round - 1);
+        let before = counts[cell];
+        if before >= 2 {
+            return false;
+        }
+        counts[cell] = before + 1;
+        i += 1;
     }
-    sets_within(log, k, commands)
+    true
 }
 
 // How many entries a site has in a round, by a table of counts.
@@ -262,8 +185,7 @@ pub fn counted(counts: &[u8], site: usize, round: usize) -> usize
     requires { ⌜ (length (now counts) ≡ cells) × (site < maxSites) × (1 ≤ round) × (round ≤ lastRound) ⌝ }
     ensures { λ r. ⌜ ((log : List ℕ) (k : ℕ) → Counting log k (now (counts .entry)) → r ≡ entries site round (logTo log k)) ⌝ }
 {
-    let count = wire::get1(counts, site * Entry::ROUNDS + (round - 1));
-    wide(count)
+    wire::get1(counts, site * Entry::ROUNDS + (round - 1)) as usize
 }
 
 // Whether a log read would take each of the first k entries.

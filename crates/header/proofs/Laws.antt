@@ -9,6 +9,7 @@ use native.Mathlib.Omega.{arith}
 use lib.Dec.{leb}
 use lib.ListN.{length, take, drop}
 use borrow.Author.Tests.{le-leb, lt-leb, leb-true}
+use Rattle.refusals.specs.Refusals.{isTaken}
 use Rattle.refusals.specs.declared.Refusal.{Refusal}
 use Rattle.refusals.specs.declared.Refusal.the-variants.{Book, Table, Size}
 use Rattle.refusals.specs.declared.Verdict.{Verdict}
@@ -26,7 +27,6 @@ use Rattle.theory.specs.Sets.{pick}
 use lib.Seq.{sets}
 use Rattle.wire.proofs.Laws.{part-all}
 use Rattle.protocol.specs.System.{granted, _else_⨾_, verdict}
-use Rattle.protocol.specs.CommonSequence.{isTaken}
 use Rattle.runs.specs.Run.{maxRun, headerSize, tableOf, bookSize, bookOf, stepBytes, forRun}
 use Rattle.header.specs.declared.Opened.the-variants as opened
 use Rattle.header.specs.Header.{forHeader, openedAs, judgeRun, placesAfter}

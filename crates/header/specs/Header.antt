@@ -5,6 +5,7 @@ use Prim.Native.Nat.{ℕ, _+_}
 use lib.Dec.{leb}
 use lib.ListN.{length}
 use lib.Seq.{sets}
+use Rattle.refusals.specs.Refusals.{isTaken}
 use Rattle.refusals.specs.declared.Refusal.the-variants.{Table, Size}
 use Rattle.refusals.specs.declared.Verdict.{Verdict}
 use Rattle.refusals.specs.declared.Verdict.the-variants.{Taken, Refused}
@@ -12,7 +13,6 @@ use Rattle.theory.specs.Sets.{pick}
 use Rattle.table.specs.Table.{goodTable}
 use Rattle.commands.specs.Book.{commandsOf, walkedPlaces}
 use Rattle.protocol.specs.System.{Demands, granted, _else_⨾_, verdict}
-use Rattle.protocol.specs.CommonSequence.{isTaken}
 use Rattle.runs.specs.Run.{maxRun, headerSize, tableOf, bookSize, bookOf, forRun}
 use Rattle.header.specs.declared.Opened.{Opened}
 use Rattle.header.specs.declared.Opened.the-variants as opened

@@ -1,47 +1,22 @@
--- Bytes that agree on a part: what is seen of that part is the same.
+-- What is seen of a part on which bytes agree is the same.
 -- Assumes nothing.
-use mathlib.Core.Path.{_≡_, refl, ap, _∙_}
+use mathlib.Core.Path.{_≡_, refl, ap}
 use mathlib.Core.Bool.{Bool, true, false, _&&_}
 use mathlib.Core.List.{List, [], _∷_, _++_}
 use Prim.Native.Nat.{ℕ, zero, suc, _+_, _*_, _-_, _≤_}
 use native.Mathlib.Omega.{arith}
 use lib.Dec.{leb, ltb}
-use lib.ListN.{length}
 use borrow.Author.Tests.{ltb-true, leb-true}
 use Rattle.theory.specs.Sets.{pick}
 use Rattle.theory.specs.Counting.{left, right}
-use Rattle.wire.specs.Wire.{readLe, splice}
-use Rattle.wire.proofs.Laws.{read-before, read-after}
+use Rattle.wire.specs.Wire.{readLe}
+use Rattle.wire.proofs.Agree.{Agree, agree-part}
 use Rattle.signed.specs.Signed.{signed32}
-use Rattle.sets.specs.Sets.{has, readSet}
+use Rattle.sets.specs.Sets.{has}
 use Rattle.table.specs.Table.{maxSites}
 use Rattle.register.specs.Register.{bikes, bike}
 use Rattle.register.specs.Lent.{bikeSize, bikeIn, registerOf}
 use Rattle.layout.specs.Layout.{heardPlace, registerPlace, deliveriesPlace, inTable, rowAt, cell, slot, heardIn, deliveriesOf}
-
--- Every number that stands between two places is the same in both.
-pub record Agree (b b′ : List ℕ) (from to : ℕ) : Type 0 where
-  pub reads : (n k : ℕ) → from ≤ k → k + n ≤ to → readLe n b′ k ≡ readLe n b k
-
--- A write changes nothing before it and nothing after it.
-pub agree-before : (b : List ℕ) (at : ℕ) (bs : List ℕ) (from : ℕ) → at ≤ length b → Agree b (splice b at bs) from at
-agree-before b at bs from h = record { reads = λ n k l m. read-before n b at bs k h m }
-
-pub agree-after : (b : List ℕ) (at : ℕ) (bs : List ℕ) (from to : ℕ) → at + length bs ≤ length b → at + length bs ≤ from → Agree b (splice b at bs) from to
-agree-after b at bs from to h l = record { reads = λ n k m o. read-after n b at bs k (omega arith) h }
-
-pub agree-equal : {b b′ : List ℕ} (from to : ℕ) → b′ ≡ b → Agree b b′ from to
-agree-equal from to e = record { reads = λ n k l m. ap (λ (x : List ℕ). readLe n x k) e }
-
-pub agree-trans : {a b c : List ℕ} {from to : ℕ} → Agree a b from to → Agree b c from to → Agree a c from to
-agree-trans p q = record { reads = λ n k l m. q .reads n k l m ∙ p .reads n k l m }
-
-pub agree-part : {a b : List ℕ} {from to : ℕ} (from′ to′ : ℕ) → Agree a b from to → from ≤ from′ → to′ ≤ to → Agree a b from′ to′
-agree-part from′ to′ p h l = record { reads = λ n k m o. p .reads n k (omega arith) (omega arith) }
-
-pub agree-set : {b b′ : List ℕ} {from to : ℕ} (at : ℕ) → Agree b b′ from to → from ≤ at → at + 8 ≤ to → readSet b′ at ≡ readSet b at
-unfolding readSet
-agree-set at g h l = λ i. record { bits = g .reads 8 at h l i }
 
 -- Where a test holds, what stands under it may be compared.
 under-test : (t : Bool) (p q : Bool) → (t ≡ true → p ≡ q) → (t && p) ≡ (t && q)

@@ -8,6 +8,7 @@ use lib.ListN.{length, drop, getD}
 use Rattle.wire.specs.Wire.{value, bytes, readLe, splice}
 use Rattle.wire.proofs.Laws.{length-splice, value-bytes, drop-after}
 use Rattle.sets.specs.Sets.{capacity}
+use Rattle.refusals.specs.Refusals.{settled}
 use Rattle.refusals.specs.declared.Refusal.{Refusal}
 use Rattle.refusals.specs.declared.Verdict.{Verdict}
 use Rattle.refusals.specs.declared.Verdict.the-variants.{Taken, Refused}
@@ -20,9 +21,10 @@ use Rattle.layout.specs.declared.Phase.the-variants.{Acknowledging, Wait
 use Rattle.layout.specs.declared.Site.{Site}
 use Rattle.layout.specs.Layout.{siteSize, phasePlace, countPlace, spanPlace, ncPlace, cPlace, heardPlace, registerPlace, deliveriesPlace, rowAt, slot, tagOf, proposalOf, headOf, headBytes, numbersBytes, setsBytes, heardIn, siteOf, ledgerOf, view, encode}
 use Rattle.layout.specs.Good.{Fit, GoodHead, GoodTables, Good, Holds, HoldsOver}
-use Rattle.layout.specs.Step.{settled, Carried}
+use Rattle.layout.specs.Step.{Carried}
 use Rattle.layout.proofs.Header.{head-back, length-head}
-use Rattle.layout.proofs.Agree.{Agree, agree-after, agree-part, heard-agree, register-agree, deliveries-agree}
+use Rattle.wire.proofs.Agree.{Agree, agree-after, agree-part}
+use Rattle.layout.proofs.Agree.{heard-agree, register-agree, deliveries-agree}
 use Rattle.layout.proofs.Encode.{encode-view}
 use Rattle.layout.proofs.Tables.{tables-agree}
 

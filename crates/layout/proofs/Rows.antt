@@ -4,26 +4,25 @@ use mathlib.Core.Path.{_≡_, refl, sym, ap, subst, _∙_}
 use mathlib.Core.Bool.{Bool, true, false, _&&_}
 use mathlib.Core.List.{List}
 use mathlib.Core.Logic.{_⊎_, inl, inr, ⊎-elim}
-use Prim.Native.Nat.{ℕ, _+_, _*_, _-_, _≤_, _<_}
+use Prim.Native.Nat.{ℕ, _+_, _-_, _≤_, _<_}
 use native.Mathlib.Omega.{arith}
 use native.Mathlib.Decide.{decLt}
-use lib.Dec.{leb, ltb}
-use lib.ListN.{length, take, drop, getD, replicate, length-replicate, replicate-append-replicate, length-take, length-drop}
+use lib.Dec.{leb}
+use lib.ListN.{length, drop, replicate, length-replicate}
 use borrow.Author.Tests.{leb-true, leb-false, le-leb, lt-leb}
-use borrow.Rule.Slice.PartMut.{putMid}
 use Rattle.theory.specs.Sets.{pick}
 use Rattle.theory.specs.Counting.{never}
 use Rattle.wire.specs.Wire.{readLe, bytes, splice}
-use Rattle.wire.proofs.Laws.{length-bytes, length-splice, drop-after, mid-splice, splice-none, splice-two}
+use Rattle.wire.proofs.Laws.{length-bytes, length-splice, drop-after}
 use Rattle.wire.proofs.Small.{Small, splice-small, zeros-small, bytes-small, read-zeros}
-use Rattle.sets.specs.declared.Set.{Set}
-use Rattle.sets.specs.Sets.{has, emptyOf, withinOf, readSet}
+use Rattle.sets.specs.Sets.{has, withinOf, readSet}
 use Rattle.sets.proofs.Laws.{has-empty}
 use Rattle.register.specs.Register.{Within}
 use Rattle.layout.specs.declared.Site.{Site}
 use Rattle.layout.specs.Layout.{siteSize, spanPlace, registerPlace, deliveriesPlace, heardPlace, siteRounds, rowAt, inTable, cell, slot, headOf, heardIn, spanWith, emptied, reached}
 use Rattle.layout.specs.Good.{GoodTables}
-use Rattle.layout.proofs.Agree.{Agree, agree-before, agree-after, agree-trans, agree-part, agree-set, cell-inside, register-agree}
+use Rattle.wire.proofs.Agree.{Agree, agree-before, agree-after, agree-trans, agree-part}
+use Rattle.layout.proofs.Agree.{cell-inside, register-agree}
 use Rattle.layout.proofs.Fields.{Begins, begins-still, withSpan, span-begins}
 use Rattle.layout.proofs.Senders.{in-table, table-bounds}
 use Rattle.layout.proofs.Tables.{within-empty}
@@ -198,40 +197,11 @@ unfolding headOf
 row-there b r e l =
     ap (λ (t : Bool). pick t b (splice (emptied b (readLe 2 b spanPlace) r) spanPlace (bytes 2 r))) (sym (le-leb r (readLe 2 b spanPlace) (omega arith)))
 
--- No rows are emptied.
-pub rows-none : (b : List ℕ) {k r : ℕ} → k ≡ r → b ≡ emptied b k r
-rows-none b {k} {r} e = let none : rowAt r - rowAt k ≡ 0 = omega arith in rw none (sym (splice-none b (rowAt k)))
-
--- A part of m bytes that is so many rows is cleared.
-pub rows-cleared : (b : List ℕ) (k r m : ℕ) {new : List ℕ} → length b ≡ siteSize → r ≤ siteRounds → k ≤ r → m ≡ rowAt r - rowAt k
-    → new ≡ replicate (length (take m (drop (rowAt k) b))) 0 → putMid (rowAt k) m b new ≡ emptied b k r
-rows-cleared b k r m {new} size last l em en =
-    let p : length (take m (drop (rowAt k) b)) ≡ m = let x = length-take m (drop (rowAt k) b) in let y = length-drop (rowAt k) b in omega arith in
-    let zeros : new ≡ replicate m 0 = en ∙ ap (λ (n : ℕ). replicate n 0) p in
-    mid-splice (rowAt k) m b new (ap length zeros ∙ length-replicate {A = ℕ} m 0) ∙ ap (splice b (rowAt k)) (zeros ∙ ap (λ (n : ℕ). replicate n 0) em)
-
--- Bytes are made 0, then those after them.
-zeros-two : (b : List ℕ) (at n m : ℕ) → at ≤ length b → splice (splice b at (replicate n 0)) (at + n) (replicate m 0) ≡ splice b at (replicate (n + m) 0)
-zeros-two b at n m h =
-    ap (λ (k : ℕ). splice (splice b at (replicate n 0)) (at + k) (replicate m 0)) (sym (length-replicate {A = ℕ} n 0))
-    ∙ splice-two b at (replicate n 0) (replicate m 0) h
-    ∙ ap (splice b at) (replicate-append-replicate n m 0)
-
--- Rows are emptied, then those after them.
-rows-two : (b : List ℕ) (k l r : ℕ) → length b ≡ siteSize → r ≤ siteRounds → k ≤ l → l ≤ r → emptied (emptied b k l) l r ≡ emptied b k r
-rows-two b k l r size last low high =
-    let from : rowAt l ≡ rowAt k + (rowAt l - rowAt k) = omega arith in
-    let both : rowAt l - rowAt k + (rowAt r - rowAt l) ≡ rowAt r - rowAt k = omega arith in
-    ap (λ (at : ℕ). splice (emptied b k l) at (replicate (rowAt r - rowAt l) 0)) from
-    ∙ zeros-two b (rowAt k) (rowAt l - rowAt k) (rowAt r - rowAt l) (omega arith)
-    ∙ ap (λ (n : ℕ). splice b (rowAt k) (replicate n 0)) both
-
-pub rows-new : (b : List ℕ) (r : ℕ) {n : ℕ} {l₁ l₂ l₃ : List ℕ} → length b ≡ siteSize → r ≤ siteRounds → n ≡ headOf b .span → n < r
-    → l₁ ≡ emptied b n (r - 1) → l₂ ≡ emptied l₁ (r - 1) r → l₃ ≡ splice l₂ spanPlace (bytes 2 r) → l₃ ≡ reached b r
+pub rows-new : (b : List ℕ) (r : ℕ) {n : ℕ} {l₁ l₂ : List ℕ} → n ≡ headOf b .span → n < r
+    → l₁ ≡ emptied b n r → l₂ ≡ splice l₁ spanPlace (bytes 2 r) → l₂ ≡ reached b r
 unfolding headOf
-rows-new b r {n} size last e g e₁ e₂ e₃ =
+rows-new b r {n} e g e₁ e₂ =
     let k = readLe 2 b spanPlace in
-    e₃
-    ∙ ap (λ (x : List ℕ). splice x spanPlace (bytes 2 r)) (e₂ ∙ ap (λ (x : List ℕ). emptied x (r - 1) r) e₁ ∙ rows-two b n (r - 1) r size last (omega arith) (omega arith))
-    ∙ ap (λ (m : ℕ). splice (emptied b m r) spanPlace (bytes 2 r)) e
+    e₂
+    ∙ (λ i. splice ((e₁ ∙ ap (λ (m : ℕ). emptied b m r) e) i) spanPlace (bytes 2 r))
     ∙ ap (λ (t : Bool). pick t b (splice (emptied b k r) spanPlace (bytes 2 r))) (sym (lt-leb r k (omega arith)))

@@ -9,11 +9,11 @@ use native.Mathlib.Omega.{arith}
 use native.Mathlib.Decide.{decLt}
 use lib.Dec.{eqb, leb, ltb}
 use lib.ListN.{length, take, drop, getD}
-use lib.Seq.{drop-drop, take-at, take-add}
+use lib.Seq.{drop-drop, take-add}
 use borrow.Author.Tests.{lt-ltb, le-leb, eq-eqb, eqb-true, ltb-true, leb-true}
 use Rattle.theory.specs.Counting.{both, left, right, never, or-false}
 use Rattle.wire.specs.Wire.{bytes, readLe}
-use Rattle.wire.proofs.Laws.{length-bytes, peel, read-lt}
+use Rattle.wire.proofs.Laws.{read-lt, read-bytes}
 use Rattle.sets.specs.declared.Set.{Set}
 use Rattle.sets.specs.Sets.{has, word, capacity, inSet, setOf, readSet, writeSet, unionOf}
 use Rattle.sets.proofs.Laws.{in-union, union-fits, read-fits, read-written, read-other, word-ext, word-has}
@@ -92,11 +92,6 @@ module _ (b : List ℕ) (small : (i : ℕ) → getD b i 0 < 256) (size : length 
     heard-set = λ i j′ r′ m. point j′ r′ m (inTable k j′ r′) (eqb j′ j && eqb r′ r) refl refl i
 
 -- ---- the bytes of the table
-
--- The bytes of what was read are what stands there.
-pub read-bytes : (b : List ℕ) → ((i : ℕ) → getD b i 0 < 256) → (n at : ℕ) → at + n ≤ length b → bytes n (readLe n b at) ≡ take n (drop at b)
-read-bytes b g n at h =
-    sym (take-at (bytes n (readLe n b at)) (drop (at + n) b) n (length-bytes n (readLe n b at))) ∙ ap (take n) (peel b g n at h)
 
 module _ (b : List ℕ) (small : (i : ℕ) → getD b i 0 < 256) (size : length b ≡ siteSize) (k : ℕ) (rows : k ≤ siteRounds) where
   -- The word of what a sender acknowledged.

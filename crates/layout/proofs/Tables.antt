@@ -19,7 +19,7 @@ use Rattle.wire.specs.Wire.{value, readLe, bytes, splice}
 use Rattle.wire.proofs.Laws.{length-bytes, length-splice, part-before, drop-after}
 use Rattle.sets.specs.declared.Set.{Set}
 use Rattle.sets.specs.Sets.{capacity, inSet, emptyOf, withOf, unionOf, withoutOf, withinOf, readSet, writeSet}
-use Rattle.sets.proofs.Laws.{in-empty, in-with, in-union, in-without, within-at, within-of}
+use Rattle.sets.proofs.Laws.{in-empty, in-with, in-union, in-without, within-at, within-of, agree-set}
 use Rattle.table.specs.Table.{maxSites}
 use Rattle.register.specs.declared.Command.{Command}
 use Rattle.register.specs.Register.{Within, Valid, bikeOf}
@@ -28,7 +28,8 @@ use Rattle.register.proofs.Laws.{kept-within}
 use Rattle.register.proofs.Lent.{length-bike}
 use Rattle.layout.specs.Layout.{siteSize, heardPlace, registerPlace, deliveriesPlace, siteRounds, rowSize, rowAt, cell, slot, heardIn, deliveryBytes}
 use Rattle.layout.specs.Good.{GoodTables}
-use Rattle.layout.proofs.Agree.{Agree, agree-before, agree-after, agree-equal, agree-trans, agree-part, agree-set, cell-inside, heard-agree, register-agree}
+use Rattle.wire.proofs.Agree.{Agree, agree-before, agree-after, agree-equal, agree-trans, agree-part}
+use Rattle.layout.proofs.Agree.{cell-inside, heard-agree, register-agree}
 use Rattle.layout.proofs.Senders.{in-table, table-bounds, kept, here, elsewhere}
 use Rattle.layout.proofs.Deliveries.{length-delivery, delivery-back}
 

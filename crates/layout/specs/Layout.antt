@@ -6,7 +6,7 @@ use mathlib.Core.List.{List, [], _∷_, _++_}
 use Prim.Native.Nat.{ℕ, zero, suc, _+_, _*_, _-_, _/_, _%_}
 use lib.Dec.{leb, ltb}
 use lib.IntN.{ℤ}
-use lib.ListN.{length, take, replicate}
+use lib.ListN.{length, take, drop, replicate}
 use Rattle.theory.specs.Machine.{Delivery}
 use Rattle.theory.specs.Sets.{pick}
 use Rattle.wire.specs.Wire.{bytes, readLe, splice}
@@ -101,6 +101,10 @@ cell j r = rowAt (r - 1) + setBytes * j
 -- The place of the k-th recorded delivery.
 abbrev pub slot : ℕ → ℕ
 slot k = deliveriesPlace + deliverySize * k
+
+-- The bytes of site i, where sites stand end to end.
+unfoldable pub siteAt : List ℕ → ℕ → List ℕ
+siteAt sites i = take siteSize (drop (i * siteSize) sites)
 
 -- ---- what the bytes say
 

@@ -4,17 +4,12 @@ use mathlib.Core.Path.{_≡_}
 use mathlib.Core.List.{List}
 use Prim.Native.Nat.{ℕ}
 use Rattle.refusals.specs.declared.Verdict.{Verdict}
-use Rattle.refusals.specs.declared.Verdict.the-variants.{Taken, Refused}
+pub use Rattle.refusals.specs.Refusals.{settled}
 use Rattle.table.specs.declared.SiteTable.{SiteTable}
 use Rattle.register.specs.declared.Command.{Command}
 use Rattle.protocol.specs.Site as protocol
 use Rattle.system.specs.Dash.{dash}
 use Rattle.layout.specs.Good.{HoldsOver}
-
--- The new state where a step is taken, else the old.
-abbrev pub settled : {A : Type 0} → Verdict → A → A → A
-settled Taken new old = new
-settled (Refused r) new old = old
 
 module _ (t : SiteTable) (book : List Command) where
   -- The answer is the verdict, and the bytes hold what it leaves over those before.

@@ -1,6 +1,6 @@
 // One site's state in lent bytes at fixed places: a header read as a struct, and read and written field by field, and the sets heard, the register and the deliveries in place.
 ghost use mathlib.Core.Path.{_≡_};
-ghost use Prim.Native.Nat.{_+_, _-_, _≤_, _<_};
+ghost use Prim.Native.Nat.{_+_, _≤_, _<_};
 ghost use lib.ListN.{length};
 ghost use Rattle.wire.specs.Wire.{bytes, splice};
 ghost use Rattle.sets.specs.Sets.{capacity, readSet, writeSet};
@@ -274,26 +274,14 @@ pub fn heard(site: &[u8], sender: usize, round: usize) -> Set
     Set::read(site, heard_place(sender, round))
 }
 
-// The rows of the rounds after one, up to another, are emptied. Most often there are none.
+// The rows of the rounds after one, up to another, are emptied.
 fn clear_rows(site: &mut [u8], rows: usize, round: usize)
     requires { ⌜ (length (now site) ≡ siteSize) × (rows ≤ round) × (round ≤ siteRounds) ⌝ }
     ensures { λ _. ⌜ now (site .exit) ≡ emptied (now (site .entry)) rows round ⌝ }
 {
-    if rows == round {
-        return;
-    }
     let from = Site::HEARD + Site::ROW * rows;
     let to = Site::HEARD + Site::ROW * round;
     wire::clear(&mut site[from..to]);
-}
-
-// The row of a round is emptied. Its size is known here, so this takes a few stores.
-fn clear_row(site: &mut [u8], round: usize)
-    requires { ⌜ (length (now site) ≡ siteSize) × (1 ≤ round) × (round ≤ siteRounds) ⌝ }
-    ensures { λ _. ⌜ now (site .exit) ≡ emptied (now (site .entry)) (round - 1) round ⌝ }
-{
-    let from = Site::HEARD + Site::ROW * (round - 1);
-    wire::clear(&mut site[from..from + Site::ROW]);
 }
 
 // The table of sets heard gets rows up to a round where it has fewer: nothing was heard in these rounds.
@@ -305,8 +293,7 @@ fn reach(site: &mut [u8], round: usize)
     if round <= rows {
         return;
     }
-    clear_rows(site, rows, round - 1);
-    clear_row(site, round);
+    clear_rows(site, rows, round);
     wire::put2(site, Site::SPAN, round as u16);
 }
 

@@ -2,7 +2,7 @@
 -- Assumes nothing.
 use mathlib.Core.Path.{_≡_, refl, sym, ap, subst, _∙_}
 use mathlib.Core.Bool.{Bool, true, false, _&&_}
-use mathlib.Core.List.{List, [], _++_}
+use mathlib.Core.List.{List, _++_}
 use Prim.Native.Nat.{ℕ, _+_, _*_, _≤_}
 use native.Mathlib.Omega.{arith}
 use lib.Dec.{ltb, lit<, lit≤}
@@ -23,11 +23,12 @@ use Rattle.protocol.specs.Site as protocol
 use Rattle.system.specs.Dash.{dash}
 use Rattle.layout.specs.declared.Phase.the-variants.{Acknowledging}
 use Rattle.layout.specs.declared.Site.{Site}
-use Rattle.layout.specs.Layout.{siteSize, registerPlace, heardPlace, inTable, cell, slot, numbersBytes, setsBytes, headBytes, heardIn, deliveriesOf}
+use Rattle.layout.specs.Layout.{siteSize, registerPlace, heardPlace, inTable, cell, slot, numbersBytes, setsBytes, headBytes, heardIn}
 use Rattle.layout.specs.Good.{Fit, GoodHead, GoodTables, Holds}
 use Rattle.layout.proofs.Senders.{table-bounds}
 use Rattle.layout.proofs.Tables.{within-empty}
 use Rattle.layout.proofs.Finish.{finish}
+use Rattle.lent.proofs.RoundTrip.{deliveries-zero}
 
 -- The header of a fresh site.
 abbrev freshHead : Site
@@ -76,10 +77,6 @@ heard-none b = λ i j r m. point j r m (inTable 0 j r) refl i
     point : (j r m : ℕ) (t : Bool) → inTable 0 j r ≡ t → (t && has (readLe 8 b (cell j r)) m) ≡ false
     point j r m true e = absurd (no-row j r e)
     point j r m false e = refl
-
-none : (b : List ℕ) → deliveriesOf 0 b ≡ []
-unfolding deliveriesOf
-none b = refl
 
 module _ (b : List ℕ) (size : length b ≡ siteSize) where
   -- The bytes with those before the table of sets heard 0.
@@ -148,5 +145,5 @@ module _ (b : List ℕ) (size : length b ≡ siteSize) where
         phase = protocol.acknowledging;
         position = 0;
         heard = heard-none blank i;
-        ledger = record { state = register-blank i; deliveries = none blank i };
+        ledger = record { state = register-blank i; deliveries = deliveries-zero blank i };
       })

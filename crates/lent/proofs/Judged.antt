@@ -4,36 +4,27 @@ use mathlib.Core.Path.{_≡_, refl, sym, ap, subst, _∙_}
 use mathlib.Core.Bool.{Bool, true, false, _&&_, _||_}
 use mathlib.Core.Logic.{_⊎_, inl, inr, ⊎-elim}
 use mathlib.Core.List.{List}
-use Prim.Native.Nat.{ℕ, zero, suc, _+_, _-_, _≤_, _<_}
+use Prim.Native.Nat.{ℕ, _+_, _-_, _≤_, _<_}
 use native.Mathlib.Omega.{arith}
 use lib.Dec.{eqb, leb, ltb}
 use lib.ListN.{length, getD}
 use borrow.Author.Tests.{ltb-true, lt-ltb, leb-true, le-leb, eqb-true, eq-eqb}
 use Rattle.theory.specs.Sets.{all}
-use Rattle.theory.specs.Counting.{both, never, left, right, either, true-or, or-true, lt-or-le, all-at, all-of}
+use Rattle.theory.specs.Counting.{both, never, left, right, either, true-or, or-true, same-test, lt-or-le, all-at, all-of, all-not}
 use Rattle.wire.specs.Wire.{readLe}
 use Rattle.sets.specs.declared.Set.{Set}
-use Rattle.sets.specs.Sets.{capacity, emptyOf, unionOf, isEmptyOf, withinOf, readSet}
-use Rattle.sets.proofs.Laws.{empty-word, union-fits, read-fits}
+use Rattle.sets.specs.Sets.{capacity, isEmptyOf, withinOf, readSet}
+use Rattle.sets.proofs.Laws.{empty-word, read-fits}
 use Rattle.table.specs.Table.{maxSites}
 use Rattle.register.specs.Register.{isWithin}
 use Rattle.register.specs.Lent.{registerOf}
 use Rattle.register.proofs.Laws.{within-test}
 use Rattle.register.proofs.Lent.{view-within}
 use Rattle.layout.specs.declared.Site.{Site}
-use Rattle.layout.specs.Layout.{siteSize, roundPlace, phasePlace, countPlace, positionPlace, receivedPlace, deliveredPlace, pendingPlace, fastPlace, ncPlace, cPlace, registerPlace, siteRounds, spanPlace, inTable, cell, slot, headOf, phaseFrom, proposalOf}
+use Rattle.layout.specs.Layout.{siteSize, phasePlace, countPlace, positionPlace, ncPlace, cPlace, registerPlace, siteRounds, spanPlace, inTable, cell, slot, headOf, proposalOf}
 use Rattle.layout.specs.Good.{GoodHead, GoodTables, Good, goodHead, goodCell, goodHeard, goodSlot, goodPhase, goodSite}
 use Rattle.layout.proofs.Encode.{counted, spanned}
 use Rattle.layout.proofs.Senders.{in-table, table-bounds}
-use Rattle.lent.proofs.Tables.{and-assoc, within-union, or-zero, same-false}
-
-pub not-sized : (sites commands entries : ℕ) (b : List ℕ) → eqb (length b) siteSize ≡ false → false ≡ goodSite sites commands entries b
-not-sized sites commands entries b e =
-    ap
-    (λ (t : Bool).
-    t && leb (readLe 2 b positionPlace) entries && goodPhase b && goodHead commands (headOf b) && goodHeard sites commands b
-    && isWithin (registerOf b registerPlace) && all capacity (goodSlot commands (readLe 2 b countPlace) b))
-    (sym e)
 
 -- ---- what the test tells
 
@@ -131,90 +122,6 @@ module _ (b : List ℕ) where
           true-or (eqb (readLe 1 b phasePlace) 1) (eqb (readLe 1 b phasePlace) 0 && eqb (readLe 8 b ncPlace) 0 && eqb (readLe 8 b cPlace) 0)
           (eq-eqb (readLe 1 b phasePlace) 1 (omega arith))
 
-  -- ---- what the code of judge_header makes of the bytes
-
-  -- The sets that a phase waits with are those that stand there, where nothing stands while it acknowledges.
-  nc-same : (t : ℕ) (nc c : Set) → (t ≡ 0 → nc ≡ emptyOf) → nc ≡ proposalOf (phaseFrom t nc c) .nc
-  nc-same zero nc c h = h refl
-  nc-same (suc t) nc c h = refl
-
-  c-same : (t : ℕ) (nc c : Set) → (t ≡ 0 → c ≡ emptyOf) → c ≡ proposalOf (phaseFrom t nc c) .c
-  c-same zero nc c h = h refl
-  c-same (suc t) nc c h = refl
-
-  empty-read : (at : ℕ) → readLe 8 b at ≡ 0 → readSet b at ≡ emptyOf
-  unfolding readSet
-  empty-read at e = λ i. record { bits = e i }
-
-  spread : (t r d p f n c : Bool) → t && ((((r && d) && p) && f) && (n && c)) ≡ (((((t && r) && d) && p) && f) && n) && c
-  spread true r d p f n c = sym (and-assoc (((r && d) && p) && f) n c)
-  spread false r d p f n c = refl
-
-  module _ (commands : ℕ) (size : length b ≡ siteSize) (small : (i : ℕ) → getD b i 0 < 256) where
-    nothing-proposed : isEmptyOf (unionOf (readSet b ncPlace) (readSet b cPlace)) ≡ eqb (readLe 8 b ncPlace) 0 && eqb (readLe 8 b cPlace) 0
-    unfolding readSet unionOf
-    nothing-proposed =
-        let n = read-fits b ncPlace small (omega (arith, size)) in
-        let c = read-fits b cPlace small (omega (arith, size)) in
-        sym (empty-word (unionOf (readSet b ncPlace) (readSet b cPlace)) (union-fits (readSet b ncPlace) (readSet b cPlace) n c))
-        ∙ or-zero (readLe 8 b ncPlace) (readLe 8 b cPlace) n c
-
-    abbrev within : ℕ → Bool
-    within at = withinOf (readSet b at) commands
-
-    abbrev sets : Set
-    sets =
-        unionOf (unionOf (unionOf (unionOf (readSet b receivedPlace) (readSet b deliveredPlace)) (readSet b pendingPlace)) (readSet b fastPlace))
-        (unionOf (readSet b ncPlace) (readSet b cPlace))
-
-    sets-within : withinOf sets commands
-        ≡ (((within receivedPlace && within deliveredPlace) && within pendingPlace) && within fastPlace) && (within ncPlace && within cPlace)
-    sets-within =
-        within-union _ (unionOf (readSet b ncPlace) (readSet b cPlace)) commands
-        ∙ (λ i.
-        (within-union _ (readSet b fastPlace) commands
-        ∙ (λ j. (within-union _ (readSet b pendingPlace) commands ∙ (λ k. within-union (readSet b receivedPlace) (readSet b deliveredPlace) commands k && within pendingPlace)) j && within fastPlace)) i
-        && within-union (readSet b ncPlace) (readSet b cPlace) commands i)
-
-    abbrev numbers : Bool
-    numbers =
-        leb 1 (readLe 1 b roundPlace) && leb (readLe 1 b roundPlace) siteRounds && leb (readLe 2 b countPlace) commands && leb (readLe 2 b countPlace) capacity
-        && leb (readLe 2 b spanPlace) siteRounds
-
-    in-phase : (p : Bool) → goodPhase b ≡ p
-        → (p && leb 1 (readLe 1 b roundPlace) && leb (readLe 1 b roundPlace) siteRounds && leb (readLe 2 b countPlace) commands && leb (readLe 2 b countPlace) capacity
-        && leb (readLe 2 b spanPlace) siteRounds && withinOf sets commands)
-        ≡ (p && goodHead commands (headOf b))
-    unfolding goodHead headOf
-    in-phase false e = refl
-    in-phase true e =
-        let h = phase-good e .1 in
-        ap (λ (t : Bool). numbers && t) sets-within
-        ∙ spread numbers (within receivedPlace) (within deliveredPlace) (within pendingPlace) (within fastPlace) (within ncPlace) (within cPlace)
-        ∙ (λ i.
-        ((((numbers && within receivedPlace) && within deliveredPlace) && within pendingPlace) && within fastPlace)
-        && withinOf (nc-same (readLe 1 b phasePlace) (readSet b ncPlace) (readSet b cPlace) (λ z. empty-read ncPlace (h z .0)) i) commands
-        && withinOf (c-same (readLe 1 b phasePlace) (readSet b ncPlace) (readSet b cPlace) (λ z. empty-read cPlace (h z .1)) i) commands)
-
-    pub head-judged : {tag round n k : ℕ} {u v : Set} {e w : Bool} → tag ≡ readLe 1 b phasePlace → round ≡ readLe 1 b roundPlace → n ≡ readLe 2 b countPlace
-        → k ≡ readLe 2 b spanPlace
-        → u ≡ unionOf (readSet b ncPlace) (readSet b cPlace)
-        → v ≡ unionOf (unionOf (unionOf (unionOf (readSet b receivedPlace) (readSet b deliveredPlace)) (readSet b pendingPlace)) (readSet b fastPlace)) u
-        → e ≡ isEmptyOf u → w ≡ withinOf v commands
-        → ((eqb tag 1 || eqb tag 0 && e) && leb 1 round && leb round siteRounds && leb n commands && leb n capacity && leb k siteRounds && w)
-        ≡ (goodPhase b && goodHead commands (headOf b))
-    head-judged et er en ek eu ev ee ew =
-        (λ i.
-        (eqb (et i) 1 || eqb (et i) 0 && (ee ∙ ap isEmptyOf eu ∙ nothing-proposed) i)
-        && leb 1 (er i) && leb (er i) siteRounds && leb (en i) commands && leb (en i) capacity && leb (ek i) siteRounds
-        && (ew ∙ ap (λ (s : Set). withinOf s commands) (ev ∙ ap (unionOf _) eu)) i)
-        ∙ ap
-        (λ (t : Bool).
-        (eqb (readLe 1 b phasePlace) 1 || t) && leb 1 (readLe 1 b roundPlace) && leb (readLe 1 b roundPlace) siteRounds && leb (readLe 2 b countPlace) commands
-        && leb (readLe 2 b countPlace) capacity && leb (readLe 2 b spanPlace) siteRounds && withinOf sets commands)
-        (sym (and-assoc (eqb (readLe 1 b phasePlace) 0) (eqb (readLe 8 b ncPlace) 0) (eqb (readLe 8 b cPlace) 0)))
-        ∙ in-phase (goodPhase b) refl
-
   module _ (sites commands n : ℕ) where
     tables-good : n ≤ capacity → goodHeard sites commands b ≡ true → isWithin (registerOf b registerPlace) ≡ true
         → all capacity (goodSlot commands n b) ≡ true → GoodTables sites commands n (readLe 2 b spanPlace) b
@@ -285,9 +192,18 @@ module _ (b : List ℕ) where
         (lt-or-le k n))
 
   module _ (sites commands entries : ℕ) where
-    -- A site that the test takes is good.
-    pub site-good : goodSite sites commands entries b ≡ true → Good sites commands b × (readLe 2 b positionPlace ≤ entries)
-    site-good h =
+    -- The parts of a site that the test takes.
+    pub record Parts : Type 0 where
+      pub size : eqb (length b) siteSize ≡ true
+      pub position : leb (readLe 2 b positionPlace) entries ≡ true
+      pub phase : goodPhase b ≡ true
+      pub head : goodHead commands (headOf b) ≡ true
+      pub heard : goodHeard sites commands b ≡ true
+      pub register : isWithin (registerOf b registerPlace) ≡ true
+      pub slots : all capacity (goodSlot commands (readLe 2 b countPlace) b) ≡ true
+
+    pub parts : goodSite sites commands entries b ≡ true → Parts
+    parts h =
         let t₁ = eqb (length b) siteSize in
         let t₂ = t₁ && leb (readLe 2 b positionPlace) entries in
         let t₃ = t₂ && goodPhase b in
@@ -300,87 +216,83 @@ module _ (b : List ℕ) where
         let e₄ = split t₃ (goodHead commands (headOf b)) (e₅ .0) in
         let e₃ = split t₂ (goodPhase b) (e₄ .0) in
         let e₂ = split t₁ (leb (readLe 2 b positionPlace) entries) (e₃ .0) in
-        let p = phase-good (e₃ .1) in
-        let g = head-good commands (headOf b) (e₄ .1) in (
+        record { size = e₂ .0; position = e₂ .1; phase = e₃ .1; head = e₄ .1; heard = e₅ .1; register = e₆ .1; slots = e₇ .1 }
+
+    pub whole : Parts → goodSite sites commands entries b ≡ true
+    whole p = simp (p .size, p .position, p .phase, p .head, p .heard, p .register, p .slots)
+
+    -- A site that the test takes is good.
+    pub site-good : goodSite sites commands entries b ≡ true → Good sites commands b × (readLe 2 b positionPlace ≤ entries)
+    site-good h =
+        let p = parts h in
+        let t = phase-good (p .phase) in
+        let g = head-good commands (headOf b) (p .head) in (
           record {
-            size = eqb-true (length b) siteSize (e₂ .0);
-            tag = p .0;
-            idle = p .1;
+            size = eqb-true (length b) siteSize (p .size);
+            tag = t .0;
+            idle = t .1;
             head = g;
-            tables = tables-good sites commands (readLe 2 b countPlace) (subst (λ (n : ℕ). n ≤ capacity) (sym (counted b)) (g .room)) (e₅ .1) (e₆ .1) (e₇ .1);
+            tables = tables-good sites commands (readLe 2 b countPlace) (subst (λ (n : ℕ). n ≤ capacity) (sym (counted b)) (g .room)) (p .heard) (p .register) (p .slots);
           },
-          leb-true (readLe 2 b positionPlace) entries (e₂ .1),
+          leb-true (readLe 2 b positionPlace) entries (p .position),
         )
 
     -- And every good site is taken.
     pub good-site : Good sites commands b → readLe 2 b positionPlace ≤ entries → goodSite sites commands entries b ≡ true
     good-site g l =
-        simp (
-          eq-eqb (length b) siteSize (g .size),
-          le-leb (readLe 2 b positionPlace) entries l,
-          good-phase (g .tag) (g .idle),
-          good-head commands (headOf b) (g .head),
-          good-heard sites commands (readLe 2 b countPlace) (g .tables),
-          within-test (registerOf b registerPlace) (g .tables .readings),
-          good-slots sites commands (readLe 2 b countPlace) (g .tables),
-        )
+        whole
+        (record {
+          size = eq-eqb (length b) siteSize (g .size);
+          position = le-leb (readLe 2 b positionPlace) entries l;
+          phase = good-phase (g .tag) (g .idle);
+          head = good-head commands (headOf b) (g .head);
+          heard = good-heard sites commands (readLe 2 b countPlace) (g .tables);
+          register = within-test (registerOf b registerPlace) (g .tables .readings);
+          slots = good-slots sites commands (readLe 2 b countPlace) (g .tables);
+        })
 
-  -- ---- what the code of judge tells
-
-  module _ (sites commands entries : ℕ) where
-    abbrev site : Bool
-    site = goodSite sites commands entries b
-
-    parts : site ≡ true
-        → (leb (readLe 2 b positionPlace) entries ≡ true) × ((goodPhase b && goodHead commands (headOf b)) ≡ true) × (goodHeard sites commands b ≡ true)
-        × (isWithin (registerOf b registerPlace) ≡ true)
-    parts h =
-        let t₁ = eqb (length b) siteSize in
-        let t₂ = t₁ && leb (readLe 2 b positionPlace) entries in
-        let t₃ = t₂ && goodPhase b in
-        let t₄ = t₃ && goodHead commands (headOf b) in
-        let t₅ = t₄ && goodHeard sites commands b in
-        let t₆ = t₅ && isWithin (registerOf b registerPlace) in
-        let e₆ = split t₅ (isWithin (registerOf b registerPlace)) (left t₆ (all capacity (goodSlot commands (readLe 2 b countPlace) b)) h) in
-        let e₅ = split t₄ (goodHeard sites commands b) (e₆ .0) in
-        let e₄ = split t₃ (goodHead commands (headOf b)) (e₅ .0) in
-        let e₃ = split t₂ (goodPhase b) (e₄ .0) in
-        (right t₁ (leb (readLe 2 b positionPlace) entries) (e₃ .0), both (goodPhase b) (goodHead commands (headOf b)) (e₃ .1) (e₄ .1), e₅ .1, e₆ .1)
+    -- ---- what the code of judge tells
 
     -- Where one part is not good, the site is not.
-    pub not-within-log : {p : ℕ} → p ≡ readLe 2 b positionPlace → entries < p → false ≡ site
-    not-within-log e l =
-        sym (same-false site (λ h. let q = leb-true (readLe 2 b positionPlace) entries (parts h .0) in let z = e in absurd (omega arith)))
-
-    pub not-header : {t : Bool} → t ≡ (goodPhase b && goodHead commands (headOf b)) → t ≡ false → false ≡ site
-    not-header {t} e f = sym (same-false site (λ h. never t (e ∙ parts h .1) f))
-
-    pub not-heard : {t : Bool} → t ≡ goodHeard sites commands b → t ≡ false → false ≡ site
-    not-heard {t} e f = sym (same-false site (λ h. never t (e ∙ parts h .2) f))
-
-    pub not-register : {t : Bool} → t ≡ isWithin (registerOf b registerPlace) → t ≡ false → false ≡ site
-    not-register {t} e f = sym (same-false site (λ h. never t (e ∙ parts h .3) f))
+    pub fails : {t u : Bool} → u ≡ t → u ≡ false → (Parts → t ≡ true) → false ≡ goodSite sites commands entries b
+    fails {t} e f h = same-test false (goodSite sites commands entries b) (λ z. absurd (never false z refl)) (λ z. absurd (never t (h (parts z)) (sym e ∙ f)))
 
     -- Where all parts but the deliveries are good, the deliveries tell.
-    pub judged : {p n : ℕ} {t u w d : Bool} → length b ≡ siteSize → p ≡ readLe 2 b positionPlace → p ≤ entries
-        → t ≡ (goodPhase b && goodHead commands (headOf b)) → t ≡ true → u ≡ goodHeard sites commands b → u ≡ true
-        → w ≡ isWithin (registerOf b registerPlace) → w ≡ true → n ≡ readLe 2 b countPlace → d ≡ all capacity (goodSlot commands n b) → d ≡ site
-    judged el ep lp et tt′ eu ut ew wt en ed =
-        let h = split (goodPhase b) (goodHead commands (headOf b)) (sym et ∙ tt′) in
-        let l : readLe 2 b positionPlace ≤ entries = let z = ep in omega arith in
+    pub judged : {n : ℕ} {d : Bool} → length b ≡ siteSize → readLe 2 b positionPlace ≤ entries → goodPhase b ≡ true → goodHead commands (headOf b) ≡ true
+        → goodHeard sites commands b ≡ true → isWithin (registerOf b registerPlace) ≡ true
+        → n ≡ readLe 2 b countPlace → d ≡ all capacity (goodSlot commands n b) → d ≡ goodSite sites commands entries b
+    judged el lp ep eh eu ew en ed =
         ed
         ∙ ap (λ (m : ℕ). all capacity (goodSlot commands m b)) en
         ∙ sym (λ i.
-        eq-eqb (length b) siteSize el i && le-leb (readLe 2 b positionPlace) entries l i && h .0 i && h .1 i && (sym eu ∙ ut) i && (sym ew ∙ wt) i
+        eq-eqb (length b) siteSize el i && le-leb (readLe 2 b positionPlace) entries lp i && ep i && eh i && eu i && ew i
         && all capacity (goodSlot commands (readLe 2 b countPlace) b))
 
-    good-when : {t : Bool} → t ≡ (goodPhase b && goodHead commands (headOf b)) → t ≡ true → GoodHead commands (headOf b)
-    good-when e h = head-good commands (headOf b) (right (goodPhase b) (goodHead commands (headOf b)) (sym e ∙ h))
+-- A header that is good has no more rows than there are rounds.
+pub short : (commands : ℕ) (b : List ℕ) → goodHead commands (headOf b) ≡ true → readLe 2 b spanPlace ≤ siteRounds
+short commands b h = subst (λ (n : ℕ). n ≤ siteRounds) (sym (spanned b)) (head-good commands (headOf b) h .span)
 
-    -- A header that is good counts no more deliveries than there are places.
-    pub few : {t : Bool} → t ≡ (goodPhase b && goodHead commands (headOf b)) → t ≡ true → readLe 2 b countPlace ≤ capacity
-    few e h = subst (λ (n : ℕ). n ≤ capacity) (sym (counted b)) (good-when e h .room)
+-- The set heard of a sender in a round, looked at.
+pub cell-judged : (b : List ℕ) (sites commands j r : ℕ) {x : Set} {t e : Bool} → ((i : ℕ) → getD b i 0 < 256) → cell j r + 8 ≤ length b
+    → x ≡ readSet b (cell j r) → t ≡ withinOf x commands → e ≡ isEmptyOf x → (t && (ltb j sites || e)) ≡ goodCell sites commands b j r
+unfolding readSet
+cell-judged b sites commands j r small h ex et ee =
+    let z = empty-word (readSet b (cell j r)) (read-fits b (cell j r) small h) in
+    λ i. (et ∙ ap (λ (s : Set). withinOf s commands) ex) i && (ltb j sites || (ee ∙ ap isEmptyOf ex ∙ sym z) i)
 
-    -- Nor has it more rows than there are rounds.
-    pub short : {t : Bool} → t ≡ (goodPhase b && goodHead commands (headOf b)) → t ≡ true → readLe 2 b spanPlace ≤ siteRounds
-    short e h = subst (λ (n : ℕ). n ≤ siteRounds) (sym (spanned b)) (good-when e h .span)
+-- All sets heard, looked at sender by sender and round by round.
+module _ (b : List ℕ) (sites commands : ℕ) {n : ℕ} (e : n ≡ readLe 2 b spanPlace) where
+  pub heard-bad : (j i : ℕ) {t : Bool} → j < maxSites → i < n → t ≡ goodCell sites commands b j (i + 1) → t ≡ false → false ≡ goodHeard sites commands b
+  heard-bad j i lj li et f = sym (all-not maxSites _ j lj (all-not (readLe 2 b spanPlace) _ i (omega arith) (sym et ∙ f)))
+
+  pub heard-all : (j : ℕ) → j ≡ maxSites → all j (λ k. all n (λ i. goodCell sites commands b k (i + 1))) ≡ true → true ≡ goodHeard sites commands b
+  heard-all j q h = sym h ∙ (λ d. all (q d) (λ k. all (e d) (λ i. goodCell sites commands b k (i + 1))))
+
+-- What a header that was read says of the log position and of the deliveries.
+module _ (b : List ℕ) {h : Site} (e : h ≡ headOf b) where
+  pub positioned : h .position ≡ readLe 2 b positionPlace
+  unfolding headOf
+  positioned = ap (λ (x : Site). x .position) e
+
+  pub recorded : h .deliveries ≡ readLe 2 b countPlace
+  recorded = ap (λ (x : Site). x .deliveries) e ∙ sym (counted b)

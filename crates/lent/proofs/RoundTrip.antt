@@ -138,7 +138,7 @@ deliveries-suc : (k : ℕ) (b : List ℕ) → deliveriesOf (suc k) b ≡ deliver
 unfolding deliveriesOf
 deliveries-suc k b = refl
 
-deliveries-zero : (b : List ℕ) → deliveriesOf 0 b ≡ []
+pub deliveries-zero : (b : List ℕ) → deliveriesOf 0 b ≡ []
 unfolding deliveriesOf
 deliveries-zero b = refl
 

@@ -1,10 +1,10 @@
 -- What the calls that look at a site write, and what of the protocol's site that is.
 -- Assumes nothing.
-use mathlib.Core.Path.{_≡_, refl, sym, ap, subst, _∙_}
-use mathlib.Core.Bool.{Bool, true, false}
+use mathlib.Core.Path.{_≡_, refl, sym, ap, _∙_}
+use mathlib.Core.Bool.{true}
 use mathlib.Core.List.{List, [], _∷_, _++_}
 use mathlib.Core.Logic.{_⊎_, inl, inr}
-use mathlib.Core.Option.{Option, none, some}
+use mathlib.Core.Option.{Option, some}
 use Prim.Native.Nat.{ℕ, zero, suc, _+_, _≤_, _<_}
 use native.Mathlib.Omega.{arith}
 use lib.Dec.{leb, ltb}
@@ -15,6 +15,7 @@ use borrow.Author.Tests.{leb-true, lt-ltb, le-ltb}
 use Rattle.theory.specs.Sets.{one}
 use Rattle.theory.specs.Lists.{nth}
 use Rattle.theory.specs.Machine.{Delivery}
+use Rattle.theory.specs.ListLaws.{nth-append, nth-last, nth-end}
 use Rattle.theory.specs.Counting.{last-or-below}
 use Rattle.wire.specs.Wire.{bytes, readLe, splice}
 use Rattle.signed.proofs.Laws.{bytes-signed}
@@ -77,25 +78,10 @@ unfolding deliveriesOf
 nth-below zero k b h = absurd (omega arith)
 nth-below (suc n) k b h = go (last-or-below k n h) (λ l. nth-below n k b l)
   where
-    append : {A : Type 0} (l more : List A) (i : ℕ) → i < length l → nth (l ++ more) i ≡ nth l i
-    append [] more i h = absurd (omega arith)
-    append (x ∷ l) more zero h = refl
-    append (x ∷ l) more (suc i) h = append l more i (omega arith)
-
-    last : {A : Type 0} (l : List A) (x : A) (i : ℕ) → i ≡ length l → nth (l ++ (x ∷ [])) i ≡ some x
-    last [] x i h = rw h refl
-    last (y ∷ l) x zero h = absurd (omega arith)
-    last (y ∷ l) x (suc i) h = last l x i (omega arith)
-
     go : (k ≡ n) ⊎ (k < n) → (k < n → nth (deliveriesOf n b) k ≡ some (deliveryOf b k))
         → nth (deliveriesOf n b ++ (deliveryOf b n ∷ [])) k ≡ some (deliveryOf b k)
-    go (inl e) r = last (deliveriesOf n b) (deliveryOf b n) k (e ∙ sym (length-deliveries n b)) ∙ ap (λ (m : ℕ). some (deliveryOf b m)) (sym e)
-    go (inr l) r = append (deliveriesOf n b) (deliveryOf b n ∷ []) k (let z = length-deliveries n b in omega arith) ∙ r l
-
-nth-past : {A : Type 0} (l : List A) (k : ℕ) → length l ≤ k → nth l k ≡ none
-nth-past [] k h = refl
-nth-past (x ∷ l) zero h = absurd (omega arith)
-nth-past (x ∷ l) (suc k) h = nth-past l k (omega arith)
+    go (inl e) r = nth-last (deliveriesOf n b) (deliveryOf b n) k (e ∙ sym (length-deliveries n b)) ∙ ap (λ (m : ℕ). some (deliveryOf b m)) (sym e)
+    go (inr l) r = nth-append (deliveriesOf n b) (deliveryOf b n ∷ []) k (let z = length-deliveries n b in omega arith) ∙ r l
 
 module _ (n f : ℕ) (book site : List ℕ) where
   status-seen : Good n (length (commandsOf book)) (take siteSize site)
@@ -207,7 +193,7 @@ module _ (n f : ℕ) (book site : List ℕ) where
             (λ j. outcome (ek j) o)
             ∙ last-refused (forSite n f book (leb deliverySize (length o)) site)
             (isSome (nth (deliveriesOf (readLe 2 (take siteSize site) countPlace) (take siteSize site)) i)) Range _ o delivery-code refl
-            (ap isSome (nth-past (deliveriesOf (readLe 2 (take siteSize site) countPlace) (take siteSize site)) i
+            (ap isSome (nth-end (deliveriesOf (readLe 2 (take siteSize site) countPlace) (take siteSize site)) i
             (let e = length-deliveries (readLe 2 (take siteSize site) countPlace) (take siteSize site) in omega arith)))
 
         pub delivery-taken : i < count → {l : List ℕ} → l ≡ splice o 0 (deliveryBytes (deliveryOf (take siteSize site) i .command) (deliveryOf (take siteSize site) i .answer))

@@ -1,24 +1,19 @@
 -- Demand 3 as a statement: what document 01's section "The common sequence" says of a list of steps and the world after it.
 -- Assumes nothing.
 use mathlib.Core.Path.{_≡_}
-use mathlib.Core.Bool.{Bool, true, false, _&&_, not}
+use mathlib.Core.Bool.{true, _&&_, not}
 use mathlib.Core.List.{List, [], _∷_, _++_, foldl, map}
-use mathlib.Core.Option.{Option, none, some}
+use mathlib.Core.Option.{none, some}
 use Prim.Native.Nat.{ℕ, suc, _<_}
 use lib.Dec.{eqb}
-use Rattle.refusals.specs.declared.Verdict.{Verdict}
-use Rattle.refusals.specs.declared.Verdict.the-variants.{Taken, Refused}
+pub use Rattle.refusals.specs.Refusals.{isTaken}
 use Rattle.theory.specs.Sets.{Set, _∖_, pick, any, members}
 use Rattle.theory.specs.Lists.{contents, distinct, before, sift}
-use Rattle.theory.specs.Machine.{Delivery, run, answered, answerIn}
+use Rattle.theory.specs.Machine.{run, answered, answerIn}
 use Rattle.protocol.specs.System.{System, correct}
 use Rattle.protocol.specs.Recovery.{Log, Tally, decide, ncSet, cSet}
 use Rattle.protocol.specs.Site.{Site, tallyOr}
 use Rattle.protocol.specs.World.{World, Step, command, acknowledgment, check, falseAcknowledgment, falseCheck, falseEntry, turn, fastDelivery, logRead, roundEnd, start, step, judge, play}
-
-abbrev pub isTaken : Verdict → Bool
-isTaken Taken = true
-isTaken (Refused r) = false
 
 -- What has been read off the list for one site: the round that its next round end ends, and what it has delivered.
 pub record Reading : Type 0 where

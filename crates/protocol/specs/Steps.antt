@@ -7,13 +7,14 @@ use Prim.Native.Nat.{ℕ}
 use native.Mathlib.Omega.{arith}
 use lib.Dec.{eqb}
 use borrow.Author.Tests.{eqb-true}
+use Rattle.refusals.specs.Refusals.{settled}
 use Rattle.refusals.specs.declared.Refusal.{Refusal}
 use Rattle.refusals.specs.declared.Verdict.{Verdict}
 use Rattle.refusals.specs.declared.Verdict.the-variants.{Taken, Refused}
 use Rattle.theory.specs.Sets.{pick}
 use Rattle.protocol.specs.System.{System, Demands, granted, _else_⨾_, verdict, correct}
 use Rattle.protocol.specs.Site.{Site}
-use Rattle.protocol.specs.World.{World, Step, demands, change, judge, settle, step, play}
+use Rattle.protocol.specs.World.{World, Step, demands, change, judge, step, play}
 
 -- Every demand holds.
 abbrev pub Met : Demands → Type 0
@@ -39,7 +40,7 @@ module _ (S : System) where
     pub step-keeps : (w : World S) (t : Step) → P w → P (step S w t)
     step-keeps w t v = go (judge S w t) refl
       where
-        go : (d : Verdict) → judge S w t ≡ d → P (settle S d (change S w t) w)
+        go : (d : Verdict) → judge S w t ≡ d → P (settled d (change S w t) w)
         go Taken e = keeps w t v (met (demands S w t) e)
         go (Refused r) e = v
 

@@ -1,18 +1,18 @@
 -- The world of all sites: the ten steps 01 to 0A of document 01, their refusals, and play over a list of steps.
 -- Assumes nothing.
-use mathlib.Core.Bool.{Bool, true, false, _&&_, _||_, not}
+use mathlib.Core.Bool.{_&&_, not}
 use mathlib.Core.List.{List, [], _∷_, _++_, foldl}
 use mathlib.Core.Option.{Option, none, some}
-use Prim.Native.Nat.{ℕ, zero, suc, pred}
+use Prim.Native.Nat.{ℕ, suc, pred}
 use lib.Dec.{eqb, leb, ltb}
+use Rattle.refusals.specs.Refusals.{settled}
 use Rattle.refusals.specs.declared.Refusal.the-variants.{Range, Role, Disabled, ThirdEntry}
 use Rattle.refusals.specs.declared.Verdict.{Verdict}
-use Rattle.refusals.specs.declared.Verdict.the-variants.{Taken, Refused}
-use Rattle.theory.specs.Sets.{Set, ∅, only, _∪_, pick}
+use Rattle.theory.specs.Sets.{Set, ∅, only, pick}
 use Rattle.theory.specs.Lists.{nth}
 use Rattle.protocol.specs.System.{System, Demands, granted, _else_⨾_, verdict, correct, known}
 use Rattle.protocol.specs.Recovery.{Entry, Log, entries}
-use Rattle.protocol.specs.Site.{Site, Proposal, fresh, receive, hear, acknowledge, propose, proposal, deliverFast, readEntry, finish, undelivered, unacknowledged, acknowledges, decision, tallyOr, isSome, next, nextInRange, forTurn, forFastDelivery, forLogRead, forRoundEnd}
+use Rattle.protocol.specs.Site.{Site, fresh, receive, hear, acknowledge, propose, proposal, deliverFast, readEntry, finish, undelivered, acknowledges, decision, tallyOr, isSome, next, nextInRange, forTurn, forFastDelivery, forLogRead, forRoundEnd}
 
 -- The steps of a run. i is the site that receives or acts, j the one that a message or entry comes from, r a round.
 pub data Step : Type 0 where
@@ -174,11 +174,10 @@ module _ (S : System) where
 
   -- A refused step leaves everything as it was.
   abbrev pub settle : Verdict → World → World → World
-  settle Taken new old = new
-  settle (Refused r) new old = old
+  settle = settled
 
   abbrev pub step : World → Step → World
-  step w t = settle (judge w t) (change w t) w
+  step w t = settled (judge w t) (change w t) w
 
   -- Each step gets what the step before it left.
   abbrev pub play : World → List Step → World

@@ -1,5 +1,6 @@
 -- The numbers of the refusals: document 01, "When a sheet or step is turned down".
 -- Assumes nothing.
+use mathlib.Core.Bool.{Bool, true, false}
 use Prim.Native.Nat.{ℕ}
 use Rattle.refusals.specs.declared.Refusal.{Refusal}
 use Rattle.refusals.specs.declared.Refusal.the-variants.{Book, Table, Form, Range, Role, Disabled, ThirdEntry, LastRound, Size}
@@ -17,6 +18,15 @@ numberOf Disabled = 6
 numberOf ThirdEntry = 7
 numberOf LastRound = 8
 numberOf Size = 9
+
+abbrev pub isTaken : Verdict → Bool
+isTaken Taken = true
+isTaken (Refused r) = false
+
+-- The new state where a step is taken, else the old.
+abbrev pub settled : {A : Type 0} → Verdict → A → A → A
+settled Taken new old = new
+settled (Refused r) new old = old
 
 -- A call that answers one number answers 0 where the input was taken.
 abbrev pub codeOf : Verdict → ℕ

@@ -12,11 +12,11 @@ use borrow.Author.Tests.{le-leb, lt-leb, ltb-true, ltb-false, lt-ltb, le-ltb, eq
 use lib.Dec.{leb, ltb, eqb, lit<, lit≤}
 use lib.IntN.{ℤ}
 use lib.ListN.{length, take, drop, getD, length-append, take-append-drop}
-use lib.Seq.{drop-drop, take-at, take-add}
+use lib.Seq.{drop-drop, take-add}
 use Rattle.theory.specs.Sets.{pick, all}
 use Rattle.theory.specs.Counting.{last-or-below, all-more, all-not}
 use Rattle.wire.specs.Wire.{bytes, readLe, splice}
-use Rattle.wire.proofs.Laws.{length-bytes, length-splice, read-same, read-before, read-after, read-lt, peel, splice-two, part-before, drop-after}
+use Rattle.wire.proofs.Laws.{length-bytes, length-splice, read-same, read-before, read-after, read-lt, splice-two, part-before, drop-after, read-bytes}
 use Rattle.register.specs.declared.Bike.{Bike}
 use Rattle.register.specs.declared.Command.{Command}
 use Rattle.register.specs.declared.Command.the-variants.{Add, Fit, Read, Trim}
@@ -170,11 +170,6 @@ register-view r b at h w s = λ i k. by-test k (ltb k bikes) refl i
     by-test : (k : ℕ) (t : Bool) → ltb k bikes ≡ t → pick t (bikeIn (splice b at (registerBytes r)) (at + bikeSize * k)) (bike 0 0) ≡ r k
     by-test k true e = bikes-view bikes r b at h (small r w s) k (ltb-true k bikes e)
     by-test k false e = sym (s .beyond k (ltb-false k bikes e))
-
--- The bytes of what was read are what stands there.
-read-bytes : (b : List ℕ) → ((i : ℕ) → getD b i 0 < 256) → (n at : ℕ) → at + n ≤ length b → bytes n (readLe n b at) ≡ take n (drop at b)
-read-bytes b g n at h =
-    sym (take-at (bytes n (readLe n b at)) (drop (at + n) b) n (length-bytes n (readLe n b at))) ∙ ap (take n) (peel b g n at h)
 
 bike-bytes : (b : List ℕ) → ((i : ℕ) → getD b i 0 < 256) → (place : ℕ) → place + bikeSize ≤ length b → bikeBytes (bikeIn b place) ≡ take bikeSize (drop place b)
 bike-bytes b g place h =

@@ -20,10 +20,10 @@ use Rattle.lines.specs.Lines.{lineEnd, siteHead, deliveryText, deliveriesText, 
 use Rattle.protocol.specs.Site as protocol
 use Rattle.protocol.specs.World.{World}
 use Rattle.system.specs.Dash.{dash}
-use Rattle.layout.specs.Layout.{siteSize, headOf, deliveryOf, deliveriesOf, view}
+use Rattle.layout.specs.Layout.{siteAt, siteSize, headOf, deliveryOf, deliveriesOf, view}
 use Rattle.layout.specs.Good.{Good, GoodAt}
 use Rattle.runs.specs.Run.{siteLines}
-use Rattle.report.specs.Report.{Printable, AllPrintable, lineOf, siteAt, lineAt, linesBelow}
+use Rattle.report.specs.Report.{Printable, AllPrintable, lineOf, lineAt, linesBelow}
 
 -- ---- the text
 
@@ -63,6 +63,7 @@ faulty-line t sites i s at h = rw h (wrote-none s at)
 
 pub correct-line : {s s₁ : List ℕ} {at r : ℕ} (t : SiteTable) (sites : List ℕ) (i : ℕ) {k : ℕ} → faultyOf t i ≡ false → k ≡ siteSize
     → Wrote s₁ r s at (lineOf i (take k (drop (i * siteSize) sites))) → Wrote s₁ r s at (lineAt t sites i)
+unfolding siteAt
 correct-line t sites i h e w = rw h (rw e at w)
 
 -- One site more is printed.

@@ -4,14 +4,14 @@ use mathlib.Core.Bool.{false, not}
 use mathlib.Core.List.{List, [], _++_}
 use mathlib.Core.Path.{_≡_}
 use Prim.Native.Nat.{ℕ, zero, suc, _*_, _≤_, _<_}
-use lib.ListN.{length, take, drop}
+use lib.ListN.{length}
 use Rattle.theory.specs.Sets.{pick}
 use Rattle.wire.specs.Wire.{readLe}
 use Rattle.sets.specs.Sets.{capacity}
 use Rattle.table.specs.declared.SiteTable.{SiteTable}
 use Rattle.table.specs.Table.{faultyOf}
 use Rattle.lines.specs.Lines.{siteLine}
-use Rattle.layout.specs.Layout.{siteSize, countPlace, headOf, deliveriesOf}
+use Rattle.layout.specs.Layout.{siteSize, siteAt, countPlace, headOf, deliveriesOf}
 
 -- The most bytes of a delivery in a line, and of a line with 64 deliveries.
 abbrev pub deliveryRoom : ℕ
@@ -28,10 +28,6 @@ pub record Printable (b : List ℕ) : Type 0 where
 -- The line of the site that lent bytes are seen as, under a number.
 abbrev pub lineOf : ℕ → List ℕ → List ℕ
 lineOf number b = siteLine number (headOf b .round) (deliveriesOf (readLe 2 b countPlace) b)
-
--- The bytes of site i, where sites stand end to end.
-abbrev pub siteAt : List ℕ → ℕ → List ℕ
-siteAt sites i = take siteSize (drop (i * siteSize) sites)
 
 -- The line of site i, none where it is faulty.
 abbrev pub lineAt : SiteTable → List ℕ → ℕ → List ℕ

@@ -7,8 +7,8 @@ ghost use Rattle.sets.specs.Sets.{capacity};
 ghost use Rattle.table.specs.Table.{faultyOf};
 ghost use Rattle.print.specs.Print.{Wrote};
 ghost use Rattle.lines.specs.Lines.{deliveriesText};
-ghost use Rattle.layout.specs.Layout.{siteSize, deliveriesOf};
-ghost use Rattle.report.specs.Report.{deliveryRoom, lineRoom, Printable, AllPrintable, lineOf, siteAt, lineAt, linesBelow};
+ghost use Rattle.layout.specs.Layout.{siteAt, siteSize, deliveriesOf};
+ghost use Rattle.report.specs.Report.{deliveryRoom, lineRoom, Printable, AllPrintable, lineOf, lineAt, linesBelow};
 use layout::Site;
 use table::SiteTable;
 

@@ -9,7 +9,7 @@ use borrow.Author.Tests.{leb-true}
 use lib.Dec.{leb}
 use lib.ListN.{length, take, drop, length-take, length-drop, length-append}
 use lib.Seq.{length-take-le, take-at, drop-at}
-use Rattle.refusals.specs.Refusals.{numberOf}
+use Rattle.refusals.specs.Refusals.{numberOf, isTaken}
 use Rattle.refusals.specs.declared.Refusal.{Refusal}
 use Rattle.refusals.specs.declared.Verdict.the-variants.{Taken, Refused}
 use Rattle.theory.specs.Sets.{pick}
@@ -23,7 +23,6 @@ use Rattle.commands.specs.Book.{maxCommands, commandsOf, placesOf}
 use Rattle.commands.proofs.Walk.{few-commands}
 use Rattle.protocol.specs.System.{verdict}
 use Rattle.protocol.specs.World.{World, start}
-use Rattle.protocol.specs.CommonSequence.{isTaken}
 use Rattle.system.specs.Dash.{dash}
 use Rattle.print.specs.Print.{Wrote}
 use Rattle.print.proofs.Laws.{both}
@@ -35,13 +34,12 @@ use Rattle.header.specs.declared.Opened.the-variants as opened
 use Rattle.header.specs.Header.{judgeRun, placesAfter}
 use Rattle.header.proofs.Laws.{Sound, judged-taken, places-noted}
 use Rattle.runs.specs.Run.{maxRun, headerSize, bookSize, tableOf, bookOf, stepBytes, forRun, siteLines, played, printAs, printOf}
-use Rattle.layout.specs.Layout.{siteSize, spanPlace}
-use Rattle.world.specs.World as world
+use Rattle.layout.specs.Layout.{siteAt, siteSize, spanPlace}
 use Rattle.world.specs.World.{Buffers, HoldsWorld}
 use Rattle.world.specs.Started.{Started}
 use Rattle.world.proofs.Past.{further}
 use Rattle.play.specs.Played.{PlayedAll}
-use Rattle.report.specs.Report.{AllPrintable, siteAt, linesBelow}
+use Rattle.report.specs.Report.{AllPrintable, linesBelow}
 use Rattle.report.proofs.Laws.{good-all-printable, lines-seen}
 use Rattle.sent.specs.Sent.{sentSize}
 use Rattle.world.specs.Parts.{lent}
@@ -61,11 +59,9 @@ first-short t book {f} {c} good ef ec =
 
 module _ (t : SiteTable) (book : List Command) {b : Buffers} {w : World (dash t book)} (h : HoldsWorld t book b w) where
   pub held-printable : AllPrintable t (b .sites)
-  unfolding world.siteAt
   held-printable = good-all-printable t book (b .sites) (omega (arith, h .good .size)) (λ i l e. h .site i l .good)
 
   held-lines : linesBelow t (b .sites) (t .sites) ≡ siteLines t book (t .sites) w
-  unfolding world.siteAt
   held-lines = lines-seen t book (b .sites) w (t .sites) (λ i l. sym (h .site i l .says))
 
 -- The first line, those of the refused steps and those of the sites are the print.
@@ -89,7 +85,7 @@ pub past-left : (t : SiteTable) (book : List Command) {steps earlier started sen
     → PlayedAll t book steps s₁ s₂ r₁ r₂ started b → PastLeft t earlier (b .sites)
 past-left t book {earlier = earlier} {started = started} {b = b} fresh played i l =
     played .past i l .past
-    ∙ further 0 (readLe 2 (world.siteAt (b .sites) i) spanPlace) (world.siteAt earlier i) (world.siteAt started i) (omega arith) (fresh .past i l)
+    ∙ further 0 (readLe 2 (siteAt (b .sites) i) spanPlace) (siteAt earlier i) (siteAt started i) (omega arith) (fresh .past i l)
 
 -- ---- the first parts of the working memory
 

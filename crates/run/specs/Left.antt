@@ -5,20 +5,20 @@ use mathlib.Core.Bool.{Bool, true, false, _&&_}
 use mathlib.Core.List.{List}
 use Prim.Native.Nat.{ℕ, _*_, _<_}
 use lib.ListN.{length, take, drop}
+use Rattle.refusals.specs.Refusals.{isTaken}
 use Rattle.table.specs.declared.SiteTable.{SiteTable}
 use Rattle.register.specs.declared.Command.{Command}
 use Rattle.commands.specs.Book.{commandsOf}
 use Rattle.protocol.specs.System.{verdict}
 use Rattle.protocol.specs.World.{World, start}
-use Rattle.protocol.specs.CommonSequence.{isTaken}
 use Rattle.system.specs.Dash.{dash}
 use Rattle.steps.specs.declared.Reading.{Reading}
 use Rattle.steps.specs.Steps.{stepsOf}
 use Rattle.runs.specs.Run.{tableOf, bookOf, stepBytes, forRun, worldAfter}
 use Rattle.wire.specs.Wire.{readLe}
-use Rattle.layout.specs.Layout.{siteSize, spanPlace, rowAt}
+use Rattle.layout.specs.Layout.{siteAt, siteSize, spanPlace, rowAt}
 use Rattle.sent.specs.Sent.{sentSize}
-use Rattle.world.specs.World.{siteAt, HoldsWorld}
+use Rattle.world.specs.World.{HoldsWorld}
 use Rattle.world.specs.Parts.{lent}
 use Rattle.run.specs.Ran.{Working, logBytes, isRoomy}
 

@@ -5,7 +5,7 @@ use mathlib.Core.List.{List, [], _∷_, _++_}
 use Prim.Native.Nat.{ℕ, zero, suc, _+_}
 use lib.Dec.{leb}
 use lib.ListN.{length, take, drop, getD}
-use Rattle.refusals.specs.Refusals.{numberOf}
+use Rattle.refusals.specs.Refusals.{numberOf, isTaken}
 use Rattle.refusals.specs.declared.Refusal.the-variants.{Book, Table, Size, Form}
 use Rattle.refusals.specs.declared.Verdict.{Verdict}
 use Rattle.refusals.specs.declared.Verdict.the-variants.{Taken, Refused}
@@ -17,7 +17,6 @@ use Rattle.register.specs.declared.Command.{Command}
 use Rattle.commands.specs.Book.{judgeBook, commandsOf}
 use Rattle.protocol.specs.System.{System, Demands, granted, _else_⨾_, verdict, correct}
 use Rattle.protocol.specs.World.{World, start, judge, step}
-use Rattle.protocol.specs.CommonSequence.{isTaken}
 use Rattle.system.specs.Dash.{dash}
 use Rattle.steps.specs.declared.Reading.{Reading}
 use Rattle.steps.specs.declared.Reading.the-variants.{Whole, Unreadable}

@@ -13,32 +13,14 @@ use Rattle.theory.specs.Sets.{pick}
 use Rattle.theory.specs.Sets as theory
 use Rattle.theory.specs.Lists.{nth}
 use Rattle.theory.specs.Counting.{lt-or-le}
-use Rattle.wire.specs.Wire.{readLe, bytes, splice}
-use Rattle.wire.proofs.Laws.{length-bytes, length-splice, read-same, read-before, read-after}
+use Rattle.wire.specs.Wire.{readLe, bytes}
+use Rattle.wire.proofs.Laws.{length-bytes, length-splice, read-same}
+use Rattle.wire.proofs.Agree.{Agree, agree-trans, agree-sized}
 use Rattle.sets.specs.declared.Set.{Set}
 use Rattle.sets.specs.Sets.{inSet, setBytes, readSet, writeSet}
-use Rattle.sets.proofs.Laws.{read-written, length-write}
+use Rattle.sets.proofs.Laws.{read-written, length-write, agree-set}
 use Rattle.sent.specs.Sent.{cells, countsOffset, sentSize, countPlace, setPlace, flagPlace, checkPlace, maxAcknowledgments}
 use Rattle.sent.specs.Sent.{countIn, flagIn, setsFrom, acksIn, checkIn, written, acknowledgedIn, checkedIn}
-
--- ---- bytes that agree on a part
-
--- Every number that stands between two places is the same in both.
-pub record Agree (b b′ : List ℕ) (from to : ℕ) : Type 0 where
-  pub reads : (n k : ℕ) → from ≤ k → k + n ≤ to → readLe n b′ k ≡ readLe n b k
-
-pub agree-trans : {a b c : List ℕ} {from to : ℕ} → Agree a b from to → Agree b c from to → Agree a c from to
-agree-trans p q = record { reads = λ n k l m. q .reads n k l m ∙ p .reads n k l m }
-
--- A write of n bytes changes nothing before it and nothing after it.
-pub agree-splice : (b : List ℕ) (at : ℕ) (bs : List ℕ) (n from to : ℕ) → length bs ≡ n → at + n ≤ length b → (to ≤ at) ⊎ (at + n ≤ from)
-    → Agree b (splice b at bs) from to
-agree-splice b at bs n from to e h (inl l) = record { reads = λ m k o p. read-before m b at bs k (omega arith) (omega arith) }
-agree-splice b at bs n from to e h (inr l) = record { reads = λ m k o p. read-after m b at bs k (omega arith) (omega arith) }
-
-pub agree-set : {b b′ : List ℕ} {from to : ℕ} (at : ℕ) → Agree b b′ from to → from ≤ at → at + setBytes ≤ to → readSet b′ at ≡ readSet b at
-unfolding readSet
-agree-set at g h l = λ i. record { bits = g .reads setBytes at h l i }
 
 -- ---- what a cell says
 
@@ -78,12 +60,6 @@ nth-set (suc n) at b (suc i) h =
     let e : at + suc i * setBytes ≡ at + setBytes + i * setBytes = omega arith in
     rw e (nth-set n (at + setBytes) b i (omega arith))
 
-pub nth-none : (n at : ℕ) (b : List ℕ) (i : ℕ) → n ≤ i → nth (setsFrom n at b) i ≡ none
-unfolding setsFrom
-nth-none zero at b i h = refl
-nth-none (suc n) at b zero h = absurd (omega arith)
-nth-none (suc n) at b (suc i) h = nth-none n (at + setBytes) b i (omega arith)
-
 -- ---- a set and a byte written
 
 module _ (b : List ℕ) (p : ℕ) (s : Set) (q x : ℕ) (hp : p + setBytes ≤ length b) (hq : q + 1 ≤ length b) where
@@ -98,8 +74,8 @@ module _ (b : List ℕ) (p : ℕ) (s : Set) (q x : ℕ) (hp : p + setBytes ≤ l
   unfolding written writeSet
   agree-written from to l m =
       let e = length-write b p s hp in
-      agree-trans (agree-splice b p (bytes setBytes (s .bits)) setBytes from to (length-bytes setBytes (s .bits)) hp l)
-      (agree-splice (writeSet b p s) q (bytes 1 x) 1 from to (length-bytes 1 x) (omega arith) m)
+      agree-trans (agree-sized b p (bytes setBytes (s .bits)) setBytes from to (length-bytes setBytes (s .bits)) hp l)
+      (agree-sized (writeSet b p s) q (bytes 1 x) 1 from to (length-bytes 1 x) (omega arith) m)
 
   pub number-written : x < 256 → readLe 1 (written b p s q x) q ≡ x
   unfolding written
@@ -109,7 +85,7 @@ module _ (b : List ℕ) (p : ℕ) (s : Set) (q x : ℕ) (hp : p + setBytes ≤ l
   unfolding written
   set-written l h =
       let e = length-write b p s hp in
-      agree-set p (agree-splice (writeSet b p s) q (bytes 1 x) 1 p (p + setBytes) (length-bytes 1 x) (omega arith) (inl l)) (omega arith) (omega arith)
+      agree-set p (agree-sized (writeSet b p s) q (bytes 1 x) 1 p (p + setBytes) (length-bytes 1 x) (omega arith) (inl l)) (omega arith) (omega arith)
       ∙ read-written b p s hp h
 
 -- A set and a byte after the sets leave every other byte there, and every other set.

@@ -5,7 +5,7 @@ use mathlib.Core.Bool.{Bool, true, false, _&&_}
 use mathlib.Core.Logic.{⊎-elim}
 use mathlib.Core.List.{List, []}
 use mathlib.Core.Option.{none, some}
-use Prim.Native.Nat.{ℕ, zero, suc, pred, _+_, _*_, _-_, _%_, _^_, _≤_, _<_}
+use Prim.Native.Nat.{ℕ, zero, suc, pred, _+_, _*_, _-_, _≤_, _<_}
 use native.Mathlib.Omega.{arith}
 use lib.Dec.{eqb, leb, ltb}
 use lib.ListN.{length}
@@ -13,6 +13,7 @@ use borrow.Author.Tests.{ltb-true, leb-true, eqb-true, lt-ltb, le-leb, lt-leb, e
 use Rattle.theory.specs.Sets.{pick}
 use Rattle.theory.specs.Sets as theory
 use Rattle.theory.specs.Lists.{nth}
+use Rattle.theory.specs.ListLaws.{nth-end}
 use Rattle.theory.specs.Counting.{both, left, right, known, never}
 use Rattle.wire.specs.Wire.{readLe}
 use Rattle.sets.specs.declared.Set.{Set}
@@ -21,7 +22,7 @@ use Rattle.table.specs.Table.{maxSites}
 use Rattle.sent.specs.declared.Message.the-variants.{Sent, Never}
 use Rattle.sent.specs.Sent.{sentRounds, maxAcknowledgments, cells, cellOf, countPlace, flagPlace, setPlace, checkPlace}
 use Rattle.sent.specs.Sent.{countIn, flagIn, acksIn, checkIn, inTable, acksOf, checksOf, numbered, acknowledgmentOf, checkOf, GoodSent, Read}
-use Rattle.sent.proofs.Cells.{length-sets, nth-set, nth-none}
+use Rattle.sent.proofs.Cells.{length-sets, nth-set}
 
 -- ---- sites and rounds that have a cell
 
@@ -94,10 +95,6 @@ pub numbered-nth : (l : List theory.Set) (a : ℕ) → 1 ≤ a → numbered l a 
 numbered-nth l zero h = absurd (omega arith)
 numbered-nth l (suc n) h = refl
 
--- A byte that 1 was taken off, where none was borrowed.
-pub one-less : (n a : ℕ) → (n + 1) % 2 ^ 8 ≡ a → n < 255 → n + 1 ≡ a
-one-less n a e h = omega arith
-
 module _ (b : List ℕ) (j r : ℕ) (t : inTable j r ≡ true) where
   pub acks-at : acksOf b j r ≡ acksIn b (cellOf j r)
   unfolding acksOf
@@ -120,7 +117,7 @@ module _ (b : List ℕ) (j r : ℕ) (t : inTable j r ≡ true) where
       let f : countIn b (cellOf j r) < suc a = omega (arith, l (omega arith)) in
       record {
         answer = sym (λ i. pick (le-leb 1 (suc a) (omega arith) i && lt-leb (suc a) (countIn b (cellOf j r)) f i) (Sent (readSet b (setPlace (cellOf j r) (suc a - 1)))) Never);
-        means = sym (ap (λ (x : List theory.Set). nth x a) acks-at ∙ nth-none (countIn b (cellOf j r)) (setPlace (cellOf j r) 0) b a (omega arith));
+        means = sym (ap (λ (x : List theory.Set). nth x a) acks-at ∙ nth-end (acksIn b (cellOf j r)) a (omega (arith, length-sets (countIn b (cellOf j r)) (setPlace (cellOf j r) 0) b)));
       }
 
   pub some-acknowledgment : (a : ℕ) {p n at : ℕ} {s : Set} → p ≡ countPlace (cellOf j r) → n ≡ readLe 1 b p → 1 ≤ a → a ≤ n → at ≡ setPlace (cellOf j r) (a - 1) → s ≡ readSet b at

@@ -1,4 +1,3 @@
 pub mod Cells
 pub mod Laws
 pub mod Writes
-pub mod Protocol

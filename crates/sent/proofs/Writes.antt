@@ -3,24 +3,25 @@
 use mathlib.Core.Path.{_≡_, refl, sym, ap, subst, _∙_}
 use mathlib.Core.Bool.{Bool, true, false}
 use mathlib.Core.Logic.{_⊎_, inl, inr, ⊎-elim}
-use mathlib.Core.List.{List, [], _∷_, _++_, append-nil}
+use mathlib.Core.List.{List, [], _∷_, _++_}
 use mathlib.Core.Option.{none, some}
-use Prim.Native.Nat.{ℕ, _+_, _*_, _-_, _^_, _≤_, _<_}
+use Prim.Native.Nat.{ℕ, _+_, _*_, _^_, _≤_, _<_}
 use native.Mathlib.Omega.{arith}
 use native.Mathlib.Decide.{ℕ-discrete}
 use lib.Dec.{eqb}
-use lib.ListN.{length, getD, take, drop, replicate, length-append, length-replicate, take-append-drop, replicate-append-replicate, getD-replicate, List·getD-append}
-use lib.Seq.{length-take-le, getD-append-add}
+use lib.ListN.{length, replicate, length-replicate}
 use Rattle.theory.specs.Sets.{pick}
 use Rattle.theory.specs.Counting.{lt-or-le}
 use Rattle.wire.specs.Wire.{readLe, bytes, splice}
-use Rattle.wire.proofs.Laws.{length-splice, splice-two, read-one}
+use Rattle.wire.proofs.Laws.{length-splice}
+use Rattle.wire.proofs.Agree.{Agree}
+use Rattle.wire.proofs.Small.{read-zeros}
 use Rattle.sets.specs.declared.Set.{Set}
 use Rattle.sets.specs.Sets.{inSet, setBytes, readSet, writeSet}
 use Rattle.sent.specs.Sent.{maxAcknowledgments, cells, countsOffset, sentSize, cellOf, countPlace, setPlace, flagPlace, checkPlace}
 use Rattle.sent.specs.Sent.{countIn, flagIn, setsFrom, acksIn, checkIn, inTable, acksOf, checksOf, GoodSent}
-use Rattle.sent.specs.Sent.{clearedTo, cleared, written, acknowledgedIn, checkedIn, oneMore, checked, Holds}
-use Rattle.sent.proofs.Cells.{Agree, acks-agree, check-agree, length-written, number-kept, sets-kept}
+use Rattle.sent.specs.Sent.{cleared, written, acknowledgedIn, checkedIn, oneMore, checked, Holds}
+use Rattle.sent.proofs.Cells.{acks-agree, check-agree, length-written, number-kept, sets-kept}
 use Rattle.sent.proofs.Cells.{count-acknowledged, acks-acknowledged, flag-acknowledged, check-acknowledged, flag-checked, check-checked, count-checked, acks-checked}
 use Rattle.sent.proofs.Laws.{cell-inside, same-view, other-view, length-acks}
 
@@ -157,53 +158,22 @@ checked-bytes b k s q e f g = rw (g, f, e, q) refl
 
 -- ---- nothing sent
 
-pub cleared-none : (b : List ℕ) → b ≡ clearedTo 0 b
-unfolding clearedTo splice
-cleared-none b = sym (ap (λ (l : List ℕ). l ++ drop countsOffset b) (append-nil (take countsOffset b)) ∙ take-append-drop countsOffset b)
-
-next-cleared : (b : List ℕ) (k n : ℕ) {c d : List ℕ} → countsOffset ≤ length b → k ≡ countsOffset + n → c ≡ clearedTo n b → d ≡ splice c k (bytes 1 0) → d ≡ clearedTo (n + 1) b
-unfolding clearedTo bytes
-next-cleared b k n room h p q =
-    let e : k ≡ countsOffset + length (replicate {A = ℕ} n 0) = omega (arith, length-replicate {A = ℕ} n 0) in
-    q ∙ (λ i. splice (p i) (e i) (bytes 1 0)) ∙ splice-two b countsOffset (replicate n 0) (bytes 1 0) room ∙ ap (splice b countsOffset) (replicate-append-replicate n 1 0)
-
-pub cleared-more : (b : List ℕ) (k : ℕ) {c d : List ℕ} → countsOffset ≤ length b → countsOffset ≤ k → c ≡ clearedTo (k - countsOffset) b → d ≡ splice c k (bytes 1 0)
-    → d ≡ clearedTo (k + 1 - countsOffset) b
-cleared-more b k room h p q =
-    let e : k - countsOffset + 1 ≡ k + 1 - countsOffset = omega arith in
-    next-cleared b k (k - countsOffset) room (omega arith) p q ∙ ap (λ (n : ℕ). clearedTo n b) e
-
-module _ (b : List ℕ) (n : ℕ) (room : countsOffset + n ≤ length b) where
-  pub length-cleared : length (clearedTo n b) ≡ length b
-  unfolding clearedTo
-  length-cleared = let e = length-replicate {A = ℕ} n 0 in length-splice b countsOffset (replicate n 0) (omega arith)
-
-  -- The bytes cleared are 0.
-  byte-cleared : (m : ℕ) → m < n → getD (clearedTo n b) (countsOffset + m) 0 ≡ 0
-  unfolding clearedTo splice
-  byte-cleared m h =
-      let sets = take countsOffset b in
-      let zeros = replicate {A = ℕ} n 0 in
-      let e : length sets ≡ countsOffset = length-take-le countsOffset b (omega arith) in
-      List·getD-append (sets ++ zeros) (drop (countsOffset + length zeros) b) 0 (countsOffset + m) (omega (arith, length-append sets zeros, length-replicate {A = ℕ} n 0))
-      ∙ (λ i. getD (sets ++ zeros) (sym e i + m) 0) ∙ getD-append-add sets zeros m 0 ∙ getD-replicate n m 0 0 h
-
-  cleared-at : (at : ℕ) → countsOffset ≤ at → at < countsOffset + n → readLe 1 (clearedTo n b) at ≡ 0
-  cleared-at at h l =
-      let e : at ≡ countsOffset + (at - countsOffset) = omega arith in
-      read-one (clearedTo n b) at (omega (arith, length-cleared)) ∙ ap (λ (x : ℕ). getD (clearedTo n b) x 0) e ∙ byte-cleared (at - countsOffset) (omega arith)
+-- A number among the bytes cleared is 0.
+cleared-at : (b : List ℕ) → length b ≡ sentSize → (at : ℕ) → countsOffset ≤ at → at < sentSize → readLe 1 (cleared b) at ≡ 0
+unfolding cleared
+cleared-at b size at h l = read-zeros 1 b countsOffset (2 * cells) at (omega arith) h (omega arith)
 
 both-same : {A : Type 0} (t : Bool) (d : A) → pick t d d ≡ d
 both-same true d = refl
 both-same false d = refl
 
 -- Nothing is sent once all counts and flags are cleared.
-pub cleared-holds : (b : List ℕ) (k : ℕ) {b′ : List ℕ} → length b ≡ sentSize → k ≡ sentSize → b′ ≡ clearedTo (k - countsOffset) b → Holds b′ (cleared b) (λ j r. []) (λ j r. none)
-unfolding acksOf checksOf acksIn checkIn setsFrom
-cleared-holds b k h q e =
+pub cleared-holds : (b : List ℕ) {b′ : List ℕ} → length b ≡ sentSize → b′ ≡ splice b countsOffset (replicate (2 * cells) 0) → Holds b′ (cleared b) (λ j r. []) (λ j r. none)
+unfolding cleared acksOf checksOf acksIn checkIn setsFrom
+cleared-holds b h e =
     let new = cleared b in
-    let at = cleared-at b (2 * cells) (omega arith) in
-    subst (λ (x : List ℕ). Holds x new (λ j r. []) (λ j r. none)) (sym (e ∙ ap (λ (x : ℕ). clearedTo (x - countsOffset) b) q))
+    let at = cleared-at b h in
+    subst (λ (x : List ℕ). Holds x new (λ j r. []) (λ j r. none)) (sym e)
     (record {
       bytes = refl;
       acks =
@@ -216,7 +186,7 @@ cleared-holds b k h q e =
           ∙ both-same (inTable j r) none) i;
       good =
           record {
-            size = length-cleared b (2 * cells) (omega arith) ∙ h;
+            size = length-splice b countsOffset (replicate (2 * cells) 0) (omega (arith, length-replicate {A = ℕ} (2 * cells) 0)) ∙ h;
             counts = λ m l. omega (arith, at (countPlace m) (omega arith) (omega arith));
             flags = λ m l. omega (arith, at (flagPlace m) (omega arith) (omega arith));
           };

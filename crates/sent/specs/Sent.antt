@@ -139,13 +139,9 @@ pub record Read (m exact : Message) (meant : Option theory.Set) : Type 0 where
 
 -- ---- writes
 
--- The first n bytes from the counts on are 0, all else is as it was.
-unfoldable pub clearedTo : ℕ → List ℕ → List ℕ
-clearedTo n b = splice b countsOffset (replicate n 0)
-
 -- Nothing sent: all counts and flags are 0, the sets are as they were.
-abbrev pub cleared : List ℕ → List ℕ
-cleared b = clearedTo (2 * cells) b
+unfoldable pub cleared : List ℕ → List ℕ
+cleared b = splice b countsOffset (replicate (2 * cells) 0)
 
 -- A set written at one place and a byte at another.
 unfoldable pub written : List ℕ → ℕ → Set → ℕ → ℕ → List ℕ

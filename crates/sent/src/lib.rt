@@ -2,7 +2,7 @@
 ghost use mathlib.Core.Path.{_≡_};
 ghost use mathlib.Core.List.{[]};
 ghost use mathlib.Core.Option.{none};
-ghost use Prim.Native.Nat.{suc, pred, _≤_, _<_};
+ghost use Prim.Native.Nat.{_≤_, _<_};
 ghost use lib.ListN.{length};
 ghost use Rattle.sets.specs.Sets.{inSet};
 ghost use Rattle.table.specs.Table.{maxSites};
@@ -37,44 +37,44 @@ impl Message {
     const FLAGS: usize = Message::COUNTS + Message::CELLS;
 }
 
-// The cell of a site and round, counted from 1: the functions below take the 1 off in their constants.
-fn key_of(j: usize, r: usize) -> usize
+// The cell of a site and round.
+fn cell_of(j: usize, r: usize) -> usize
     requires { ⌜ (j < maxSites) × (1 ≤ r) × (r ≤ sentRounds) ⌝ }
-    ensures { λ key. ⌜ (key ≡ suc (cellOf j r)) × (key ≤ cells) ⌝ }
+    ensures { λ cell. ⌜ (cell ≡ cellOf j r) × (cell < cells) ⌝ }
 {
-    j * Message::ROUNDS + r
+    j * Message::ROUNDS + (r - 1)
 }
 
 // Where the number of a cell's acknowledgments stands.
-fn count_at(key: usize) -> usize
-    requires { ⌜ (1 ≤ key) × (key ≤ cells) ⌝ }
-    ensures { λ p. ⌜ p ≡ countPlace (pred key) ⌝ }
+fn count_at(cell: usize) -> usize
+    requires { ⌜ cell < cells ⌝ }
+    ensures { λ p. ⌜ p ≡ countPlace cell ⌝ }
 {
-    Message::COUNTS - 1 + key
+    Message::COUNTS + cell
 }
 
 // Where a cell's flag stands.
-fn flag_at(key: usize) -> usize
-    requires { ⌜ (1 ≤ key) × (key ≤ cells) ⌝ }
-    ensures { λ p. ⌜ p ≡ flagPlace (pred key) ⌝ }
+fn flag_at(cell: usize) -> usize
+    requires { ⌜ cell < cells ⌝ }
+    ensures { λ p. ⌜ p ≡ flagPlace cell ⌝ }
 {
-    Message::FLAGS - 1 + key
+    Message::FLAGS + cell
 }
 
 // Where the n-th acknowledgment of a cell stands, counted from 0.
-fn set_at(key: usize, n: usize) -> usize
-    requires { ⌜ (1 ≤ key) × (key ≤ cells) × (n < maxAcknowledgments) ⌝ }
-    ensures { λ p. ⌜ p ≡ setPlace (pred key) n ⌝ }
+fn set_at(cell: usize, n: usize) -> usize
+    requires { ⌜ (cell < cells) × (n < maxAcknowledgments) ⌝ }
+    ensures { λ p. ⌜ p ≡ setPlace cell n ⌝ }
 {
-    key * Message::CELL + n * Set::BYTES - Message::CELL
+    cell * Message::CELL + n * Set::BYTES
 }
 
 // Where a cell's check message stands.
-fn check_at(key: usize) -> usize
-    requires { ⌜ (1 ≤ key) × (key ≤ cells) ⌝ }
-    ensures { λ p. ⌜ p ≡ checkPlace (pred key) ⌝ }
+fn check_at(cell: usize) -> usize
+    requires { ⌜ cell < cells ⌝ }
+    ensures { λ p. ⌜ p ≡ checkPlace cell ⌝ }
 {
-    Message::CHECKS - Set::BYTES + key * Set::BYTES
+    Message::CHECKS + cell * Set::BYTES
 }
 
 // Nothing is sent: the counts and the flags become 0, the sets stay as they were.
@@ -82,25 +82,20 @@ pub fn clear(sent: &mut [u8])
     requires { ⌜ length (now sent) ≡ sentSize ⌝ }
     ensures { λ _. ⌜ Holds (now (sent .exit)) (cleared (now (sent .entry))) (λ j r. []) (λ j r. none) ⌝ }
 {
-    let mut k: usize = Message::COUNTS;
-    while k < Message::SIZE {
-        wire::put1(sent, k, 0);
-        k += 1;
-    }
+    wire::clear(&mut sent[Message::COUNTS..Message::SIZE]);
 }
 
-// The a-th acknowledgment of a site and round, counted from 1. There is no 0-th: 0 becomes 255, which no count is above.
+// The a-th acknowledgment of a site and round, counted from 1.
 pub fn acknowledgment(sent: &[u8], j: usize, r: usize, a: u8) -> Message
     requires { ⌜ GoodSent (now sent) × (j < maxSites) × (1 ≤ r) × (r ≤ sentRounds) ⌝ }
     ensures { λ m. ⌜ Read m (acknowledgmentOf (now (sent .entry)) j r a) (numbered (acksOf (now (sent .entry)) j r) a) ⌝ }
 {
-    let key = key_of(j, r);
-    let count = wire::get1(sent, count_at(key));
-    let n = std::num::wrapping_sub_u8(a, 1);
-    if n >= count {
+    let cell = cell_of(j, r);
+    let count = wire::get1(sent, count_at(cell));
+    if (a == 0) | (a > count) {
         return Message::Never;
     }
-    let set = Set::read(sent, set_at(key, n as usize));
+    let set = Set::read(sent, set_at(cell, (a - 1) as usize));
     Message::Sent(set)
 }
 
@@ -109,12 +104,12 @@ pub fn check(sent: &[u8], j: usize, r: usize) -> Message
     requires { ⌜ GoodSent (now sent) × (j < maxSites) × (1 ≤ r) × (r ≤ sentRounds) ⌝ }
     ensures { λ m. ⌜ Read m (checkOf (now (sent .entry)) j r) (checksOf (now (sent .entry)) j r) ⌝ }
 {
-    let key = key_of(j, r);
-    let flag = wire::get1(sent, flag_at(key));
+    let cell = cell_of(j, r);
+    let flag = wire::get1(sent, flag_at(cell));
     if flag != 1 {
         return Message::Never;
     }
-    let set = Set::read(sent, check_at(key));
+    let set = Set::read(sent, check_at(cell));
     Message::Sent(set)
 }
 
@@ -124,10 +119,10 @@ pub fn add_acknowledgment(sent: &mut [u8], j: usize, r: usize, set: Set)
     ensures { λ _. ⌜ Holds (now (sent .exit)) (acknowledgedIn (now (sent .entry)) (cellOf j r) set)
         (oneMore j r (inSet set) (acksOf (now (sent .entry)))) (checksOf (now (sent .entry))) ⌝ }
 {
-    let key = key_of(j, r);
-    let counted = count_at(key);
+    let cell = cell_of(j, r);
+    let counted = count_at(cell);
     let count = wire::get1(&sent[..], counted);
-    let at = set_at(key, count as usize);
+    let at = set_at(cell, count as usize);
     set.write(sent, at);
     wire::put1(sent, counted, count + 1);
 }
@@ -138,7 +133,7 @@ pub fn put_check(sent: &mut [u8], j: usize, r: usize, set: Set)
     ensures { λ _. ⌜ Holds (now (sent .exit)) (checkedIn (now (sent .entry)) (cellOf j r) set)
         (acksOf (now (sent .entry))) (checked j r (inSet set) (checksOf (now (sent .entry)))) ⌝ }
 {
-    let key = key_of(j, r);
-    set.write(sent, check_at(key));
-    wire::put1(sent, flag_at(key), 1);
+    let cell = cell_of(j, r);
+    set.write(sent, check_at(cell));
+    wire::put1(sent, flag_at(cell), 1);
 }

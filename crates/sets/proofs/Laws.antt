@@ -26,6 +26,7 @@ use Rattle.sets.specs.Sets.{readSet, writeSet, loadSet, storeSet}
 use Rattle.sets.specs.declared.Set.{Set}
 use Rattle.wire.specs.Wire.{bytes}
 use Rattle.wire.proofs.Laws.{length-bytes, length-splice, read-same, read-before, read-after, read-lt, splice-same}
+use Rattle.wire.proofs.Agree.{Agree}
 
 -- ---- the digits of a word
 
@@ -279,7 +280,7 @@ word-ext (suc k) p q h = rw (word-ext k p q (λ m l. h m (omega arith)), h k (om
 
 -- ---- sets
 
-same-word : {a b : ℕ} → a ≡ b → _≡_ {A = Set} (record { bits = a }) (record { bits = b })
+pub same-word : {a b : ℕ} → a ≡ b → _≡_ {A = Set} (record { bits = a }) (record { bits = b })
 same-word e = λ i. record { bits = e i }
 
 pub in-empty : (m : ℕ) → inSet emptyOf m ≡ false
@@ -467,3 +468,8 @@ read-other bs at s k h (inr l) =
 pub length-write : (bs : List ℕ) (at : ℕ) (s : Set) → at + 8 ≤ length bs → length (writeSet bs at s) ≡ length bs
 unfolding writeSet
 length-write bs at s h = let e = length-bytes 8 (s .bits) in length-splice bs at (bytes 8 (s .bits)) (omega arith)
+
+-- The same set stands where bytes agree.
+pub agree-set : {b b′ : List ℕ} {from to : ℕ} (at : ℕ) → Agree b b′ from to → from ≤ at → at + 8 ≤ to → readSet b′ at ≡ readSet b at
+unfolding readSet
+agree-set at g h l = λ i. record { bits = g .reads 8 at h l i }

@@ -22,7 +22,8 @@ use Rattle.layout.specs.Layout.{siteSize, spanPlace, receivedPlace, registerPla
 use Rattle.layout.specs.Good.{Fit, GoodHead, HoldsOver}
 use Rattle.layout.proofs.Header.{fit}
 use Rattle.layout.proofs.Fields.{Begins, begins, begins-still, withReceived, withSpan, received-written}
-use Rattle.layout.proofs.Agree.{Agree, agree-trans, agree-part, register-agree, deliveries-agree}
+use Rattle.wire.proofs.Agree.{Agree, agree-trans, agree-part}
+use Rattle.layout.proofs.Agree.{register-agree, deliveries-agree}
 use Rattle.layout.proofs.Senders.{heard-set}
 use Rattle.layout.proofs.Tables.{within-empty, within-with, within-union, heard-apart, heard-past, tables-heard}
 use Rattle.layout.proofs.Rows.{reaches}

@@ -9,6 +9,7 @@ use native.Mathlib.Omega.{arith}
 use lib.Dec.{leb, ltb}
 use lib.ListN.{length, getD}
 use borrow.Author.Tests.{lt-ltb, le-ltb, le-leb, lt-leb}
+use Rattle.refusals.specs.Refusals.{settled}
 use Rattle.refusals.specs.declared.Refusal.the-variants.{Disabled, ThirdEntry, LastRound}
 use Rattle.refusals.specs.declared.Verdict.{Verdict}
 use Rattle.refusals.specs.declared.Verdict.the-variants.{Taken, Refused}
@@ -30,7 +31,6 @@ use Rattle.layout.specs.declared.Phase.the-variants.{Acknowledging, Waiting}
 use Rattle.layout.specs.declared.Site.{Site}
 use Rattle.layout.specs.Layout.{pendingPlace, headOf, heardOf, phaseSeen, isWaiting, waitsWith, siteOf, view}
 use Rattle.layout.specs.Good.{Fit, GoodHead, Good, HoldsOver}
-use Rattle.layout.specs.Step.{settled}
 use Rattle.layout.proofs.Header.{fit}
 use Rattle.layout.proofs.Fields.{begins, withPending, withPhase, pending-written, waiting-written}
 use Rattle.layout.proofs.Tables.{within-without}

@@ -6,6 +6,7 @@ use mathlib.Core.List.{List}
 use Prim.Native.Nat.{ℕ, _<_}
 use lib.Dec.{leb, ltb}
 use lib.ListN.{length, take}
+use Rattle.refusals.specs.Refusals.{settled}
 use Rattle.refusals.specs.declared.Refusal.the-variants.{Disabled, ThirdEntry, LastRound}
 use Rattle.refusals.specs.declared.Verdict.{Verdict}
 use Rattle.refusals.specs.declared.Verdict.the-variants.{Taken, Refused}
@@ -22,7 +23,7 @@ use Rattle.layout.specs.declared.Site.{Site}
 use Rattle.wire.specs.Wire.{readLe}
 use Rattle.layout.specs.Layout.{spanPlace, isWaiting, spanWith, view}
 use Rattle.layout.specs.Good.{Good, Holds, HoldsOver}
-use Rattle.layout.specs.Step.{settled, Carried}
+use Rattle.layout.specs.Step.{Carried}
 use Rattle.site.specs.declared.Turn.{Turn}
 use Rattle.site.specs.declared.Turn.the-variants as turn
 

@@ -61,9 +61,7 @@ impl SiteTable {
         if sites < 5 * faults + 1 {
             return false;
         }
-        // The mask is looked at as a wider number: the compiler then leaves this test apart, and those before refuse at once.
-        let marks = mask as u64;
-        if marks >> sites != 0 {
+        if mask >> sites != 0 {
             return false;
         }
         let marked = u16::count_ones(mask);

@@ -5,6 +5,7 @@ use mathlib.Core.Bool.{Bool, true, false}
 use mathlib.Core.List.{List, [], _∷_, _++_}
 use Prim.Native.Nat.{ℕ}
 use lib.ListN.{length}
+use Rattle.refusals.specs.Refusals.{isTaken}
 use Rattle.refusals.specs.declared.Verdict.{Verdict}
 use Rattle.refusals.specs.declared.Verdict.the-variants.{Taken, Refused}
 use Rattle.theory.specs.Counting.{never}
@@ -15,7 +16,7 @@ use Rattle.commands.specs.Book.{judgeBook, commandsOf}
 use Rattle.protocol.specs.System.{verdict}
 use Rattle.protocol.specs.World.{World, Step, start, step, play}
 use Rattle.protocol.specs.Steps.{met}
-use Rattle.protocol.specs.CommonSequence.{CommonSequence, isTaken}
+use Rattle.protocol.specs.CommonSequence.{CommonSequence}
 use Rattle.system.specs.Dash.{dash}
 use Rattle.steps.specs.declared.Reading.{Reading}
 use Rattle.steps.specs.declared.Reading.the-variants.{Whole, Unreadable}

@@ -12,6 +12,10 @@ use Rattle.theory.specs.Sets.{one, all, any, count}
 
 -- ---- tests
 
+-- A test is not both true and false.
+pub never : (a : Bool) → a ≡ true → a ≡ false → ⊥
+never a h l = let z : _≡_ {A = ℕ} 0 1 = cc (sym h ∙ l) in omega arith
+
 pub both : (a b : Bool) → a ≡ true → b ≡ true → (a && b) ≡ true
 both true true h l = refl
 both true false h l = l
@@ -39,6 +43,11 @@ pub either : (a b : Bool) → (a || b) ≡ true → (a ≡ true) ⊎ (b ≡ true
 either true b h = inl refl
 either false b h = inr h
 
+-- Of two of which one holds, the second where the first does not.
+pub second : (a b : Bool) → (a || b) ≡ true → a ≡ false → b ≡ true
+second true b h e = absurd (never true refl e)
+second false b h e = h
+
 pub neither : (a b : Bool) → (a || b) ≡ false → (a ≡ false) × (b ≡ false)
 neither true true h = (h, h)
 neither true false h = (h, refl)
@@ -56,6 +65,10 @@ pub not-not : (a : Bool) → not (not a) ≡ a
 not-not true = refl
 not-not false = refl
 
+pub and-false : (a : Bool) → (a && false) ≡ false
+and-false true = refl
+and-false false = refl
+
 pub or-false : (a : Bool) → (a || false) ≡ a
 or-false true = refl
 or-false false = refl
@@ -64,10 +77,6 @@ or-false false = refl
 pub known : (a : Bool) → (a ≡ true) ⊎ (a ≡ false)
 known true = inl refl
 known false = inr refl
-
--- It is not both.
-pub never : (a : Bool) → a ≡ true → a ≡ false → ⊥
-never a h l = let z : _≡_ {A = ℕ} 0 1 = cc (sym h ∙ l) in omega arith
 
 -- Two tests that imply each other are equal.
 pub same-test : (a b : Bool) → (a ≡ true → b ≡ true) → (b ≡ true → a ≡ true) → a ≡ b

@@ -1,15 +1,18 @@
--- Laws of contents, distinct, before and sift.
+-- Laws of contents, distinct, before, sift and nth.
 -- Assumes nothing.
 use mathlib.Core.Path.{_≡_, refl, sym, _∙_, ap}
 use mathlib.Core.Bool.{Bool, true, false, _&&_, _||_, not}
 use mathlib.Core.List.{List, [], _∷_, _++_}
 use mathlib.Core.Logic.{_⊎_, inl, inr, ⊎-elim}
-use Prim.Native.Nat.{ℕ}
+use mathlib.Core.Option.{none, some}
+use Prim.Native.Nat.{ℕ, zero, suc, _≤_, _<_}
+use native.Mathlib.Omega.{arith}
+use lib.ListN.{length}
 use lib.Dec.{eqb}
 use borrow.Author.Tests.{eqb-true, eq-eqb}
 use Rattle.theory.specs.Sets.{Set, pick}
 use Rattle.theory.specs.Counting.{both, left, right, true-or, or-true, either, neither, not-true, never}
-use Rattle.theory.specs.Lists.{contents, distinct, before, sift}
+use Rattle.theory.specs.Lists.{contents, distinct, before, sift, nth}
 
 pub contents-append : (a b : List ℕ) (m : ℕ) → contents (a ++ b) m ≡ (contents a m || contents b m)
 contents-append [] b m = refl
@@ -127,3 +130,20 @@ sift-none p (x ∷ l) h = go (p x) (h x (true-or (eqb x x) (contents l x) (eq-eq
     go : (e : Bool) → e ≡ false → sift p l ≡ [] → pick e (x ∷ sift p l) (sift p l) ≡ []
     go true e h = absurd (never true refl e)
     go false e h = h
+
+-- ---- an element by its number
+
+pub nth-append : {A : Type 0} (l more : List A) (i : ℕ) → i < length l → nth (l ++ more) i ≡ nth l i
+nth-append [] more i h = absurd (omega arith)
+nth-append (x ∷ l) more zero h = refl
+nth-append (x ∷ l) more (suc i) h = nth-append l more i (omega arith)
+
+pub nth-last : {A : Type 0} (l : List A) (x : A) (i : ℕ) → i ≡ length l → nth (l ++ (x ∷ [])) i ≡ some x
+nth-last [] x i h = rw h refl
+nth-last (y ∷ l) x zero h = absurd (omega arith)
+nth-last (y ∷ l) x (suc i) h = nth-last l x i (omega arith)
+
+pub nth-end : {A : Type 0} (l : List A) (i : ℕ) → length l ≤ i → nth l i ≡ none
+nth-end [] i h = refl
+nth-end (x ∷ l) zero h = absurd (omega arith)
+nth-end (x ∷ l) (suc i) h = nth-end l i (omega arith)

@@ -1,13 +1,12 @@
 -- Laws of numbers in bytes: what a read gives after a write at the same place and at others, and both ways between a number and its bytes. General in the width.
 -- Assumes nothing.
-use Prim.Native.Nat.{ℕ, zero, suc, _+_, _*_, _-_, _/_, _%_, _^_, _≤_, _<_, min}
+use Prim.Native.Nat.{ℕ, zero, suc, _+_, _*_, _-_, _/_, _%_, _^_, _≤_, _<_}
 use mathlib.Core.Path.{_≡_, refl, sym, ap, _∙_}
 use mathlib.Core.List.{List, [], _∷_, _++_, append-assoc, append-nil}
-use native.Mathlib.Nat.{pow-suc, div-lt-iff-lt-mul, add-assoc}
-use native.Mathlib.Numerals.{add-one, towards-suc}
+use native.Mathlib.Nat.{pow-suc, div-lt-iff-lt-mul, add-assoc, mul-assoc, mul-comm}
 use native.Mathlib.Omega.{arith}
 use lib.ListN.{length, take, drop, getD, length-append, length-take, length-drop, take-append-drop}
-use lib.Seq.{drop-cons, sets, sets-eq, drop-drop, take-at, drop-at, take-append-le, drop-append-le, take-append-add, take-add, length-take-le, take-all, getD-drop}
+use lib.Seq.{drop-cons, sets, sets-eq, drop-drop, take-at, drop-at, take-append-le, drop-append-le, length-take-le, take-all}
 use borrow.Rule.Slice.PartMut.{putMid}
 use Rattle.wire.specs.Wire.{value, bytes, readLe, splice}
 
@@ -128,31 +127,54 @@ module _ (s : List ℕ) (small : (i : ℕ) → getD s i 0 < 256) where
       let k : at + suc n ≡ suc at + n = omega arith in
       rw (read-suc n s at (omega arith), m, d, k) (ap (λ (l : List ℕ). getD s at 0 ∷ l) (peel n (suc at) (omega arith)) ∙ sym (drop-cons s at 0 (omega arith)))
 
+  -- The bytes of what was read are what stands there.
+  pub read-bytes : (n at : ℕ) → at + n ≤ length s → bytes n (readLe n s at) ≡ take n (drop at s)
+  read-bytes n at h = sym (take-at (bytes n (readLe n s at)) (drop (at + n) s) n (length-bytes n (readLe n s at))) ∙ ap (take n) (peel n at h)
+
   -- Writing what was read changes nothing.
   pub splice-same : (n at : ℕ) → at + n ≤ length s → splice s at (bytes n (readLe n s at)) ≡ s
   unfolding splice
   splice-same n at h = rw (length-bytes n (readLe n s at), append-assoc, peel n at h) (take-append-drop at s)
 
-pub read-two : (s : List ℕ) (at : ℕ) → at + 2 ≤ length s → readLe 2 s at ≡ getD s at 0 + 256 * getD s (at + 1) 0
-read-two s at h =
-    rw (read-suc 1 s at (omega arith), read-one s (suc at) (omega arith)) (simp towards-suc)
+-- ---- a number in two parts
 
-pub read-four : (s : List ℕ) (at : ℕ) → at + 4 ≤ length s
-    → readLe 4 s at ≡ getD s at 0 + 256 * (getD s (at + 1) 0 + 256 * (getD s (at + 2) 0 + 256 * getD s (at + 3) 0))
-read-four s at h =
-    rw (read-suc 3 s at (omega arith), read-suc 2 s (suc at) (omega arith), read-two s (suc (suc at)) (omega arith)) (simp towards-suc)
+next-power : (n x : ℕ) → 256 ^ suc n * x ≡ 256 * (256 ^ n * x)
+next-power n x = rw (pow-suc, mul-comm (256 ^ n) 256) (mul-assoc 256 (256 ^ n) x)
 
-pub read-eight : (s : List ℕ) (at : ℕ) → at + 8 ≤ length s
-    → readLe 8 s at ≡ getD s at 0 + 256 * (getD s (at + 1) 0 + 256 * (getD s (at + 2) 0 + 256 * (getD s (at + 3) 0
-    + 256 * (getD s (at + 4) 0 + 256 * (getD s (at + 5) 0 + 256 * (getD s (at + 6) 0 + 256 * getD s (at + 7) 0))))))
-read-eight s at h =
-    rw (
-      read-suc 7 s at (omega arith),
-      read-suc 6 s (suc at) (omega arith),
-      read-suc 5 s (suc (suc at)) (omega arith),
-      read-suc 4 s (suc (suc (suc at))) (omega arith),
-      read-four s (suc (suc (suc (suc at)))) (omega arith),
-    ) (simp towards-suc)
+-- What is read in two parts is one number,
+pub read-parts : (n m : ℕ) (s : List ℕ) (at : ℕ) → at + n ≤ length s → readLe (n + m) s at ≡ readLe n s at + 256 ^ n * readLe m s (at + n)
+read-parts zero m s at h =
+    let q : at + 0 ≡ at = omega arith in
+    let z : 0 + m ≡ m = omega arith in
+    rw (read-none s at, q, z) (omega arith)
+read-parts (suc n) m s at h =
+    let q : at + suc n ≡ suc at + n = omega arith in
+    let z : suc n + m ≡ suc (n + m) = omega arith in
+    rw (z, read-suc (n + m) s at (omega arith), q, read-suc n s at (omega arith), next-power) (let r = read-parts n m s (suc at) (omega arith) in omega arith)
+
+-- and its bytes are those of both parts.
+bytes-parts : (n m low high : ℕ) → low < 256 ^ n → bytes (n + m) (low + 256 ^ n * high) ≡ bytes n low ++ bytes m high
+unfolding bytes
+bytes-parts zero m low high h =
+    let q : low + 256 ^ 0 * high ≡ high = omega arith in
+    let z : 0 + m ≡ m = omega arith in
+    rw (z, q) refl
+bytes-parts (suc n) m low high h =
+    let l : low / 256 < 256 ^ n = div-lt-iff-lt-mul {k = 256} (omega arith) .1 (rw pow-suc at h) in
+    let p = next-power n high in
+    let first : (low + 256 ^ suc n * high) % 256 ≡ low % 256 = omega arith in
+    let rest : (low + 256 ^ suc n * high) / 256 ≡ low / 256 + 256 ^ n * high = omega arith in
+    let z : suc n + m ≡ suc (n + m) = omega arith in
+    rw (z, first, rest) (ap (λ (l : List ℕ). (low % 256) ∷ l) (bytes-parts n m (low / 256) high l))
+
+-- So a number written in two parts is written.
+pub write-parts : (n m low high x : ℕ) (s : List ℕ) (at : ℕ) {a b : List ℕ} → at + (n + m) ≤ length s → low < 256 ^ n → low + 256 ^ n * high ≡ x
+    → a ≡ splice s at (bytes n low) → b ≡ splice a (at + n) (bytes m high) → b ≡ splice s at (bytes (n + m) x)
+write-parts n m low high x s at h l e ea eb =
+    eb
+    ∙ (λ i. splice (ea i) (at + sym (length-bytes n low) i) (bytes m high))
+    ∙ splice-two s at (bytes n low) (bytes m high) (omega arith)
+    ∙ ap (splice s at) (sym (bytes-parts n m low high l) ∙ ap (bytes (n + m)) e)
 
 -- The part from a position to the end.
 pub part-all : (s : List ℕ) (at : ℕ) → take (length s - at) (drop at s) ≡ drop at s

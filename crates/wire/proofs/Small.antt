@@ -1,15 +1,15 @@
--- Lists of bytes: parts of them, and what a write leaves, are bytes too; and what is read where 0 was written.
+-- Lists of bytes: parts of them, and what a write leaves, are bytes too; what is read where 0 was written, and a part that was cleared.
 -- Rests on Laws.
-use mathlib.Core.Path.{_≡_, sym, ap, subst, _∙_}
-use mathlib.Core.Logic.{_⊎_, inl, inr}
+use mathlib.Core.Path.{_≡_, sym, ap, _∙_}
 use mathlib.Core.List.{List, [], _∷_, _++_, append-assoc}
-use Prim.Native.Nat.{ℕ, zero, suc, _+_, _*_, _-_, _%_, _≤_, _<_}
+use Prim.Native.Nat.{ℕ, zero, suc, _+_, _-_, _≤_, _<_}
 use native.Mathlib.Omega.{arith}
 use native.Mathlib.Decide.{decLt}
-use lib.ListN.{length, take, drop, getD, replicate, length-take, length-append, length-replicate, getD-replicate, List·getD-append, List·getD-eq-default}
+use lib.ListN.{length, take, drop, getD, replicate, length-take, length-drop, length-replicate, getD-replicate, List·getD-append, List·getD-eq-default}
+use borrow.Rule.Slice.PartMut.{putMid}
 use lib.Seq.{getD-take, getD-drop, getD-append-add}
 use Rattle.wire.specs.Wire.{bytes, readLe, splice}
-use Rattle.wire.proofs.Laws.{read-none, read-suc, length-splice}
+use Rattle.wire.proofs.Laws.{read-none, read-suc, length-splice, mid-splice}
 
 -- Every element is a byte; past the end 0 is read.
 abbrev pub Small : List ℕ → Type 0
@@ -68,3 +68,11 @@ read-zeros (suc n) s at m k h l g =
     ∙ getD-replicate m (k - at) 0 0 (omega arith) in
     let r = read-zeros n s at m (suc k) h (omega arith) (omega arith) in
     read-suc n (splice s at (replicate m 0)) k (omega arith) ∙ omega arith
+
+-- A part that was cleared.
+pub part-cleared : (s : List ℕ) (at m : ℕ) {new : List ℕ} → at + m ≤ length s → new ≡ replicate (length (take m (drop at s))) 0
+    → putMid at m s new ≡ splice s at (replicate m 0)
+part-cleared s at m {new} h e =
+    let q : length (take m (drop at s)) ≡ m = omega (arith, length-take m (drop at s), length-drop at s) in
+    let zeros : new ≡ replicate m 0 = e ∙ ap (λ (n : ℕ). replicate n 0) q in
+    mid-splice at m s new (ap length zeros ∙ length-replicate {A = ℕ} m 0) ∙ ap (splice s at) zeros

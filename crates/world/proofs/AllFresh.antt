@@ -18,14 +18,14 @@ use Rattle.table.specs.declared.SiteTable.{SiteTable}
 use Rattle.register.specs.declared.Command.{Command}
 use Rattle.protocol.specs.Site as protocol
 use Rattle.system.specs.Dash.{dash}
-use Rattle.layout.specs.Layout.{siteSize, heardPlace, view}
+use Rattle.layout.specs.Layout.{siteAt, siteSize, heardPlace, view}
 use Rattle.layout.specs.Good.{Holds, HoldsOver}
 use Rattle.layout.proofs.Finish.{alone}
 use Rattle.entries.proofs.Logs.{log-none}
 use Rattle.entries.proofs.Judging.{entries-none}
 use Rattle.sent.specs.Sent as sent
 use Rattle.sent.specs.Sent.{cleared}
-use Rattle.world.specs.World.{siteAt, knownTo}
+use Rattle.world.specs.World.{knownTo}
 use Rattle.world.specs.Started.{Started}
 use Rattle.world.proofs.Sites.{site-same, site-other, lent-part, given-back}
 

@@ -9,6 +9,7 @@ use native.Mathlib.Decide.{ℕ-discrete}
 use lib.Dec.{eqb, ltb}
 use lib.ListN.{length, getD}
 use borrow.Author.Tests.{lt-ltb, eq-eqb, ne-eqb}
+use Rattle.refusals.specs.Refusals.{isTaken, settled}
 use Rattle.refusals.specs.declared.Refusal.{Refusal}
 use Rattle.refusals.specs.declared.Verdict.{Verdict}
 use Rattle.refusals.specs.declared.Verdict.the-variants.{Taken, Refused}
@@ -19,14 +20,13 @@ use Rattle.table.specs.declared.SiteTable.{SiteTable}
 use Rattle.register.specs.declared.Command.{Command}
 use Rattle.protocol.specs.System.{System}
 use Rattle.protocol.specs.Site as protocol
-use Rattle.protocol.specs.World.{World, Step, put, judge, change, settle}
-use Rattle.protocol.specs.CommonSequence.{isTaken}
+use Rattle.protocol.specs.World.{World, Step, put, judge, change}
 use Rattle.system.specs.Dash.{dash}
-use Rattle.layout.specs.Layout.{siteSize, spanPlace, headOf, view}
+use Rattle.layout.specs.Layout.{siteAt, siteSize, spanPlace, headOf, view}
 use Rattle.layout.specs.Good.{Holds, HoldsOver}
 use Rattle.layout.specs.Step.{Carried}
 use Rattle.layout.proofs.Finish.{unchanged, alone}
-use Rattle.world.specs.World.{Buffers, siteAt, PastKept, PastRows, GoodWorld, worldOf, HoldsWorld, logWritten, sentWritten, Outcome}
+use Rattle.world.specs.World.{Buffers, PastKept, PastRows, GoodWorld, worldOf, HoldsWorld, logWritten, sentWritten, Outcome}
 use Rattle.world.specs.Parts.{lent, AtSite}
 use Rattle.world.proofs.Sites.{site-same, site-other, small-site}
 use Rattle.world.proofs.Past.{past-same, past-held, past-put}
@@ -142,7 +142,7 @@ module _ (t : SiteTable) (book : List Command) (b : Buffers) (good : GoodWorld t
         record {
           verdict = sym e;
           holds =
-              subst (λ (v : Verdict). HoldsWorld t book b (settle (dash t book) v (change (dash t book) (worldOf t book b) u) (worldOf t book b))) (sym e)
+              subst (λ (v : Verdict). HoldsWorld t book b (settled v (change (dash t book) (worldOf t book b) u) (worldOf t book b))) (sym e)
               (kept small);
           log = sym (ap (λ (v : Verdict). pick (isTaken v) (logWritten t book (worldOf t book b) u b) (b .log)) e);
           sent = sym (ap (λ (v : Verdict). pick (isTaken v) (sentWritten t book (worldOf t book b) u b) (b .sent)) e);
@@ -158,7 +158,7 @@ module _ (t : SiteTable) (book : List Command) (b : Buffers) (good : GoodWorld t
         record {
           verdict = sym e;
           holds =
-              subst (λ (v : Verdict). HoldsWorld t book after (settle (dash t book) v (change (dash t book) (worldOf t book b) u) (worldOf t book b))) (sym e) h;
+              subst (λ (v : Verdict). HoldsWorld t book after (settled v (change (dash t book) (worldOf t book b) u) (worldOf t book b))) (sym e) h;
           log = el ∙ sym (ap (λ (v : Verdict). pick (isTaken v) (logWritten t book (worldOf t book b) u b) (b .log)) e);
           sent = es ∙ sym (ap (λ (v : Verdict). pick (isTaken v) (sentWritten t book (worldOf t book b) u b) (b .sent)) e);
           past = ep;
@@ -199,7 +199,7 @@ module _ (t : SiteTable) (book : List Command) (b : Buffers) (good : GoodWorld t
           verdict = sym e;
           holds =
               subst
-              (λ (v : Verdict). HoldsWorld t book (lent sites (b .log) (b .entries) (b .sent)) (settle (dash t book) v (change (dash t book) (worldOf t book b) u) (worldOf t book b)))
+              (λ (v : Verdict). HoldsWorld t book (lent sites (b .log) (b .entries) (b .sent)) (settled v (change (dash t book) (worldOf t book b) u) (worldOf t book b)))
               (sym e)
               (subst (λ (y : List ℕ). HoldsWorld t book (lent y (b .log) (b .entries) (b .sent)) (worldOf t book b)) (sym (h .bytes))
               (subst (HoldsWorld t book (putSite b i (h .new))) (put-same (worldOf t book b) i) (put-holds small i inside (alone t book holds) (position-seen i inside))));

@@ -16,9 +16,9 @@ use Rattle.table.specs.declared.SiteTable.{SiteTable}
 use Rattle.register.specs.declared.Command.{Command}
 use Rattle.protocol.specs.Site as protocol
 use Rattle.system.specs.Dash.{dash}
-use Rattle.layout.specs.Layout.{siteSize, spanPlace, rowSize, rowAt, spanWith}
+use Rattle.layout.specs.Layout.{siteAt, siteSize, spanPlace, rowSize, rowAt, spanWith}
 use Rattle.layout.specs.Good.{Holds}
-use Rattle.world.specs.World.{siteAt, PastKept, PastRows}
+use Rattle.world.specs.World.{PastKept, PastRows}
 use Rattle.world.proofs.Sites.{site-same, site-other}
 
 pub past-same : (b : List ℕ) → PastKept b b

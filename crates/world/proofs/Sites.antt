@@ -11,8 +11,7 @@ use borrow.Rule.Slice.PartMut.{putMid}
 use Rattle.theory.specs.Counting.{lt-or-le}
 use Rattle.wire.specs.Wire.{splice}
 use Rattle.wire.proofs.Laws.{part-same, part-before, drop-after, mid-splice}
-use Rattle.layout.specs.Layout.{siteSize, headOf}
-use Rattle.world.specs.World.{siteAt}
+use Rattle.layout.specs.Layout.{siteAt, siteSize, headOf}
 use Rattle.world.specs.Parts.{AtSite}
 
 -- Site i written over its part.

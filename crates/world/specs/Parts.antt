@@ -9,9 +9,9 @@ use Rattle.wire.specs.Wire.{splice}
 use Rattle.table.specs.declared.SiteTable.{SiteTable}
 use Rattle.register.specs.declared.Command.{Command}
 use Rattle.protocol.specs.World.{Step}
-use Rattle.layout.specs.Layout.{siteSize}
+use Rattle.layout.specs.Layout.{siteAt, siteSize}
 use Rattle.world.specs.declared.Stepped.{Stepped}
-use Rattle.world.specs.World.{Buffers, siteAt, GoodWorld, Outcome}
+use Rattle.world.specs.World.{Buffers, GoodWorld, Outcome}
 
 abbrev pub lent : List ℕ → List ℕ → ℕ → List ℕ → Buffers
 lent sites log entries sent = record { sites = sites; log = log; entries = entries; sent = sent }

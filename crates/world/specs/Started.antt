@@ -8,9 +8,9 @@ use Rattle.table.specs.declared.SiteTable.{SiteTable}
 use Rattle.register.specs.declared.Command.{Command}
 use Rattle.protocol.specs.World.{start}
 use Rattle.system.specs.Dash.{dash}
-use Rattle.layout.specs.Layout.{heardPlace}
+use Rattle.layout.specs.Layout.{siteAt, heardPlace}
 use Rattle.sent.specs.Sent.{cleared}
-use Rattle.world.specs.World.{siteAt, maxLog, HoldsWorld}
+use Rattle.world.specs.World.{maxLog, HoldsWorld}
 
 -- With no entry meant the buffers hold the start of a run with any book, whatever bytes the log has; of what was sent only counts and flags were written.
 -- Before that the sites were `earlier` and what was sent was `before`.

@@ -6,7 +6,8 @@ use mathlib.Core.List.{List}
 use mathlib.Core.Option.{Option, none, some}
 use Prim.Native.Nat.{ℕ, _*_, _≤_, _<_}
 use lib.Dec.{ltb}
-use lib.ListN.{length, take, drop}
+use lib.ListN.{length, drop}
+use Rattle.refusals.specs.Refusals.{isTaken}
 use Rattle.refusals.specs.declared.Verdict.{Verdict}
 use Rattle.theory.specs.Sets as theory
 use Rattle.theory.specs.Sets.{pick, all}
@@ -18,10 +19,10 @@ use Rattle.protocol.specs.Recovery as recovery
 use Rattle.protocol.specs.Site as protocol
 use Rattle.protocol.specs.World.{World, Step, command, acknowledgment, check, falseAcknowledgment, falseCheck, falseEntry, turn, fastDelivery, logRead, roundEnd, judge, step}
 use Rattle.protocol.specs.World as worlds
-use Rattle.protocol.specs.CommonSequence.{isTaken}
 use Rattle.system.specs.Dash.{dash}
 use Rattle.wire.specs.Wire.{readLe}
 use Rattle.layout.specs.Layout.{siteSize, spanPlace, rowAt, headOf, view}
+pub use Rattle.layout.specs.Layout.{siteAt}
 use Rattle.layout.specs.Good.{Good, HoldsOver}
 use Rattle.entries.specs.declared.Entry.{Entry}
 use Rattle.entries.specs.Entries.{entrySize, entryOf, logTo, writeEntry, inRangeOf}
@@ -37,10 +38,6 @@ pub record Buffers : Type 0 where
   pub log : List ℕ
   pub entries : ℕ
   pub sent : List ℕ
-
--- The bytes of site i.
-unfoldable pub siteAt : List ℕ → ℕ → List ℕ
-siteAt sites i = take siteSize (drop (i * siteSize) sites)
 
 -- The bytes of a site after a step: what is past its rows is as it was, and it has no fewer rows.
 pub record PastKept (before after : List ℕ) : Type 0 where

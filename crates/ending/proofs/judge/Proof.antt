@@ -1,11 +1,11 @@
 -- `ending::judge`: each test of the code is one of the definition, in its order.
--- Assumes nothing.
-use mathlib.Core.Path.{refl}
-use native.Mathlib.Omega.{arith}
+-- Rests on Verdicts.
+use Prim.Native.Nat.{_+_}
 use borrow.Author.Tests.{not-true, not-false}
-use borrow.Author.Needs.{needs}
 use Rattle.ending.proofs.Verdicts.{end-acknowledging, end-undecided, end-full, end-met}
 use Rattle.ending.proofs.Closing.{size-small}
+use borrow.Author.Needs.{needs}
+use native.Mathlib.Omega.{arith}
 use Rattle.ending.proofs.judge.Statement.{statement}
 use Rattle.ending.proofs.judge.Tie as tie
 
@@ -13,21 +13,28 @@ is-waiting-requires : tie.Need-is-waiting-requires
 is-waiting-requires c κs = search needs
 
 returns : tie.Need-returns
-returns c = let a = c .before .before .before .args in end-acknowledging _ _ _ (a .nc) (a .c) (c .before .is-waiting .ensures) (not-true _ (c .if1 .taken))
+returns c = end-acknowledging _ _ _ (c .before .before .before .args .nc) (c .before .before .before .args .c) (c .before .is-waiting .ensures) (not-true _ (c .if1 .taken))
 
 returns-2 : tie.Need-returns-2
-returns-2 c =
-    let a = c .before .before .before .before .args in
-    end-undecided _ _ _ (a .nc) (a .c) (c .before .before .is-waiting .ensures) (not-false _ (c .before .if1 .left)) (not-true _ (c .if2 .taken))
+returns-2 c = end-undecided _ _ _ (c .before .before .before .before .args .nc) (c .before .before .before .before .args .c) (c .before .before .is-waiting .ensures) (not-false _ (c .before .if1 .left)) (not-true _ (c .if2 .taken))
 
 due-requires : tie.Need-due-requires
 due-requires c κs = search needs
 
+size-requires : tie.Need-size-requires
+size-requires c κs = search needs
+
 due-requires-2 : tie.Need-due-requires-2
 due-requires-2 c κs = search needs
 
-sizes-requires : tie.Need-sizes-requires
-sizes-requires c κs = search needs
+size-requires-2 : tie.Need-size-requires-2
+size-requires-2 c κs = search needs
+
+add-more : tie.Need-add-more
+add-more c =
+    let p = size-small (c .before .before .before .due .result) (c .before .before .size .ensures) in
+    let q = size-small (c .before .due2 .result) (c .size2 .ensures) in
+    record { fits = omega arith }
 
 count-requires : tie.Need-count-requires
 count-requires c κs = search needs
@@ -37,20 +44,15 @@ cast-recorded c = search needs
 
 add-if3 : tie.Need-add-if3
 add-if3 c =
-    let p = size-small (c .before .before .before .due .result) refl in
-    let q = size-small (c .before .before .due2 .result) refl in
-    let e = c .before .sizes .ensures in
+    let p = size-small (c .before .before .before .before .due .result) (c .before .before .before .size .ensures) in
+    let q = size-small (c .before .before .due2 .result) (c .before .size2 .ensures) in
     record { fits = omega arith }
 
 returns-3 : tie.Need-returns-3
-returns-3 c =
-    let a = c .before .before .before .before .before .before .before .before .before .args in
-    end-full _ _ _ (a .nc) (a .c) (c .before .before .before .before .before .before .before .is-waiting .ensures) (not-false _ (c .before .before .before .before .before .before .if1 .left)) (not-false _ (c .before .before .before .before .before .if2 .left)) (c .before .before .before .before .due .ensures) (c .before .before .before .due2 .ensures) (c .before .before .sizes .ensures) (c .before .count .ensures) (c .if3 .taken)
+returns-3 c = end-full _ _ _ (c .before .before .before .before .before .before .before .before .before .before .args .nc) (c .before .before .before .before .before .before .before .before .before .before .args .c) (c .before .before .before .before .before .before .before .before .is-waiting .ensures) (not-false _ (c .before .before .before .before .before .before .before .if1 .left)) (not-false _ (c .before .before .before .before .before .before .if2 .left)) (c .before .before .before .before .before .due .ensures) (c .before .before .before .due2 .ensures) (λ i. c .before .before .before .before .size .ensures i + c .before .before .size2 .ensures i) (c .before .count .ensures) (c .if3 .taken)
 
 returns-4 : tie.Need-returns-4
-returns-4 c =
-    let a = c .before .before .before .before .before .before .before .before .before .args in
-    end-met _ _ _ (a .nc) (a .c) (c .before .before .before .before .before .before .before .is-waiting .ensures) (not-false _ (c .before .before .before .before .before .before .if1 .left)) (not-false _ (c .before .before .before .before .before .if2 .left)) (c .before .before .before .before .due .ensures) (c .before .before .before .due2 .ensures) (c .before .before .sizes .ensures) (c .before .count .ensures) (c .if3 .left)
+returns-4 c = end-met _ _ _ (c .before .before .before .before .before .before .before .before .before .before .args .nc) (c .before .before .before .before .before .before .before .before .before .before .args .c) (c .before .before .before .before .before .before .before .before .is-waiting .ensures) (not-false _ (c .before .before .before .before .before .before .before .if1 .left)) (not-false _ (c .before .before .before .before .before .before .if2 .left)) (c .before .before .before .before .before .due .ensures) (c .before .before .before .due2 .ensures) (λ i. c .before .before .before .before .size .ensures i + c .before .before .size2 .ensures i) (c .before .count .ensures) (c .if3 .left)
 
 pub judge-spec : {M : Type 1} → statement M
 judge-spec =
@@ -60,8 +62,10 @@ judge-spec =
     returns
     returns-2
     due-requires
+    size-requires
     due-requires-2
-    sizes-requires
+    size-requires-2
+    add-more
     count-requires
     cast-recorded
     add-if3

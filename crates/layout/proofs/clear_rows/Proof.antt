@@ -1,16 +1,13 @@
--- `layout::clear_rows`: nothing where there are no rows between, else the part that the rows take is cleared.
--- Rests on Rows.
-use mathlib.Core.Path.{refl}
+-- `layout::clear_rows`: the part that the rows take is cleared.
+-- Rests on wire's Small.
 use Prim.Native.Nat.{_-_}
+use Rattle.wire.proofs.Small.{part-cleared}
+use Rattle.layout.specs.Layout.{rowAt}
 use borrow.Author.Needs.{needs}
 use denote.Ref.{now}
-use Rattle.layout.specs.Layout.{rowAt}
-use Rattle.layout.proofs.Rows.{rows-none, rows-cleared}
+use native.Mathlib.Omega.{arith}
 use Rattle.layout.proofs.clear_rows.Statement.{statement}
 use Rattle.layout.proofs.clear_rows.Tie as tie
-
-returns : tie.Need-returns
-returns c = rows-none _ (c .if1 .taken)
 
 mul-from : tie.Need-mul-from
 mul-from c = search needs
@@ -39,17 +36,14 @@ clear-requires c κs = search needs
 same-length : tie.Need-same-length
 same-length c = search needs
 
-returns-2 : tie.Need-returns-2
-returns-2 c =
-    let o = c .before .before .before .before .before .before in
-    let a = o .args in
-    rows-cleared (now (a .site)) (a .rows) (a .round) (rowAt (a .round) - rowAt (a .rows)) (o .pre .0) (o .pre .2) (o .pre .1) refl (c .before .before .clear .ensures)
+returns : tie.Need-returns
+returns c =
+    let a = c .before .before .before .before .before .args in part-cleared (now (a .site)) (rowAt (a .rows)) (rowAt (a .round) - rowAt (a .rows)) (omega (arith, c .before .before .before .before .before .pre)) (c .before .before .clear .ensures)
 
 pub clear-rows-spec : {M : Type 1} → statement M
 clear-rows-spec =
     tie.close
     (tie.spec
-    returns
     mul-from
     add-from
     mul-to
@@ -59,4 +53,4 @@ clear-rows-spec =
     part-clear-end
     clear-requires
     same-length
-    returns-2)
+    returns)

@@ -1,62 +1,59 @@
--- `lent::judge_deliveries`: the bytes after the recorded places are 0, and the recorded commands are of the book.
--- Rests on Tables.
+-- `lent::judge_deliveries`: the places before are good.
+-- Assumes nothing.
+use mathlib.Core.Bool.{true}
+use mathlib.Core.Path.{_≡_, sym, ap, _∙_}
+use Prim.Native.Nat.{ℕ, _-_, _≤_}
+use Rattle.theory.specs.Sets.{all}
+use Rattle.theory.specs.Counting.{not-true, not-false, all-none, all-more, all-not}
+use Rattle.sets.specs.Sets.{capacity}
+use Rattle.layout.specs.Good.{goodSlot}
 use borrow.Author.Needs.{needs}
 use denote.Ref.{now}
-use Prim.Native.Nat.{ℕ, _<_}
-use mathlib.Core.Path.{_≡_}
 use native.Mathlib.Omega.{arith}
-use Rattle.theory.specs.Counting.{not-true, not-false}
-use Rattle.lent.proofs.Tables.{slots-not, slots-none, slots-some}
 use Rattle.lent.proofs.judge_deliveries.Statement.{statement}
 use Rattle.lent.proofs.judge_deliveries.Tie as tie
 
-positive : (n : ℕ) → (n ≡ 0 → ⊥) → 0 < n
-positive n h = omega arith
+abbrev Inv-loop : tie.InvT-loop
+Inv-loop site commands recorded k₀ k = (k ≤ capacity) × (all k (goodSlot commands recorded site) ≡ true)
 
-sub-are-words-clear : tie.Need-sub-are-words-clear
-sub-are-words-clear c = search needs
+abbrev μ-loop : tie.MeasureT-loop
+μ-loop site commands recorded k₀ k = capacity - k
 
-are-words-clear-requires : tie.Need-are-words-clear-requires
-are-words-clear-requires c κs = search needs
+loop-holds : tie.Need-loop-holds Inv-loop μ-loop
+loop-holds c = (omega arith, all-none _)
 
-returns : tie.Need-returns
+judge-slot-requires : tie.Need-judge-slot-requires Inv-loop μ-loop
+judge-slot-requires c κs = search needs
+
+returns : tie.Need-returns Inv-loop μ-loop
 returns c =
-    let o = c .before .before .before in
-    slots-none (now (o .args .site)) (o .args .commands) (o .args .recorded) (o .pre .0) (c .before .if1 .taken) (c .are-words-clear .ensures)
+    let a = c .before .before .before .before .before .args in sym (all-not capacity (goodSlot (a .commands) (a .recorded) (now (a .site))) (c .before .before .before .loop .k) (omega arith) (sym (c .before .judge-slot .ensures) ∙ not-true _ (c .if1 .taken)))
 
-mul-rest : tie.Need-mul-rest
-mul-rest c = search needs
+add-k : tie.Need-add-k Inv-loop μ-loop
+add-k c = search needs
 
-add-rest : tie.Need-add-rest
-add-rest c = search needs
+loop-less : tie.Need-loop-less Inv-loop μ-loop
+loop-less c = search needs
 
-is-rest-clear-requires : tie.Need-is-rest-clear-requires
-is-rest-clear-requires c κs = search needs
+loop-again : tie.Need-loop-again Inv-loop μ-loop
+loop-again c = (omega arith, all-more _ _ (c .before .before .before .loop .inv .1) (sym (c .before .judge-slot .ensures) ∙ not-false _ (c .if1 .left)))
 
-returns-2 : tie.Need-returns-2
+returns-2 : tie.Need-returns-2 Inv-loop μ-loop
 returns-2 c =
-    let o = c .before .before .before .before in
-    slots-not (now (o .args .site)) (o .args .commands) (o .args .recorded) (o .pre .0) (o .pre .1) (c .before .is-rest-clear .ensures) (not-true _ (c .if2 .taken))
-
-commands-within-requires : tie.Need-commands-within-requires
-commands-within-requires c κs = search needs
-
-returns-3 : tie.Need-returns-3
-returns-3 c =
-    let o = c .before .before .before .before .before in
-    slots-some (now (o .args .site)) (o .args .commands) (o .args .recorded) (o .pre .0) (o .pre .1) (c .before .before .is-rest-clear .ensures) (positive (o .args .recorded) (c .before .before .before .if1 .left)) (not-false _ (c .before .if2 .left))
-    (c .commands-within .ensures)
+    let a = c .before .before .before .args in
+    let e : c .before .loop .k ≡ capacity = omega arith in
+    sym (c .before .loop .inv .1) ∙ ap (λ (n : ℕ). all n (goodSlot (a .commands) (a .recorded) (now (a .site)))) e
 
 pub judge-deliveries-spec : {M : Type 1} → statement M
 judge-deliveries-spec =
     tie.close
     (tie.spec
-    sub-are-words-clear
-    are-words-clear-requires
+    Inv-loop
+    μ-loop
+    loop-holds
+    judge-slot-requires
     returns
-    mul-rest
-    add-rest
-    is-rest-clear-requires
-    returns-2
-    commands-within-requires
-    returns-3)
+    add-k
+    loop-less
+    loop-again
+    returns-2)

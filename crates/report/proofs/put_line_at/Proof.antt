@@ -7,7 +7,8 @@ use mathlib.Core.Path.{_≡_, sym, subst, _∙_}
 use Prim.Native.Nat.{ℕ, _+_, _*_, _-_}
 use lib.ListN.{take, drop}
 use Rattle.layout.specs.Layout.{siteSize}
-use Rattle.report.specs.Report.{Printable, siteAt}
+use Rattle.layout.specs.Layout.{siteAt}
+use Rattle.report.specs.Report.{Printable}
 use Rattle.report.proofs.Laws.{faulty-line, correct-line}
 use Rattle.report.proofs.put_line_at.Statement.{statement}
 use Rattle.report.proofs.put_line_at.Tie as tie
@@ -36,6 +37,7 @@ part-put-site-line-end : tie.Need-part-put-site-line-end
 part-put-site-line-end c = search needs
 
 put-site-line-requires : tie.Need-put-site-line-requires
+unfolding siteAt
 put-site-line-requires c κs =
     let a = c .before .before .before .before .before .before .args in
     let q : (a .i * siteSize + siteSize) - a .i * siteSize ≡ siteSize = omega arith in

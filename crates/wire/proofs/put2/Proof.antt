@@ -1,35 +1,37 @@
+-- `wire::put2` writes a number in two parts.
+-- Assumes nothing.
+use Prim.Native.Nat.{_%_, _/_}
+use Rattle.wire.proofs.Laws.{write-parts}
 use borrow.Author.Needs.{needs}
-use native.Mathlib.Omega.{arith}
-use native.Mathlib.Numerals.{towards-suc}
 use denote.Ref.{now}
-use lib.ListN.{length-set}
-use Rattle.wire.specs.Wire.{bytes}
-use Rattle.wire.proofs.Laws.{sets-splice}
+use native.Mathlib.Omega.{arith}
 use Rattle.wire.proofs.put2.Statement.{statement}
 use Rattle.wire.proofs.put2.Tie as tie
 
-cast-s : tie.Need-cast-s
-cast-s c = search needs
+cast-put1 : tie.Need-cast-put1
+cast-put1 c = search needs
 
-slice-write-s : tie.Need-slice-write-s
-slice-write-s c = search needs
+put1-requires : tie.Need-put1-requires
+put1-requires c κs = search needs
 
-cast-s-2 : tie.Need-cast-s-2
-cast-s-2 c = search needs
+add-put1 : tie.Need-add-put1
+add-put1 c = search needs
 
-add-s : tie.Need-add-s
-add-s c = search needs
+cast-put1-2 : tie.Need-cast-put1-2
+cast-put1-2 c = search needs
 
-slice-write-s-2 : tie.Need-slice-write-s-2
-slice-write-s-2 c = simp length-set (omega arith)
+put1-requires-2 : tie.Need-put1-requires-2
+put1-requires-2 c κs = search needs
 
 same-length : tie.Need-same-length
 same-length c = search needs
 
 returns : tie.Need-returns
-unfolding bytes
-returns c = let a = c .args in simp towards-suc (sets-splice (bytes 2 (a .x)) (now (a .s)) (a .at) (c .pre))
+returns c =
+    let a = c .before .before .before .before .before .before .before .before .before .args in
+    write-parts 1 1 (a .x % 256) (a .x / 256) (a .x) (now (a .s)) (a .at) (c .before .before .before .before .before .before .before .before .before .pre) (omega arith) (omega arith) (c .before .before .before .before .before .before .put1 .ensures) (c .before .before .put12 .ensures)
 
 pub put2-spec : {M : Type 1} → statement M
 put2-spec =
-    tie.close (tie.spec cast-s slice-write-s cast-s-2 add-s slice-write-s-2 same-length returns)
+    tie.close
+    (tie.spec cast-put1 put1-requires add-put1 cast-put1-2 put1-requires-2 same-length returns)

@@ -1,67 +1,37 @@
+-- `wire::put4` writes a number in two parts.
+-- Assumes nothing.
+use Prim.Native.Nat.{_%_, _/_}
+use Rattle.wire.proofs.Laws.{write-parts}
 use borrow.Author.Needs.{needs}
-use native.Mathlib.Omega.{arith}
-use native.Mathlib.Numerals.{towards-suc}
 use denote.Ref.{now}
-use lib.ListN.{length-set}
-use Rattle.wire.specs.Wire.{bytes}
-use Rattle.wire.proofs.Laws.{sets-splice}
+use native.Mathlib.Omega.{arith}
 use Rattle.wire.proofs.put4.Statement.{statement}
 use Rattle.wire.proofs.put4.Tie as tie
 
-cast-s : tie.Need-cast-s
-cast-s c = search needs
+cast-put2 : tie.Need-cast-put2
+cast-put2 c = search needs
 
-slice-write-s : tie.Need-slice-write-s
-slice-write-s c = search needs
+put2-requires : tie.Need-put2-requires
+put2-requires c κs = search needs
 
-cast-s-2 : tie.Need-cast-s-2
-cast-s-2 c = search needs
+add-put2 : tie.Need-add-put2
+add-put2 c = search needs
 
-add-s : tie.Need-add-s
-add-s c = search needs
+cast-put2-2 : tie.Need-cast-put2-2
+cast-put2-2 c = search needs
 
-slice-write-s-2 : tie.Need-slice-write-s-2
-slice-write-s-2 c = simp length-set (omega arith)
-
-cast-s-3 : tie.Need-cast-s-3
-cast-s-3 c = search needs
-
-add-s-2 : tie.Need-add-s-2
-add-s-2 c = search needs
-
-slice-write-s-3 : tie.Need-slice-write-s-3
-slice-write-s-3 c = simp length-set (omega arith)
-
-cast-s-4 : tie.Need-cast-s-4
-cast-s-4 c = search needs
-
-add-s-3 : tie.Need-add-s-3
-add-s-3 c = search needs
-
-slice-write-s-4 : tie.Need-slice-write-s-4
-slice-write-s-4 c = simp length-set (omega arith)
+put2-requires-2 : tie.Need-put2-requires-2
+put2-requires-2 c κs = search needs
 
 same-length : tie.Need-same-length
 same-length c = search needs
 
 returns : tie.Need-returns
-unfolding bytes
-returns c = let a = c .args in simp towards-suc (sets-splice (bytes 4 (a .x)) (now (a .s)) (a .at) (c .pre))
+returns c =
+    let a = c .before .before .before .before .before .before .before .before .before .args in
+    write-parts 2 2 (a .x % 65536) (a .x / 65536) (a .x) (now (a .s)) (a .at) (c .before .before .before .before .before .before .before .before .before .pre) (omega arith) (omega arith) (c .before .before .before .before .before .before .put2 .ensures) (c .before .before .put22 .ensures)
 
 pub put4-spec : {M : Type 1} → statement M
 put4-spec =
     tie.close
-    (tie.spec
-    cast-s
-    slice-write-s
-    cast-s-2
-    add-s
-    slice-write-s-2
-    cast-s-3
-    add-s-2
-    slice-write-s-3
-    cast-s-4
-    add-s-3
-    slice-write-s-4
-    same-length
-    returns)
+    (tie.spec cast-put2 put2-requires add-put2 cast-put2-2 put2-requires-2 same-length returns)

@@ -1,115 +1,37 @@
+-- `wire::put8` writes a number in two parts.
+-- Assumes nothing.
+use Prim.Native.Nat.{_%_, _/_}
+use Rattle.wire.proofs.Laws.{write-parts}
 use borrow.Author.Needs.{needs}
-use native.Mathlib.Omega.{arith}
-use native.Mathlib.Numerals.{towards-suc}
 use denote.Ref.{now}
-use lib.ListN.{length-set}
-use Rattle.wire.specs.Wire.{bytes}
-use Rattle.wire.proofs.Laws.{sets-splice}
+use native.Mathlib.Omega.{arith}
 use Rattle.wire.proofs.put8.Statement.{statement}
 use Rattle.wire.proofs.put8.Tie as tie
 
-cast-s : tie.Need-cast-s
-cast-s c = search needs
+cast-put4 : tie.Need-cast-put4
+cast-put4 c = search needs
 
-slice-write-s : tie.Need-slice-write-s
-slice-write-s c = search needs
+put4-requires : tie.Need-put4-requires
+put4-requires c κs = search needs
 
-cast-s-2 : tie.Need-cast-s-2
-cast-s-2 c = search needs
+add-put4 : tie.Need-add-put4
+add-put4 c = search needs
 
-add-s : tie.Need-add-s
-add-s c = search needs
+cast-put4-2 : tie.Need-cast-put4-2
+cast-put4-2 c = search needs
 
-slice-write-s-2 : tie.Need-slice-write-s-2
-slice-write-s-2 c = simp length-set (omega arith)
-
-cast-s-3 : tie.Need-cast-s-3
-cast-s-3 c = search needs
-
-add-s-2 : tie.Need-add-s-2
-add-s-2 c = search needs
-
-slice-write-s-3 : tie.Need-slice-write-s-3
-slice-write-s-3 c = simp length-set (omega arith)
-
-cast-s-4 : tie.Need-cast-s-4
-cast-s-4 c = search needs
-
-add-s-3 : tie.Need-add-s-3
-add-s-3 c = search needs
-
-slice-write-s-4 : tie.Need-slice-write-s-4
-slice-write-s-4 c = simp length-set (omega arith)
-
-cast-s-5 : tie.Need-cast-s-5
-cast-s-5 c = search needs
-
-add-s-4 : tie.Need-add-s-4
-add-s-4 c = search needs
-
-slice-write-s-5 : tie.Need-slice-write-s-5
-slice-write-s-5 c = simp length-set (omega arith)
-
-cast-s-6 : tie.Need-cast-s-6
-cast-s-6 c = search needs
-
-add-s-5 : tie.Need-add-s-5
-add-s-5 c = search needs
-
-slice-write-s-6 : tie.Need-slice-write-s-6
-slice-write-s-6 c = simp length-set (omega arith)
-
-cast-s-7 : tie.Need-cast-s-7
-cast-s-7 c = search needs
-
-add-s-6 : tie.Need-add-s-6
-add-s-6 c = search needs
-
-slice-write-s-7 : tie.Need-slice-write-s-7
-slice-write-s-7 c = simp length-set (omega arith)
-
-cast-s-8 : tie.Need-cast-s-8
-cast-s-8 c = search needs
-
-add-s-7 : tie.Need-add-s-7
-add-s-7 c = search needs
-
-slice-write-s-8 : tie.Need-slice-write-s-8
-slice-write-s-8 c = simp length-set (omega arith)
+put4-requires-2 : tie.Need-put4-requires-2
+put4-requires-2 c κs = search needs
 
 same-length : tie.Need-same-length
-same-length c = simp length-set
+same-length c = search needs
 
 returns : tie.Need-returns
-unfolding bytes
-returns c = let a = c .args in simp towards-suc (sets-splice (bytes 8 (a .x)) (now (a .s)) (a .at) (c .pre))
+returns c =
+    let a = c .before .before .before .before .before .before .before .before .before .args in
+    write-parts 4 4 (a .x % 4294967296) (a .x / 4294967296) (a .x) (now (a .s)) (a .at) (c .before .before .before .before .before .before .before .before .before .pre) (omega arith) (omega arith) (c .before .before .before .before .before .before .put4 .ensures) (c .before .before .put42 .ensures)
 
 pub put8-spec : {M : Type 1} → statement M
 put8-spec =
     tie.close
-    (tie.spec
-    cast-s
-    slice-write-s
-    cast-s-2
-    add-s
-    slice-write-s-2
-    cast-s-3
-    add-s-2
-    slice-write-s-3
-    cast-s-4
-    add-s-3
-    slice-write-s-4
-    cast-s-5
-    add-s-4
-    slice-write-s-5
-    cast-s-6
-    add-s-5
-    slice-write-s-6
-    cast-s-7
-    add-s-6
-    slice-write-s-7
-    cast-s-8
-    add-s-7
-    slice-write-s-8
-    same-length
-    returns)
+    (tie.spec cast-put4 put4-requires add-put4 cast-put4-2 put4-requires-2 same-length returns)

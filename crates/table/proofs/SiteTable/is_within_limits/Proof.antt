@@ -34,6 +34,9 @@ returns-4 c =
     let a = c .before .before .before .before .args in
     sym (few-sites (a .sites) (a .faults) (a .mask) (omega arith) (omega arith) (omega arith) (omega arith))
 
+cast-if5 : tie.Need-cast-if5
+cast-if5 c = search needs
+
 shr-if5 : tie.Need-shr-if5
 shr-if5 c = search needs
 
@@ -51,4 +54,4 @@ returns-6 c =
     sym (bits-count (a .sites) (a .faults) (a .mask) (omega arith) (omega arith) (omega arith) (omega arith) (c .if5 .left))
 
 pub is-within-limits-spec : {M : Type 1} → statement M
-is-within-limits-spec = tie.close (tie.spec returns returns-2 returns-3 mul-if4 add-if4 returns-4 shr-if5 returns-5 cast-result returns-6)
+is-within-limits-spec = tie.close (tie.spec returns returns-2 returns-3 mul-if4 add-if4 returns-4 cast-if5 shr-if5 returns-5 cast-result returns-6)
