@@ -19,7 +19,7 @@ use Rattle.table.specs.declared.Judged.the-variants as judged
 use Rattle.table.specs.Table.{isGood, judgeTable}
 use Rattle.table.proofs.Laws.{judged-good}
 use Rattle.register.specs.declared.Command.{Command}
-use Rattle.commands.specs.Book.{maxCommands, readUpTo, verdictOf, judgeBook, commandsOf, measureBook, placesOf, walkedPlaces}
+use Rattle.commands.specs.Book.{maxCommands, readUpTo, verdictOf, judgeBook, commandsOf, measureBook, placesOf, notedPlaces}
 use Rattle.commands.specs.declared.Measured.the-variants.{Commands, Unreadable}
 use Rattle.commands.proofs.Walk.{is-counted, not-counted, taken-counted}
 use Rattle.commands.proofs.Noting.{note-noted}
@@ -131,16 +131,16 @@ module _ (run p : List ℕ) where
   run-refused {r} h =
       let e = first-refused (leb (length run) maxRun) (leb headerSize (length run)) (isGood (tableOf run)) (leb (headerSize + bookSize run) (length run)) (judgeBook (bookOf run)) h in (
         ap (λ (v : Verdict). openedAs v (length (commandsOf (bookOf run)))) e,
-        ap (λ (v : Verdict). pick (isTaken v) (sets p 0 (walkedPlaces (bookOf run))) p) (sym h),
+        ap (λ (v : Verdict). pick (isTaken v) (sets p 0 (notedPlaces (bookOf run))) p) (sym h),
       )
 
   -- The verdict on the book, where size and header are taken.
-  module _ (h : verdict (forHeader run) ≡ Taken) {b q : List ℕ} (e : b ≡ bookOf run) (w : q ≡ sets p 0 (walkedPlaces b)) where
+  module _ (h : verdict (forHeader run) ≡ Taken) {b q : List ℕ} (e : b ≡ bookOf run) (w : q ≡ sets p 0 (notedPlaces b)) where
     walked : q ≡ placesAfter run p
     unfolding placesAfter
     walked =
-        w ∙ ap (λ (l : List ℕ). sets p 0 (walkedPlaces l)) e
-        ∙ ap (λ (v : Verdict). pick (isTaken v) (sets p 0 (walkedPlaces (bookOf run))) p) (sym h)
+        w ∙ ap (λ (l : List ℕ). sets p 0 (notedPlaces l)) e
+        ∙ ap (λ (v : Verdict). pick (isTaken v) (sets p 0 (notedPlaces (bookOf run))) p) (sym h)
 
     by-book : {v : Verdict} → v ≡ judgeBook b → v ≡ verdict (forRun run)
     unfolding judgeBook
@@ -219,4 +219,4 @@ module _ (run : List ℕ) where
   unfolding placesAfter
   places-noted p h room e =
       let f = header-first (leb (length run) maxRun) (leb headerSize (length run)) (isGood (tableOf run)) (leb (headerSize + bookSize run) (length run)) (judgeBook (bookOf run)) h in
-      note-noted (bookOf run) p room (taken-counted (bookOf run) (sound run h .book)) (e ∙ ap (λ (v : Verdict). pick (isTaken v) (sets p 0 (walkedPlaces (bookOf run))) p) f)
+      note-noted (bookOf run) p room (taken-counted (bookOf run) (sound run h .book)) (e ∙ ap (λ (v : Verdict). pick (isTaken v) (sets p 0 (notedPlaces (bookOf run))) p) f)

@@ -11,7 +11,7 @@ use Rattle.refusals.specs.declared.Verdict.{Verdict}
 use Rattle.refusals.specs.declared.Verdict.the-variants.{Taken, Refused}
 use Rattle.theory.specs.Sets.{pick}
 use Rattle.table.specs.Table.{goodTable}
-use Rattle.commands.specs.Book.{commandsOf, walkedPlaces}
+use Rattle.commands.specs.Book.{commandsOf, notedPlaces}
 use Rattle.protocol.specs.System.{Demands, granted, _else_⨾_, verdict}
 use Rattle.runs.specs.Run.{maxRun, headerSize, tableOf, bookSize, bookOf, forRun}
 use Rattle.header.specs.declared.Opened.{Opened}
@@ -37,4 +37,4 @@ judgeRun run = openedAs (verdict (forRun run)) (length (commandsOf (bookOf run))
 
 -- The places after judging a run: the book is walked where size and header are taken.
 unfoldable pub placesAfter : List ℕ → List ℕ → List ℕ
-placesAfter run p = pick (isTaken (verdict (forHeader run))) (sets p 0 (walkedPlaces (bookOf run))) p
+placesAfter run p = pick (isTaken (verdict (forHeader run))) (sets p 0 (notedPlaces (bookOf run))) p
