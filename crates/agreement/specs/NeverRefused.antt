@@ -10,8 +10,9 @@ use native.Mathlib.Omega.{arith}
 use lib.Dec.{eqb, leb, ltb}
 use lib.ListN.{length, length-append}
 use borrow.Author.Tests.{eqb-true, eq-eqb, ltb-true, lt-ltb, le-leb}
+use Rattle.refusals.specs.Refusals.{rank}
 use Rattle.refusals.specs.declared.Refusal.{Refusal}
-use Rattle.refusals.specs.declared.Refusal.the-variants.{Book, Table, Form, Range, Role, Disabled, ThirdEntry, LastRound, Size}
+use Rattle.refusals.specs.declared.Refusal.the-variants.{ThirdEntry, LastRound, Full}
 use Rattle.refusals.specs.declared.Verdict.{Verdict}
 use Rattle.refusals.specs.declared.Verdict.the-variants.{Taken, Refused}
 use Rattle.theory.specs.Sets.{Set, ∅, only, _∪_, one, any, count, members}
@@ -39,42 +40,19 @@ use Rattle.agreement.specs.Bound.{Limits, round-delivered, brought-play}
 
 -- ---- refusals
 
-abbrev pub isLastRound : Refusal → Bool
-isLastRound Book = false
-isLastRound Table = false
-isLastRound Form = false
-isLastRound Range = false
-isLastRound Role = false
-isLastRound Disabled = false
-isLastRound ThirdEntry = false
-isLastRound LastRound = true
-isLastRound Size = false
-
-abbrev pub isSize : Refusal → Bool
-isSize Book = false
-isSize Table = false
-isSize Form = false
-isSize Range = false
-isSize Role = false
-isSize Disabled = false
-isSize ThirdEntry = false
-isSize LastRound = false
-isSize Size = true
+-- A full record of deliveries, a third entry, a turn in the last round that would propose: told by rank.
+abbrev pub isFull : Refusal → Bool
+isFull r = eqb (rank r) (rank Full)
 
 abbrev pub isThird : Refusal → Bool
-isThird Book = false
-isThird Table = false
-isThird Form = false
-isThird Range = false
-isThird Role = false
-isThird Disabled = false
-isThird ThirdEntry = true
-isThird LastRound = false
-isThird Size = false
+isThird r = eqb (rank r) (rank ThirdEntry)
+
+abbrev pub isLastRound : Refusal → Bool
+isLastRound r = eqb (rank r) (rank LastRound)
 
 -- What no run meets.
 pub record NeverRefused (S : System) (steps : List Step) : Type 0 where
-  pub nine : (t : Step) (r : Refusal) → judge S (play S (start S) steps) t ≡ Refused r → isSize r ≡ false
+  pub nine : (t : Step) (r : Refusal) → judge S (play S (start S) steps) t ≡ Refused r → isFull r ≡ false
   pub third : (i : ℕ) (r : Refusal) → judge S (play S (start S) steps) (turn i) ≡ Refused r → isThird r ≡ false
   pub eight : (t : Step) (r : Refusal) → judge S (play S (start S) steps) t ≡ Refused r → isLastRound r ≡ false
 
@@ -211,20 +189,20 @@ module _ (S : System) (f : ℕ) (sizes : Sizes S f) where
         v = finish-traced S f sizes w i (decision S (w .site i) (w .log)) refl h (good .settled) (good .pending) (good .promises) (good .heard) (good .traced i)
 
     -- Refusal 9 is never met.
-    pub no-size : (t : Step) (r : Refusal) → judge S w t ≡ Refused r → isSize r ≡ false
-    no-size t r e = spared isSize (demands S w t) (sizes-spared t) r e
+    pub no-size : (t : Step) (r : Refusal) → judge S w t ≡ Refused r → isFull r ≡ false
+    no-size t r e = spared isFull (demands S w t) (sizes-spared t) r e
       where
-        sizes-spared : (t : Step) → Spared isSize (demands S w t)
-        sizes-spared (command i m) = unmentioned isSize (demands S w (command i m)) refl
-        sizes-spared (acknowledgment i j r a) = unmentioned isSize (demands S w (acknowledgment i j r a)) refl
-        sizes-spared (check i j r) = unmentioned isSize (demands S w (check i j r)) refl
-        sizes-spared (falseAcknowledgment i j r x) = unmentioned isSize (demands S w (falseAcknowledgment i j r x)) refl
-        sizes-spared (falseCheck i j r x) = unmentioned isSize (demands S w (falseCheck i j r x)) refl
-        sizes-spared (falseEntry j r nc c) = unmentioned isSize (demands S w (falseEntry j r nc c)) refl
-        sizes-spared (turn i) = unmentioned isSize (demands S w (turn i)) refl
+        sizes-spared : (t : Step) → Spared isFull (demands S w t)
+        sizes-spared (command i m) = unmentioned isFull (demands S w (command i m)) refl
+        sizes-spared (acknowledgment i j r a) = unmentioned isFull (demands S w (acknowledgment i j r a)) refl
+        sizes-spared (check i j r) = unmentioned isFull (demands S w (check i j r)) refl
+        sizes-spared (falseAcknowledgment i j r x) = unmentioned isFull (demands S w (falseAcknowledgment i j r x)) refl
+        sizes-spared (falseCheck i j r x) = unmentioned isFull (demands S w (falseCheck i j r x)) refl
+        sizes-spared (falseEntry j r nc c) = unmentioned isFull (demands S w (falseEntry j r nc c)) refl
+        sizes-spared (turn i) = unmentioned isFull (demands S w (turn i)) refl
         sizes-spared (fastDelivery i m) =
             (quiet, λ a. (quiet, λ b. (quiet, λ c. (quiet, λ d. (quiet, λ e. (quiet, λ g. ((λ z. room-fast i m b d e), λ z. tt)))))))
-        sizes-spared (logRead i) = unmentioned isSize (demands S w (logRead i)) refl
+        sizes-spared (logRead i) = unmentioned isFull (demands S w (logRead i)) refl
         sizes-spared (roundEnd i) = (quiet, λ a. (quiet, λ b. (quiet, λ c. (quiet, λ d. ((λ z. room-end i d), λ z. tt)))))
 
     -- A correct site that acknowledges has no entry of its round in the log.

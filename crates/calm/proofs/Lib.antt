@@ -1,4 +1,3 @@
 pub mod Change
 pub mod Laws
 pub mod Same
-pub mod Between

@@ -1,4 +1,4 @@
-// Whether commands of one set, or of two, conflict, by the rows of conflicts.
+// Whether commands of a set conflict, by the rows of conflicts.
 ghost use mathlib.Core.Path.{_≡_};
 ghost use lib.ListN.{length};
 ghost use Rattle.sets.specs.Sets.{capacity, inSet};
@@ -6,7 +6,7 @@ ghost use Rattle.calm.specs.Rows.{freeBetween, freeBy};
 use sets::Set;
 
 // No member of the first set has a member of the other in its row. One look at a row for each member of the first.
-pub fn is_free_between(rows: &[u64], new: Set, set: Set) -> bool
+fn is_free_between(rows: &[u64], new: Set, set: Set) -> bool
     requires { ⌜ length (now rows) ≡ capacity ⌝ }
     ensures { λ r. ⌜ r ≡ freeBetween (now (rows .entry)) (inSet new) (inSet set) ⌝ }
 {

@@ -64,7 +64,7 @@ module _ (s p : List ℕ) (k : ℕ) (h : k < length (commandsOf s)) (e : take (l
 
   -- A noted place is inside the book.
   pub place-inside : {at : ℕ} → at ≡ getD p k 0 → at ≤ length s
-  place-inside {at} q = elim (decLe at (length s)) [ | yes l ↦ l | no n ↦ absurd (omega (arith, front _ (place-read q) .size, length-drop at s, size-small (commandOf s k))) ]
+  place-inside {at} q = elim (decLe at (length s)) [ yes l ↦ l | no n ↦ absurd (omega (arith, front _ (place-read q) .size, length-drop at s, size-small (commandOf s k))) ]
 
 -- Places that were noted in enough room are the places of the book.
 pub index-noted : (s p : List ℕ) {q : List ℕ} → length (commandsOf s) ≤ length p → q ≡ sets p 0 (placesOf s) → take (length (commandsOf s)) q ≡ placesOf s

@@ -51,13 +51,7 @@ pub fn fast_delivery(
 }
 
 // The round ends as the entries that the site has read decide it, or the step is refused.
-fn end_round(
-    site: &mut [u8],
-    rules: Rules,
-    book: &[u8],
-    places: &[u16],
-    log: &[u8],
-) -> Verdict
+fn end_round(site: &mut [u8], rules: Rules, book: &[u8], places: &[u16], log: &[u8]) -> Verdict
     requires { ⌜ Good (rules .table .sites) (rules .commands) (now site) × (isGood (rules .table) ≡ true) × Noted (now book) (now places) × (length (commandsOf (now book)) ≡ rules .commands)
         × (headOf (now site) .position ≤ length (now log) / entrySize)
         × (goodTo (now log) (rules .table .sites) (rules .commands) (headOf (now site) .position) ≡ true) ⌝ }

@@ -6,7 +6,7 @@ use Prim.Native.Nat.{ℕ, _+_, _≤_, _<_}
 use native.Mathlib.Omega.{arith}
 use lib.Dec.{leb}
 use borrow.Author.Tests.{le-leb, lt-leb, leb-true}
-use Rattle.refusals.specs.declared.Refusal.the-variants.{Disabled, Size}
+use Rattle.refusals.specs.declared.Refusal.the-variants.{Disabled, Full}
 use Rattle.refusals.specs.declared.Verdict.{Verdict}
 use Rattle.refusals.specs.declared.Verdict.the-variants.{Taken, Refused}
 use Rattle.sets.specs.declared.Set.{Set}
@@ -39,7 +39,7 @@ module _ (h : Site) (commands : ℕ) (decided : Bool) (nc c : Set) {w : Bool} (e
       total : n + k ≡ h .deliveries + moreOf h nc c
       total = λ i. en i + (ek ∙ (λ j. sizeOf (ex j) + sizeOf (ey j))) i
 
-      pub end-full : commands < n + k → Refused Size ≡ judgedEnd h commands decided (moreOf h nc c)
+      pub end-full : commands < n + k → Refused Full ≡ judgedEnd h commands decided (moreOf h nc c)
       unfolding judgedEnd
       end-full l =
           let is : isWaiting (h .phase) ≡ true = sym ew ∙ e in
@@ -56,7 +56,7 @@ module _ (h : Site) (commands : ℕ) (decided : Bool) (nc c : Set) {w : Bool} (e
 -- ---- the verdict by its tests
 
 abbrev endVerdict : Bool → Bool → Bool → Verdict
-endVerdict waits decided room = verdict (waits else Disabled ⨾ decided else Disabled ⨾ room else Size ⨾ granted)
+endVerdict waits decided room = verdict (waits else Disabled ⨾ decided else Disabled ⨾ room else Full ⨾ granted)
 
 met : (w d r : Bool) → endVerdict w d r ≡ Taken → (d ≡ true) × (r ≡ true)
 met true true true h = (refl, refl)
@@ -83,7 +83,7 @@ waits-same (Waiting p) = refl
 
 -- The code's verdict is that of tests which are equal where they matter.
 pub same-verdict : (h : Site) (commands : ℕ) (decided d : Bool) (more : ℕ) (room : Bool) → decided ≡ d → (decided ≡ true → leb (h .deliveries + more) commands ≡ room)
-    → judgedEnd h commands decided more ≡ verdict (protocol.isWaiting (phaseSeen (h .phase)) else Disabled ⨾ d else Disabled ⨾ room else Size ⨾ granted)
+    → judgedEnd h commands decided more ≡ verdict (protocol.isWaiting (phaseSeen (h .phase)) else Disabled ⨾ d else Disabled ⨾ room else Full ⨾ granted)
 unfolding judgedEnd
 same-verdict h commands decided d more room ed er =
     room-decided (isWaiting (h .phase)) decided (leb (h .deliveries + more) commands) room er ∙ (λ i. endVerdict (waits-same (h .phase) i) (ed i) room)

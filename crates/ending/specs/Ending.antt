@@ -6,7 +6,7 @@ use mathlib.Core.List.{List}
 use Prim.Native.Nat.{ℕ, _+_, _≤_}
 use lib.Dec.{leb}
 use lib.ListN.{length}
-use Rattle.refusals.specs.declared.Refusal.the-variants.{Disabled, Size}
+use Rattle.refusals.specs.declared.Refusal.the-variants.{Disabled, Full}
 use Rattle.refusals.specs.declared.Verdict.{Verdict}
 use Rattle.sets.specs.declared.Set.{Set}
 use Rattle.sets.specs.Sets.{inSet, emptyOf, unionOf, withoutOf, sizeOf}
@@ -48,7 +48,7 @@ ended h nc c n =
 -- The verdict, where the round end would deliver so many more.
 unfoldable pub judgedEnd : Site → ℕ → Bool → ℕ → Verdict
 judgedEnd h commands decided more =
-    verdict (isWaiting (h .phase) else Disabled ⨾ decided else Disabled ⨾ leb (h .deliveries + more) commands else Size ⨾ granted)
+    verdict (isWaiting (h .phase) else Disabled ⨾ decided else Disabled ⨾ leb (h .deliveries + more) commands else Full ⨾ granted)
 
 module _ (t : SiteTable) (book : List Command) where
   -- What is told of the decision of the site's round by the entries that it has read.

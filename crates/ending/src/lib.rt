@@ -36,7 +36,7 @@ fn judge(site: &[u8], commands: usize, decided: bool, nc: Set, c: Set) -> Verdic
     let more = due(site, nc).size() + due(site, c).size();
     let recorded = layout::count(site) as usize;
     if recorded + more > commands {
-        return Verdict::Refused(Refusal::Size);
+        return Verdict::Refused(Refusal::Full);
     }
     Verdict::Taken
 }

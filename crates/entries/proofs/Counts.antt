@@ -120,6 +120,5 @@ module _ (b : List ℕ) where
             all-more i (goodAt b n m) g (good-here ∙ lt-ltb before 2 l),
           )
 
-    pub prefix-end : (i k : ℕ) {counts : List ℕ} → i ≡ k → Counting b i counts → goodTo b n m i ≡ true
-        → (true ≡ goodTo b n m k) × (true ≡ true → Counting b k counts)
-    prefix-end i k {counts} q c g = (sym g ∙ ap (goodTo b n m) q, λ _. subst (λ (x : ℕ). Counting b x counts) q c)
+    pub prefix-end : (i k : ℕ) → i ≡ k → goodTo b n m i ≡ true → true ≡ goodTo b n m k
+    prefix-end i k q g = sym g ∙ ap (goodTo b n m) q

@@ -28,7 +28,7 @@ impl Entry {
 }
 
 // The cells of a table of counts, one for each site and round: 11 times 32.
-pub const CELLS: usize = 352;
+const CELLS: usize = 352;
 
 // The site of the k-th entry.
 pub fn site_of(log: &[u8], k: usize) -> usize
@@ -107,20 +107,13 @@ fn one_of(log: &[u8], k: usize, site: usize, round: usize) -> usize
     1
 }
 
-// How many of the first k entries a site has in a round, of which `found` are among the first `from`.
-pub fn entries_since(
-    log: &[u8],
-    from: usize,
-    found: usize,
-    k: usize,
-    site: usize,
-    round: usize,
-) -> usize
-    requires { ⌜ (k * entrySize ≤ length (now log)) × (from ≤ k) × (found ≡ entries site round (logTo (now log) from)) ⌝ }
+// How many of the first k entries a site has in a round.
+pub fn entries_of(log: &[u8], k: usize, site: usize, round: usize) -> usize
+    requires { ⌜ k * entrySize ≤ length (now log) ⌝ }
     ensures { λ r. ⌜ r ≡ entries site round (logTo (now (log .entry)) k) ⌝ }
 {
-    let mut all = found;
-    let mut i: usize = from;
+    let mut all: usize = 0;
+    let mut i: usize = 0;
     while i < k {
         let more = one_of(log, i, site, round);
         all += more;
@@ -157,11 +150,10 @@ pub fn in_range(entry: Entry, sites: usize, commands: usize) -> bool
         & c.within(commands)
 }
 
-// Whether a log read would take each of the first k entries: in range, and no third of its site and round. The table, where it would,
-// has them counted.
-pub fn judge_prefix(log: &[u8], k: usize, sites: usize, commands: usize, counts: &mut [u8]) -> bool
+// Whether a log read would take each of the first k entries: in range, and no third of its site and round, which are counted.
+fn judge_counting(log: &[u8], k: usize, sites: usize, commands: usize, counts: &mut [u8]) -> bool
     requires { ⌜ (k * entrySize ≤ length (now log)) × (sites ≤ maxSites) × (now counts ≡ replicate cells 0) ⌝ }
-    ensures { λ r. ⌜ (r ≡ goodTo (now (log .entry)) sites commands k) × (r ≡ true → Counting (now (log .entry)) k (now (counts .exit))) ⌝ }
+    ensures { λ r. ⌜ r ≡ goodTo (now (log .entry)) sites commands k ⌝ }
 {
     let mut i: usize = 0;
     while i < k {
@@ -180,27 +172,11 @@ pub fn judge_prefix(log: &[u8], k: usize, sites: usize, commands: usize, counts:
     true
 }
 
-// How many entries a site has in a round, by a table of counts.
-pub fn counted(counts: &[u8], site: usize, round: usize) -> usize
-    requires { ⌜ (length (now counts) ≡ cells) × (site < maxSites) × (1 ≤ round) × (round ≤ lastRound) ⌝ }
-    ensures { λ r. ⌜ ((log : List ℕ) (k : ℕ) → Counting log k (now (counts .entry)) → r ≡ entries site round (logTo log k)) ⌝ }
-{
-    wire::get1(counts, site * Entry::ROUNDS + (round - 1)) as usize
-}
-
 // Whether a log read would take each of the first k entries.
-pub fn judge_entries(log: &[u8], k: usize, sites: usize, commands: usize) -> bool
+pub fn judge_prefix(log: &[u8], k: usize, sites: usize, commands: usize) -> bool
     requires { ⌜ (k * entrySize ≤ length (now log)) × (sites ≤ maxSites) ⌝ }
     ensures { λ r. ⌜ r ≡ goodTo (now (log .entry)) sites commands k ⌝ }
 {
     let mut counts = [0u8; CELLS];
-    judge_prefix(log, k, sites, commands, &mut counts)
-}
-
-// How many of the first k entries a site has in a round.
-pub fn entries_of(log: &[u8], k: usize, site: usize, round: usize) -> usize
-    requires { ⌜ k * entrySize ≤ length (now log) ⌝ }
-    ensures { λ r. ⌜ r ≡ entries site round (logTo (now (log .entry)) k) ⌝ }
-{
-    entries_since(log, 0, 0, k, site, round)
+    judge_counting(log, k, sites, commands, &mut counts)
 }

@@ -8,7 +8,7 @@ use native.Mathlib.Omega.{arith}
 use lib.Dec.{leb}
 use lib.ListN.{length}
 use borrow.Author.Tests.{le-leb, lt-leb, leb-true}
-use Rattle.refusals.specs.declared.Refusal.the-variants.{Disabled, Size}
+use Rattle.refusals.specs.declared.Refusal.the-variants.{Disabled, Full}
 use Rattle.refusals.specs.declared.Verdict.{Verdict}
 use Rattle.refusals.specs.declared.Verdict.the-variants.{Taken, Refused}
 use Rattle.theory.specs.Sets.{one, count}
@@ -97,9 +97,9 @@ silent-senders {sites} b r m good few =
 -- ---- the verdict, by its tests
 
 abbrev fastVerdict : Bool → Bool → Bool → Bool → Verdict
-fastVerdict pending fast enough room = verdict (pending else Disabled ⨾ not fast else Disabled ⨾ enough else Disabled ⨾ room else Size ⨾ granted)
+fastVerdict pending fast enough room = verdict (pending else Disabled ⨾ not fast else Disabled ⨾ enough else Disabled ⨾ room else Full ⨾ granted)
 
-never-taken : {r : Verdict} → r ≡ Refused Size → r ≡ Taken → ⊥
+never-taken : {r : Verdict} → r ≡ Refused Full → r ≡ Taken → ⊥
 never-taken e h = let z : _≡_ {A = ℕ} 0 1 = cc (sym e ∙ h) in omega arith
 
 -- A command that is not pending, or that was delivered fast, is not delivered.
@@ -178,7 +178,7 @@ module _ (t : SiteTable) (book : List Command) (b : List ℕ) (m : ℕ) where
         unfolding room
         is-room e = sym e ∙ (λ i. leb ((ec ∙ sym recorded) i + 1) (length book))
 
-        pub no-room : length book ≤ c → Refused Size ≡ verdict (protocol.forFastDelivery (dash t book) m (view t book b))
+        pub no-room : length book ≤ c → Refused Full ≡ verdict (protocol.forFastDelivery (dash t book) m (view t book b))
         no-room o =
             (λ i. fastVerdict (is-pending i) (is-fast i) (is-enough l i) (is-room (lt-leb (c + 1) (length book) (omega arith)) i)) ∙ same-verdict
 

@@ -65,7 +65,7 @@ fn judge(site: &[u8], table: SiteTable, commands: usize, m: usize) -> Verdict
     }
     let recorded = layout::count(site) as usize;
     if recorded >= commands {
-        return Verdict::Refused(Refusal::Size);
+        return Verdict::Refused(Refusal::Full);
     }
     Verdict::Taken
 }

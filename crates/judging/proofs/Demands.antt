@@ -5,24 +5,12 @@ use mathlib.Core.Bool.{Bool, true, false}
 use Prim.Native.Nat.{ℕ}
 use native.Mathlib.Omega.{arith}
 use Rattle.refusals.specs.declared.Refusal.{Refusal}
-use Rattle.refusals.specs.declared.Refusal.the-variants.{Book, Table, Form, Range, Role, Disabled, ThirdEntry, LastRound, Size}
 use Rattle.refusals.specs.declared.Verdict.{Verdict}
 use Rattle.refusals.specs.declared.Verdict.the-variants.{Taken, Refused}
 use Rattle.refusals.specs.Refusals.{numberOf, codeOf}
+use Rattle.refusals.specs.Numbers.{number-nonzero}
 use Rattle.protocol.specs.System.{Demands, granted, _else_⨾_, verdict}
 use Rattle.judging.specs.Outcomes.{outcome, answered, _then_}
-
--- No refusal has the number 0.
-pub number-nonzero : (r : Refusal) → numberOf r ≡ 0 → ⊥
-number-nonzero Book e = omega arith
-number-nonzero Table e = omega arith
-number-nonzero Form e = omega arith
-number-nonzero Range e = omega arith
-number-nonzero Role e = omega arith
-number-nonzero Disabled e = omega arith
-number-nonzero ThirdEntry e = omega arith
-number-nonzero LastRound e = omega arith
-number-nonzero Size e = omega arith
 
 pub taken-zero : (v : Verdict) → codeOf v ≡ 0 → v ≡ Taken
 taken-zero Taken e = refl

@@ -16,6 +16,7 @@ use Rattle.refusals.specs.declared.Refusal.the-variants.{Book, Table, Form, Ran
 use Rattle.refusals.specs.declared.Verdict.{Verdict}
 use Rattle.refusals.specs.declared.Verdict.the-variants.{Taken, Refused}
 use Rattle.refusals.specs.Refusals.{numberOf, codeOf}
+use Rattle.refusals.specs.Numbers.{number-nonzero}
 use Rattle.table.specs.declared.Rules.{Rules}
 use Rattle.table.specs.declared.SiteTable.{SiteTable}
 use Rattle.table.specs.declared.Judged as judging
@@ -37,7 +38,7 @@ use Rattle.judging.specs.Outcomes.{isTaken, _then_}
 use Rattle.judging.specs.declared.Judgement.{Judgement}
 use Rattle.judging.specs.declared.Judgement.the-variants as judgement
 use Rattle.judging.specs.Judging.{tableOf, anyPosition, entriesIn, isWhole, rulesOf, judgedAs, numberIn, forTable, forBook, forRules, forSite, forSiteAndLog, placesAfter}
-use Rattle.judging.proofs.Demands.{number-nonzero, Met, met, then-taken}
+use Rattle.judging.proofs.Demands.{Met, met, then-taken}
 
 -- The first bytes of a buffer that is long enough.
 pub first-length : (n : ℕ) (s : List ℕ) → n ≤ length s → n ≡ length (take n s)

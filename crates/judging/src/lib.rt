@@ -122,11 +122,16 @@ pub fn judge_site_and_log(
         return Judgement::Refused(Refusal::Form);
     }
     let commands = rules.commands;
-    if !lent::judge(&site[..Site::SIZE], sites, commands, log.len() / Entry::BYTES) {
+    if !lent::judge(
+        &site[..Site::SIZE],
+        sites,
+        commands,
+        log.len() / Entry::BYTES,
+    ) {
         return Judgement::Refused(Refusal::Range);
     }
     let position = position_of(&site[..Site::SIZE]);
-    if !entries::judge_entries(log, position, sites, commands) {
+    if !entries::judge_prefix(log, position, sites, commands) {
         return Judgement::Refused(Refusal::Range);
     }
     Judgement::Good(rules)

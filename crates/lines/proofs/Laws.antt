@@ -48,11 +48,8 @@ run-short sites faulty commands a b c =
     omega (arith, run-length sites faulty commands, decimal-short 1 sites a, decimal-short 0 faulty b, decimal-short 1 commands c)
 
 -- A run of 60,000 bytes has at most 30,000 steps.
-pub step-short : (step refusal : ℕ) → step < 100000 → refusal < 10 → length (stepLine step refusal) ≤ 21
-step-short step refusal a b = omega (arith, step-length step refusal, decimal-short 4 step a, decimal-short 0 refusal b)
-
-pub refused-short : (refusal : ℕ) → refusal < 10 → length (refusedLine refusal) ≤ 10
-refused-short refusal a = omega (arith, refused-length refusal, decimal-short 0 refusal a)
+pub refused-short : (refusal : ℕ) → refusal < 100 → length (refusedLine refusal) ≤ 11
+refused-short refusal a = omega (arith, refused-length refusal, decimal-short 1 refusal a)
 
 -- An answer of 4 bytes has at most ten digits and a minus sign.
 pub answer-short : (answer : ℤ) → SFits w32 answer → length (signedDecimal answer) ≤ 11

@@ -39,8 +39,7 @@ use Rattle.layout.proofs.Finish.{alone, unchanged}
 use Rattle.layout.specs.Step.{settled}
 use Rattle.site.specs.declared.Turn.{Turn}
 use Rattle.site.specs.declared.Turn.the-variants as turns
-use Rattle.site.specs.Steps.{undeliveredOf, hasTurn, TookTurn, Turned, answerTo}
-use Rattle.site.proofs.Turning.{no-turn}
+use Rattle.site.specs.Steps.{undeliveredOf, TookTurn, Turned, answerTo}
 use Rattle.rounds.specs.Rounds.{Kept}
 use Rattle.entries.specs.declared.Entry.{Entry}
 use Rattle.entries.specs.Entries.{logTo, writeEntry, viewEntry, inRangeOf}
@@ -71,23 +70,6 @@ turned-by rows kept i b {u} eu ef er et took =
     ∙ free-rows book t (inSet u)
     ∙ ap (free (dash t (commandsOf book))) (ap inSet eu ∙ (λ k m. in-without (headOf b .received) (headOf b .delivered) m k)))
     (ap not (et t rows log entries ek) ∙ not-not (ltb (recovery.entries i _ (logTo log entries)) 2) ∙ (λ k. ltb (recovery.entries i (er k) (logTo log entries)) 2))
-
--- A turn that is not enabled changes nothing.
-pub not-turned : (rows kept : List ℕ) (i : ℕ) (b : List ℕ) → ((k : ℕ) → getD b k 0 < 256) → {e : Bool} → e ≡ hasTurn (headOf b) → not e ≡ true
-    → TurnedBy rows kept i (turns.Refused Disabled) b b
-not-turned rows kept i b small {e} ee z =
-    λ t book log entries ec ek g.
-    let s = view t (commandsOf book) b in
-    let v = no-turn t (commandsOf book) b small g i (logTo log entries) (sym ee ∙ not-true e z) in
-    record {
-      answer = ap (λ (v : Verdict). answerTo t (commandsOf book) v (acknowledges (dash t (commandsOf book)) s) s) (sym v);
-      site =
-          subst
-          (λ (v : Verdict).
-          HoldsOver t (commandsOf book) b b
-          (settled v (pick (acknowledges (dash t (commandsOf book)) s) (acknowledge (dash t (commandsOf book)) s) (propose (dash t (commandsOf book)) s)) s))
-          (sym v) (unchanged t (commandsOf book) g small);
-    }
 
 -- ---- what an answer tells
 

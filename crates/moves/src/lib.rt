@@ -25,9 +25,6 @@ fn turn_by(site: &mut [u8], kept: &[u64], rows: &[u64], i: usize) -> Turn
     requires { ⌜ (length (now site) ≡ siteSize) × (length (now kept) ≡ keptWords) × (length (now rows) ≡ capacity) × (i < maxSites) × (headOf (now site) .round < keptRounds) ⌝ }
     ensures { λ r. ⌜ TurnedBy (now (rows .entry)) (now (kept .entry)) i r (now (site .entry)) (now (site .exit)) ⌝ }
 {
-    if !site::has_turn(&site[..]) {
-        return Turn::Refused(Refusal::Disabled);
-    }
     let free = calm::is_free(rows, site::undelivered(&site[..]));
     let round = layout::round(&site[..]) as usize;
     let third = rounds::third(kept, i, round);

@@ -8,7 +8,6 @@ use native.Mathlib.Omega.{arith}
 use lib.ListN.{length, drop}
 use Rattle.refusals.specs.Refusals.{numberOf}
 use Rattle.refusals.specs.declared.Refusal.{Refusal}
-use Rattle.refusals.specs.declared.Refusal.the-variants.{Book, Table, Form, Range, Role, Disabled, ThirdEntry, LastRound, Size}
 use Rattle.refusals.specs.declared.Verdict.{Verdict}
 use Rattle.refusals.specs.declared.Verdict.the-variants.{Taken, Refused}
 use Rattle.table.specs.declared.SiteTable.{SiteTable}
@@ -33,17 +32,6 @@ use Rattle.world.proofs.Past.{past-same, past-more}
 use Rattle.play.specs.Played.{lineRoom, linesRoom, PlayedAll}
 
 -- ---- the line of a step
-
-pub number-small : (r : Refusal) → numberOf r < 10
-number-small Book = omega arith
-number-small Table = omega arith
-number-small Form = omega arith
-number-small Range = omega arith
-number-small Role = omega arith
-number-small Disabled = omega arith
-number-small ThirdEntry = omega arith
-number-small LastRound = omega arith
-number-small Size = omega arith
 
 -- A line has room for two digits of a refusal.
 pub line-short : (step refusal : ℕ) → step < 100000 → refusal < 100 → length (stepLine step refusal) ≤ lineRoom

@@ -4,24 +4,9 @@ use mathlib.Core.Path.{_≡_, refl}
 use mathlib.Core.Bool.{Bool, true, false, _&&_}
 use Prim.Native.Nat.{ℕ}
 use lib.Dec.{leb}
-use Rattle.refusals.specs.declared.Refusal.{Refusal}
-use Rattle.refusals.specs.declared.Refusal.the-variants.{Book, Table, Form, Range, Role, Disabled, ThirdEntry, LastRound, Size}
-use Rattle.refusals.specs.Refusals.{place}
+use Rattle.refusals.specs.Refusals.{rank}
 use Rattle.protocol.specs.System.{System, Demands, granted, _else_⨾_}
 use Rattle.protocol.specs.World.{World, Step, command, acknowledgment, check, falseAcknowledgment, falseCheck, falseEntry, turn, fastDelivery, logRead, roundEnd, demands}
-
--- The place of a refusal among a step's demands. Within a step, 9 is only for a record of deliveries that is full,
--- which is a cause where the step would else be carried out: it comes last.
-abbrev pub rank : Refusal → ℕ
-rank Size = 9
-rank Book = place Book
-rank Table = place Table
-rank Form = place Form
-rank Range = place Range
-rank Role = place Role
-rank Disabled = place Disabled
-rank ThirdEntry = place ThirdEntry
-rank LastRound = place LastRound
 
 -- No demand comes after one of a higher rank.
 abbrev pub ordered : ℕ → Demands → Bool

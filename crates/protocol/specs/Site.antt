@@ -6,7 +6,7 @@ use mathlib.Core.Option.{Option, none, some}
 use Prim.Native.Nat.{ℕ, suc, _+_}
 use lib.Dec.{eqb, leb, ltb}
 use lib.ListN.{length, take}
-use Rattle.refusals.specs.declared.Refusal.the-variants.{Disabled, ThirdEntry, LastRound, Size}
+use Rattle.refusals.specs.declared.Refusal.the-variants.{Disabled, ThirdEntry, LastRound, Full}
 use Rattle.theory.specs.Sets.{Set, ∅, only, _∪_, _∖_, any, count, members}
 use Rattle.theory.specs.Lists.{nth}
 use Rattle.theory.specs.Machine.{Delivery}
@@ -237,7 +237,7 @@ module _ (S : System) where
       s .pending m else Disabled
       ⨾ not (s .fast m) else Disabled
       ⨾ leb nAck (senders s m) else Disabled
-      ⨾ room s 1 else Size
+      ⨾ room s 1 else Full
       ⨾ granted
 
   -- Site, round and sets of an entry are in range.
@@ -264,5 +264,5 @@ module _ (S : System) where
   forRoundEnd s log =
       isWaiting (s .phase) else Disabled
       ⨾ isSome (decision s log) else Disabled
-      ⨾ room s (length (due (tallyOr (decision s log)) s)) else Size
+      ⨾ room s (length (due (tallyOr (decision s log)) s)) else Full
       ⨾ granted

@@ -3,7 +3,7 @@
 use mathlib.Core.Bool.{Bool, true, false}
 use Prim.Native.Nat.{ℕ}
 use Rattle.refusals.specs.declared.Refusal.{Refusal}
-use Rattle.refusals.specs.declared.Refusal.the-variants.{Book, Table, Form, Range, Role, Disabled, ThirdEntry, LastRound, Size}
+use Rattle.refusals.specs.declared.Refusal.the-variants.{Book, Table, Form, Range, Role, Disabled, ThirdEntry, LastRound, Size, Full}
 use Rattle.refusals.specs.declared.Verdict.{Verdict}
 use Rattle.refusals.specs.declared.Verdict.the-variants.{Taken, Refused}
 
@@ -18,6 +18,7 @@ numberOf Disabled = 6
 numberOf ThirdEntry = 7
 numberOf LastRound = 8
 numberOf Size = 9
+numberOf Full = 9
 
 abbrev pub isTaken : Verdict → Bool
 isTaken Taken = true
@@ -33,14 +34,16 @@ abbrev pub codeOf : Verdict → ℕ
 codeOf Taken = 0
 codeOf (Refused r) = numberOf r
 
--- The place of each cause in the order 9, 2, 1, 3, 4, 5, 6, 7, 8: of several causes the one with the lowest place refuses.
-abbrev pub place : Refusal → ℕ
-place Size = 0
-place Table = 1
-place Book = 2
-place Form = 3
-place Range = 4
-place Role = 5
-place Disabled = 6
-place ThirdEntry = 7
-place LastRound = 8
+-- The rank of each cause in the order 9, 2, 1, 3, 4, 5, 6, 7, 8: of several causes the one with the lowest rank refuses.
+-- A full record of deliveries is a cause only where a step would else be carried out: it comes last.
+abbrev pub rank : Refusal → ℕ
+rank Size = 0
+rank Table = 1
+rank Book = 2
+rank Form = 3
+rank Range = 4
+rank Role = 5
+rank Disabled = 6
+rank ThirdEntry = 7
+rank LastRound = 8
+rank Full = 9

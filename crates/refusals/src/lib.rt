@@ -22,6 +22,8 @@ pub enum Refusal {
     LastRound,
     // a run over its greatest size, or a lent buffer too short
     Size,
+    // a record of deliveries that has no room for what a step would deliver
+    Full,
 }
 
 // What a judge says.
@@ -44,6 +46,7 @@ pub fn number(refusal: Refusal) -> u32
         Refusal::ThirdEntry => 7,
         Refusal::LastRound => 8,
         Refusal::Size => 9,
+        Refusal::Full => 9,
     }
 }
 

@@ -22,7 +22,7 @@ use Rattle.register.specs.declared.Command.{Command}
 use Rattle.register.specs.declared.Command.the-variants.{Add, Fit, Read, Trim}
 use Rattle.register.specs.Register.{bikes, maxReading, bike, Register, bikeOf, change, reply, execute, initial, Within, isWithin, Valid}
 use Rattle.register.proofs.Laws.{initial-within, test-within}
-use Rattle.register.specs.Lent.{bikeSize, registerSize, bikeIn, bikeBytes, registerOf, bikesBytes, registerBytes, dashOf, Sized, Executed, Cleared}
+use Rattle.register.specs.Lent.{bikeSize, registerSize, bikeIn, bikeBytes, registerOf, bikesBytes, registerBytes, dashOf, Sized, Executed}
 
 pub length-bike : (e : Bike) → length (bikeBytes e) ≡ bikeSize
 length-bike e = simp (length-append, length-bytes)
@@ -131,14 +131,6 @@ unfolding bikesBytes
 bikes-more b at n r h =
     ap (λ (m : ℕ). splice (splice b at (bikesBytes n r)) (at + m) (bikeBytes (r n))) (sym (length-bikes n r))
     ∙ splice-two b at (bikesBytes n r) (bikeBytes (r n)) h
-
--- One turn of the loop that writes the initial register.
-pub cleared-more : (b : List ℕ) (at n : ℕ) {l l′ : List ℕ} → at ≤ length b → l ≡ splice b at (bikesBytes n initial) → l′ ≡ splice l (at + bikeSize * n) (bikeBytes (bike 0 0)) → l′ ≡ splice b at (bikesBytes (n + 1) initial)
-cleared-more b at n h e e′ =
-    e′
-    ∙ ap (λ (s : List ℕ). splice s (at + bikeSize * n) (bikeBytes (bike 0 0))) e
-    ∙ bikes-more b at n initial h
-    ∙ ap (λ (m : ℕ). splice b at (bikesBytes m initial)) (sym (add-one n))
 
 -- The first n bikes of what was written.
 pub bikes-view : (n : ℕ) (r : Register) (b : List ℕ) (at : ℕ) → at + bikeSize * n ≤ length b → ((k : ℕ) → (r k .reading < 2 ^ 32) × (r k .dash < 2 ^ 32)) → (k : ℕ) → k < n → bikeIn (splice b at (bikesBytes n r)) (at + bikeSize * k) ≡ r k
@@ -250,15 +242,6 @@ execute-sized c r v d s = record { dash = λ k. by-test k (eqb k (bikeOf c)); be
     outside k l =
         let n = v .bike in
         ap (λ (t : Bool). pick t (change c (r k)) (r k)) (ne-eqb k (bikeOf c) (λ e. absurd (omega arith))) ∙ s .beyond k l
-
--- The initial register was written.
-pub cleared : (at : ℕ) (b : List ℕ) (n : ℕ) {b′ : List ℕ} → at + registerSize ≤ length b → n ≡ bikes → b′ ≡ splice b at (bikesBytes n initial) → Cleared at b b′
-cleared at b n h p e =
-    let w = e ∙ ap (λ (m : ℕ). splice b at (bikesBytes m initial)) p in
-    record {
-      register = ap (λ (s : List ℕ). registerOf s at) w ∙ register-view initial b at h initial-within initial-sized;
-      elsewhere = w;
-    }
 
 -- The test of a lent register's readings.
 pub view-within : (b : List ℕ) (at : ℕ) → isWithin (registerOf b at) ≡ true → Within (registerOf b at)

@@ -59,8 +59,3 @@ pub record Executed (c : Command) (at : ℕ) (b b′ : List ℕ) (r : ℤ) : Typ
   pub register : registerOf b′ at ≡ execute c (registerOf b at)
   -- only the bytes of the command's bike are written
   pub elsewhere : b′ ≡ splice b (at + bikeSize * bikeOf c) (bikeBytes (registerOf b′ at (bikeOf c)))
-
--- The initial register was written, and nothing else.
-pub record Cleared (at : ℕ) (b b′ : List ℕ) : Type 0 where
-  pub register : registerOf b′ at ≡ initial
-  pub elsewhere : b′ ≡ splice b at (registerBytes initial)

@@ -1,11 +1,11 @@
-// The dash register: the four kinds of command, what each does to a bike's reading and dash, what it answers, and which commands conflict.
+// The dash register: the four kinds of command, what each does to a bike's reading and dash, and what it answers.
 ghost use mathlib.Core.Path.{_≡_};
 ghost use Prim.Native.Nat.{_+_, _*_, _≤_, _<_, min};
 ghost use lib.IntN.{pos, _+ℤ_, _-ℤ_};
 ghost use lib.ListN.{length};
 ghost use Rattle.wire.specs.Wire.{splice};
-ghost use Rattle.register.specs.Register.{bikes, maxReading, bikeOf, held, change, reply, isAdd, isRead, conflict, Within, isWithin, Valid};
-ghost use Rattle.register.specs.Lent.{bikeSize, registerSize, bikeBytes, registerOf, Executed, Cleared};
+ghost use Rattle.register.specs.Register.{bikes, maxReading, bikeOf, held, change, reply, Within, isWithin, Valid};
+ghost use Rattle.register.specs.Lent.{bikeSize, registerSize, bikeBytes, registerOf, Executed};
 
 // One command (document 01: one line of a sheet). The operands are those of its row in the table of kinds.
 pub enum Command {
@@ -34,36 +34,6 @@ impl Bike {
     pub const SIZE: usize = 8;
 }
 
-fn is_add(command: Command) -> bool
-    ensures { λ r. ⌜ r ≡ isAdd command ⌝ }
-{
-    match command {
-        Command::Add { bike: _, km: _ } => true,
-        Command::Fit {
-            bike: _,
-            dash: _,
-            start: _,
-        } => false,
-        Command::Read { bike: _ } => false,
-        Command::Trim { bike: _, km: _ } => false,
-    }
-}
-
-fn is_read(command: Command) -> bool
-    ensures { λ r. ⌜ r ≡ isRead command ⌝ }
-{
-    match command {
-        Command::Add { bike: _, km: _ } => false,
-        Command::Fit {
-            bike: _,
-            dash: _,
-            start: _,
-        } => false,
-        Command::Read { bike: _ } => true,
-        Command::Trim { bike: _, km: _ } => false,
-    }
-}
-
 // The bike that a command names.
 pub fn bike_of(command: Command) -> u8
     ensures { λ r. ⌜ r ≡ bikeOf command ⌝ }
@@ -78,16 +48,6 @@ pub fn bike_of(command: Command) -> u8
         Command::Read { bike } => bike,
         Command::Trim { bike, km: _ } => bike,
     }
-}
-
-// Whether two commands at different places of a book conflict.
-pub fn conflict(a: Command, b: Command) -> bool
-    ensures { λ r. ⌜ r ≡ conflict a b ⌝ }
-{
-    let same_bike = bike_of(a) == bike_of(b);
-    let adds = is_add(a) & is_add(b);
-    let reads = is_read(a) & is_read(b);
-    same_bike & !(adds | reads)
 }
 
 // ADD: the lesser of reading + km and 999,999.
@@ -126,7 +86,7 @@ fn difference(new: u32, old: u32) -> i32
 }
 
 // What a command makes of its bike.
-pub fn changed(command: Command, before: Bike) -> Bike
+fn changed(command: Command, before: Bike) -> Bike
     requires { ⌜ before .reading ≤ maxReading ⌝ }
     ensures { λ r. ⌜ r ≡ change command before ⌝ }
 {
@@ -152,7 +112,7 @@ pub fn changed(command: Command, before: Bike) -> Bike
 }
 
 // What a command answers, from its bike as it was before.
-pub fn reply_to(command: Command, before: Bike) -> i32
+fn reply_to(command: Command, before: Bike) -> i32
     requires { ⌜ before .reading ≤ maxReading ⌝ }
     ensures { λ r. ⌜ r ≡ reply command before ⌝ }
 {
@@ -198,25 +158,6 @@ pub fn execute(register: &mut [u8], at: usize, command: Command) -> i32
     let answer = reply_to(command, before);
     put_bike(register, at + Bike::SIZE * bike, changed(command, before));
     answer
-}
-
-// Writes the initial register.
-pub fn clear(register: &mut [u8], at: usize)
-    requires { ⌜ at + registerSize ≤ length (now register) ⌝ }
-    ensures { λ _. ⌜ Cleared at (now (register .entry)) (now (register .exit)) ⌝ }
-{
-    let mut bike = 0;
-    while bike < Bike::COUNT {
-        put_bike(
-            register,
-            at + Bike::SIZE * bike,
-            Bike {
-                reading: 0,
-                dash: 0,
-            },
-        );
-        bike += 1;
-    }
 }
 
 // Whether every reading of a lent register is at most 999,999.

@@ -21,7 +21,7 @@ use Rattle.theory.specs.Sets.{pick, one, any, count}
 use Rattle.theory.specs.Counting.{either, not-true, not-false, never, same-test, lt-or-le}
 use Rattle.theory.specs.Counting.{all-at, all-of, any-some, any-none, count-none, count-first, count-ext}
 use Rattle.sets.specs.Sets.{has, word, least, inSet, setOf, emptyOf, withOf, unionOf, withoutOf, commonOf}
-use Rattle.sets.specs.Sets.{isEmptyOf, withinOf, equalOf, sizeOf, firstOf}
+use Rattle.sets.specs.Sets.{isEmptyOf, withinOf, sizeOf, firstOf}
 use Rattle.sets.specs.Sets.{readSet, writeSet, loadSet, storeSet}
 use Rattle.sets.specs.declared.Set.{Set}
 use Rattle.wire.specs.Wire.{bytes}
@@ -371,13 +371,6 @@ within-of s n h = all-of 64 (λ j. not (inSet s j) || ltb j n) (λ m l. go m (in
     go m true f = lt-ltb m n (f refl)
     go m false f = refl
 
-pub equal-same : (a b : Set) → equalOf a b ≡ true → a ≡ b
-equal-same a b h = same-word (eqb-true (a .bits) (b .bits) h)
-
-pub equal-of : (a b : Set) → a ≡ b → equalOf a b ≡ true
-equal-of a b e = eq-eqb (a .bits) (b .bits) (λ i. e i .bits)
-
--- The first command of a set that is not empty is in it, and none before it is.
 pub first-in : (s : Set) → isEmptyOf s ≡ false → (firstOf s < 64) × (inSet s (firstOf s) ≡ true)
 first-in s h =
     let l = least-any 64 (inSet s) (not-false (any 64 (inSet s)) h) in

@@ -68,10 +68,6 @@ isEmptyOf s = not (any capacity (inSet s))
 abbrev pub withinOf : Set → ℕ → Bool
 withinOf s n = all capacity (λ m. not (inSet s m) || ltb m n)
 
--- The two sets are one word.
-abbrev pub equalOf : Set → Set → Bool
-equalOf a b = eqb (a .bits) (b .bits)
-
 -- How many commands are in the set.
 abbrev pub sizeOf : Set → ℕ
 sizeOf s = count capacity (inSet s)

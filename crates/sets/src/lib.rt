@@ -4,7 +4,7 @@ ghost use mathlib.Core.Path.{_≡_};
 ghost use Prim.Native.Nat.{_+_, _≤_, _<_};
 ghost use lib.ListN.{length};
 ghost use Rattle.sets.specs.Sets.{capacity, inSet, emptyOf, withOf, unionOf, withoutOf, commonOf};
-ghost use Rattle.sets.specs.Sets.{beyondOf, isEmptyOf, withinOf, equalOf, sizeOf, firstOf, restOf, setBytes, readSet, writeSet, loadSet, storeSet};
+ghost use Rattle.sets.specs.Sets.{beyondOf, isEmptyOf, withinOf, sizeOf, firstOf, restOf, setBytes, readSet, writeSet, loadSet, storeSet};
 
 // A set of command numbers below 64.
 pub struct Set {
@@ -105,13 +105,6 @@ impl Set {
         ensures { λ r. ⌜ r ≡ withinOf self n ⌝ }
     {
         self.common(Set::beyond(n)).is_empty()
-    }
-
-    // Whether two sets have the same commands.
-    pub fn equal(self, other: Set) -> bool
-        ensures { λ r. ⌜ r ≡ equalOf self other ⌝ }
-    {
-        self.bits == other.bits
     }
 
     // How many commands the set has.

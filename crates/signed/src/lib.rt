@@ -44,13 +44,6 @@ pub fn u32_of(x: i32) -> u32
     x as u32
 }
 
-// Whether a number is below 0: a print then starts with a minus sign.
-pub fn is_negative(x: i32) -> bool
-    ensures { λ r. ⌜ r ≡ ltZ x (pos 0) ⌝ }
-{
-    x < 0
-}
-
 // The size of a number without its sign: the digits of its print.
 pub fn magnitude(x: i32) -> u32
     ensures { λ r. ⌜ r ≡ natAbs x ⌝ }

@@ -37,7 +37,7 @@ use Rattle.layout.proofs.Tables.{within-without}
 use Rattle.layout.proofs.Finish.{finish, unchanged}
 use Rattle.site.specs.declared.Turn.{Turn}
 use Rattle.site.specs.declared.Turn.the-variants as turn
-use Rattle.site.specs.Steps.{undeliveredOf, newOf, hasTurn, chosen, answerTo, Turned}
+use Rattle.site.specs.Steps.{undeliveredOf, newOf, chosen, answerTo, Turned}
 
 -- ---- the paths of the code
 
@@ -47,13 +47,6 @@ undelivered-is h er ed eu = eu ∙ (λ i. withoutOf (er i) (ed i))
 -- What the code makes of what is new.
 new-is : (h : Site) {u p n : Set} → u ≡ undeliveredOf h → p ≡ h .pending → n ≡ withoutOf u p → n ≡ newOf h
 new-is h eu ep en = en ∙ (λ i. withoutOf (eu i) (ep i))
-
-module _ (h : Site) {w : Bool} (ew : w ≡ isWaiting (h .phase)) where
-  pub turn-waiting : w ≡ true → false ≡ hasTurn h
-  turn-waiting e = ap (λ (x : Bool). not x && not (isEmptyOf (newOf h))) (sym e ∙ ew)
-
-  pub turn-new : w ≡ false → {u p n : Set} {v : Bool} → u ≡ undeliveredOf h → p ≡ h .pending → n ≡ withoutOf u p → v ≡ isEmptyOf n → not v ≡ hasTurn h
-  turn-new e eu ep en ev = λ i. not ((sym e ∙ ew) i) && not ((ev ∙ ap isEmptyOf (new-is h eu ep en)) i)
 
 module _ (h : Site) (free third : Bool) {w : Bool} (ew : w ≡ isWaiting (h .phase)) where
   pub choose-waiting : w ≡ true → turn.Refused Disabled ≡ chosen h free third
@@ -191,11 +184,6 @@ acknowledging : (p : Phase) → not (isWaiting p) ≡ protocol.isAcknowledging (
 acknowledging Acknowledging = refl
 acknowledging (Waiting p) = refl
 
-not-enabled : (a n x y : Bool) → (a && n) ≡ false → verdict (a else Disabled ⨾ n else Disabled ⨾ x else ThirdEntry ⨾ y else LastRound ⨾ granted) ≡ Refused Disabled
-not-enabled true true x y e = absurd (never true refl e)
-not-enabled true false x y e = refl
-not-enabled false n x y e = refl
-
 -- ---- the bytes after a turn
 
 -- What a turn that answers so writes.
@@ -303,15 +291,6 @@ module _ (t : SiteTable) (book : List Command) (b : List ℕ) (small : (i : ℕ)
         })
     turn-site (Refused r) free u p eu ep eb =
         subst (λ (l : List ℕ). HoldsOver t book b l (view t book b)) (sym eb) (unchanged t book good small)
-
-  -- A turn that is not enabled.
-  pub no-turn : (i : ℕ) (log : Log) → hasTurn (headOf b) ≡ false → verdict (protocol.forTurn (dash t book) i (view t book b) log) ≡ Refused Disabled
-  no-turn i log e =
-      let s = view t book b in
-      let new = some-new t book (headOf b) (heardOf b) (s .ledger) (fit b small (good .size)) (good .head) in
-      not-enabled (protocol.isAcknowledging (s .phase)) (any (length book) (protocol.unacknowledged (dash t book) s))
-      (protocol.acknowledges (dash t book) s || ltb (entries i (s .round) log) 2) (protocol.acknowledges (dash t book) s || leb (s .round) lastRound)
-      ((λ j. sym (acknowledging (headOf b .phase)) j && sym new j) ∙ e)
 
   pub turn-holds : {r : Turn} {b′ : List ℕ} (free third : Bool) (i : ℕ) (log : Log) → r ≡ chosen (headOf b) free third → b′ ≡ writtenBy r b
       → ((i : ℕ) → getD b′ i 0 < 256) → free ≡ protocol.acknowledges (dash t book) (view t book b) → not third ≡ ltb (entries i (view t book b .round) log) 2

@@ -36,10 +36,6 @@ undeliveredOf h = withoutOf (h .received) (h .delivered)
 abbrev pub newOf : Site → Set
 newOf h = withoutOf (undeliveredOf h) (h .pending)
 
--- The site does not wait, and something that it received is new.
-abbrev pub hasTurn : Site → Bool
-hasTurn h = not (isWaiting (h .phase)) && not (isEmptyOf (newOf h))
-
 -- What a turn answers, by the header, the conflict test and whether the site has two entries of its round.
 unfoldable pub chosen : Site → Bool → Bool → Turn
 chosen h free third =

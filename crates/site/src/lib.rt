@@ -6,7 +6,7 @@ ghost use lib.ListN.{length};
 ghost use Rattle.sets.specs.Sets.{capacity};
 ghost use Rattle.table.specs.Table.{maxSites};
 ghost use Rattle.layout.specs.Layout.{siteSize, siteRounds, headOf};
-ghost use Rattle.site.specs.Steps.{undeliveredOf, hasTurn, chosen, Received, Commanded, Heard, TookTurn, ReadEntry};
+ghost use Rattle.site.specs.Steps.{undeliveredOf, chosen, Received, Commanded, Heard, TookTurn, ReadEntry};
 use layout::Proposal;
 use refusals::Refusal;
 use refusals::Verdict;
@@ -55,19 +55,6 @@ pub fn undelivered(site: &[u8]) -> Set
     ensures { λ r. ⌜ r ≡ undeliveredOf (headOf (now (site .entry))) ⌝ }
 {
     layout::received(site).without(layout::delivered(site))
-}
-
-// Whether a turn is enabled: the site does not wait, and something that it received is neither delivered nor pending.
-pub fn has_turn(site: &[u8]) -> bool
-    requires { ⌜ length (now site) ≡ siteSize ⌝ }
-    ensures { λ r. ⌜ r ≡ hasTurn (headOf (now (site .entry))) ⌝ }
-{
-    let waiting = layout::is_waiting(site);
-    if waiting {
-        return false;
-    }
-    let new = undelivered(site).without(layout::pending(site));
-    !new.is_empty()
 }
 
 // What a turn does, by the conflict test of what is undelivered and whether the site has two entries of its round.

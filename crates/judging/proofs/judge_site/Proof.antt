@@ -29,10 +29,12 @@ same-length c = search needs
 
 returns : tie.Need-returns
 returns c =
-    let a = c .before .before .before .before .before .before .before .before .before .args in
-    (after-refused (forRules (a .sites) (a .faults) (now (a .book)) (a .enough && leb siteSize (length (now (a .site)))))
-    (goodSite (a .sites) (length (commandsOf (now (a .book)))) anyPosition (take siteSize (now (a .site))) else Range ⨾ granted)
-    (rulesOf (a .sites) (a .faults) (now (a .book))) (c .before .before .before .before .judge-rules .ensures .0) (c .enum-told .given .1), c .before .before .before .before .judge-rules .ensures .1)
+    let a = c .before .before .before .before .before .before .before .before .before .args in (
+      after-refused (forRules (a .sites) (a .faults) (now (a .book)) (a .enough && leb siteSize (length (now (a .site)))))
+          (goodSite (a .sites) (length (commandsOf (now (a .book)))) anyPosition (take siteSize (now (a .site))) else Range ⨾ granted)
+          (rulesOf (a .sites) (a .faults) (now (a .book))) (c .before .before .before .before .judge-rules .ensures .0) (c .enum-told .given .1),
+      c .before .before .before .before .judge-rules .ensures .1,
+    )
 
 slice-aggregate-judge : tie.Need-slice-aggregate-judge
 slice-aggregate-judge c = let a = c .before .before .before .before .before .before .before .before .before .before .before .args in first-length siteSize (now (a .site)) (rules-sized (a .sites) (a .faults) (now (a .book)) (a .enough) (now (a .site)) (c .before .before .before .before .before .before .judge-rules .ensures .0) (c .before .before .judged .given .1))

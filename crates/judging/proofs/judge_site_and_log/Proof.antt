@@ -32,11 +32,13 @@ same-length c = search needs
 
 returns : tie.Need-returns
 returns c =
-    let a = c .before .before .before .before .before .before .before .before .before .before .args in
-    (after-refused (forRules (a .sites) (a .faults) (now (a .book)) (a .enough && leb siteSize (length (now (a .site)))))
-    (isWhole (now (a .log)) else Form ⨾ goodSite (a .sites) (length (commandsOf (now (a .book)))) (entriesIn (now (a .log))) (take siteSize (now (a .site))) else Range
-    ⨾ goodTo (now (a .log)) (a .sites) (length (commandsOf (now (a .book)))) (headOf (take siteSize (now (a .site))) .position) else Range ⨾ granted)
-    (rulesOf (a .sites) (a .faults) (now (a .book))) (c .before .before .before .before .judge-rules .ensures .0) (c .enum-told .given .1), c .before .before .before .before .judge-rules .ensures .1)
+    let a = c .before .before .before .before .before .before .before .before .before .before .args in (
+      after-refused (forRules (a .sites) (a .faults) (now (a .book)) (a .enough && leb siteSize (length (now (a .site)))))
+          (isWhole (now (a .log)) else Form ⨾ goodSite (a .sites) (length (commandsOf (now (a .book)))) (entriesIn (now (a .log))) (take siteSize (now (a .site))) else Range
+          ⨾ goodTo (now (a .log)) (a .sites) (length (commandsOf (now (a .book)))) (headOf (take siteSize (now (a .site))) .position) else Range ⨾ granted)
+          (rulesOf (a .sites) (a .faults) (now (a .book))) (c .before .before .before .before .judge-rules .ensures .0) (c .enum-told .given .1),
+      c .before .before .before .before .judge-rules .ensures .1,
+    )
 
 same-length-2 : tie.Need-same-length-2
 same-length-2 c = search needs
@@ -62,8 +64,8 @@ slice-aggregate-position-of c = let a = c .before .before .before .before .befor
 position-of-requires : tie.Need-position-of-requires
 position-of-requires c κs = let a = c .before .before .before .before .before .before .before .before .before .before .before .before .before .before .before .before .args in sym (first-length siteSize (now (a .site)) (rules-sized (a .sites) (a .faults) (now (a .book)) (a .enough) (now (a .site)) (c .before .before .before .before .before .before .before .before .before .before .judge-rules .ensures .0) (c .before .before .before .before .before .before .judged .given .1)))
 
-judge-entries-requires : tie.Need-judge-entries-requires
-judge-entries-requires c κs =
+judge-prefix-requires : tie.Need-judge-prefix-requires
+judge-prefix-requires c κs =
     let a = c .before .before .before .before .before .before .before .before .before .before .before .before .before .before .before .before .before .args in
     let q = c .before .before .before .before .before .before .before .before .before .before .before .judge-rules .ensures .0 in
     let h = c .before .before .before .before .before .before .before .judged .given .1 in
@@ -73,7 +75,7 @@ same-length-4 : tie.Need-same-length-4
 same-length-4 c = search needs
 
 returns-4 : tie.Need-returns-4
-returns-4 c = let a = c .before .before .before .before .before .before .before .before .before .before .before .before .before .before .before .before .before .before .before .args in (log-entries (a .sites) (a .faults) (now (a .book)) (a .enough) (now (a .site)) (c .before .before .before .before .before .before .before .before .before .before .before .before .before .judge-rules .ensures .0) (c .before .before .before .before .before .before .before .before .before .judged .given .1) (now (a .log)) (c .before .before .before .before .before .before .before .if1 .left) (c .before .before .before .before .before .judge .ensures) (c .before .before .before .before .if2 .left) (c .before .before .position-of .ensures) (c .before .judge-entries .ensures) (c .if3 .taken), c .before .before .before .before .before .before .before .before .before .before .before .before .before .judge-rules .ensures .1)
+returns-4 c = let a = c .before .before .before .before .before .before .before .before .before .before .before .before .before .before .before .before .before .before .before .args in (log-entries (a .sites) (a .faults) (now (a .book)) (a .enough) (now (a .site)) (c .before .before .before .before .before .before .before .before .before .before .before .before .before .judge-rules .ensures .0) (c .before .before .before .before .before .before .before .before .before .judged .given .1) (now (a .log)) (c .before .before .before .before .before .before .before .if1 .left) (c .before .before .before .before .before .judge .ensures) (c .before .before .before .before .if2 .left) (c .before .before .position-of .ensures) (c .before .judge-prefix .ensures) (c .if3 .taken), c .before .before .before .before .before .before .before .before .before .before .before .before .before .judge-rules .ensures .1)
 
 same-length-5 : tie.Need-same-length-5
 same-length-5 c = search needs
@@ -81,7 +83,7 @@ same-length-5 c = search needs
 returns-5 : tie.Need-returns-5
 returns-5 c =
     let a = c .before .before .before .before .before .before .before .before .before .before .before .before .before .before .before .before .before .before .before .args in
-    (log-taken (a .sites) (a .faults) (now (a .book)) (a .enough) (now (a .site)) (c .before .before .before .before .before .before .before .before .before .before .before .before .before .judge-rules .ensures .0) (c .before .before .before .before .before .before .before .before .before .judged .given .1) (now (a .log)) (c .before .before .before .before .before .before .before .if1 .left) (c .before .before .before .before .before .judge .ensures) (c .before .before .before .before .if2 .left) (c .before .before .position-of .ensures) (c .before .judge-entries .ensures) (c .if3 .left), c .before .before .before .before .before .before .before .before .before .before .before .before .before .judge-rules .ensures .1)
+    (log-taken (a .sites) (a .faults) (now (a .book)) (a .enough) (now (a .site)) (c .before .before .before .before .before .before .before .before .before .before .before .before .before .judge-rules .ensures .0) (c .before .before .before .before .before .before .before .before .before .judged .given .1) (now (a .log)) (c .before .before .before .before .before .before .before .if1 .left) (c .before .before .before .before .before .judge .ensures) (c .before .before .before .before .if2 .left) (c .before .before .position-of .ensures) (c .before .judge-prefix .ensures) (c .if3 .left), c .before .before .before .before .before .before .before .before .before .before .before .before .before .judge-rules .ensures .1)
 
 pub judge-site-and-log-spec : {M : Type 1} → statement M
 judge-site-and-log-spec =
@@ -100,7 +102,7 @@ judge-site-and-log-spec =
     returns-3
     slice-aggregate-position-of
     position-of-requires
-    judge-entries-requires
+    judge-prefix-requires
     same-length-4
     returns-4
     same-length-5

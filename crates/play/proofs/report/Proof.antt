@@ -2,7 +2,8 @@
 -- Assumes nothing.
 use native.Mathlib.Omega.{arith}
 use borrow.Author.Needs.{needs}
-use Rattle.play.proofs.Laws.{number-small, line-short, silent, loud}
+use Rattle.refusals.specs.Numbers.{number-short}
+use Rattle.play.proofs.Laws.{line-short, silent, loud}
 use Rattle.play.proofs.report.Statement.{statement}
 use Rattle.play.proofs.report.Tie as tie
 
@@ -24,7 +25,7 @@ cast-cause c = search needs
 put-step-line-requires : tie.Need-put-step-line-requires
 put-step-line-requires c κs =
     let o = c .before .before .before .before .before .before in
-    let l = number-small (c .before .before .before .verdict .given .0 .0) in
+    let l = number-short (c .before .before .before .verdict .given .0 .0) in
     omega (arith, o .pre .0, line-short (o .args .number) (c .before .number .result) (o .pre .1) (omega (arith, l, c .before .number .ensures)))
 
 same-length : tie.Need-same-length
@@ -35,7 +36,7 @@ returns-2 c =
     let o = c .before .before .before .before .before .before .before .before .before in
     let w = c .before .before .put-step-line .ensures in (
       loud (o .args .number) (c .before .before .before .before .before .before .verdict .given .1) (c .before .before .before .before .number .ensures) w,
-      omega (arith, w .end, line-short (o .args .number) (c .before .before .before .before .number .result) (o .pre .1) (omega (arith, number-small (c .before .before .before .before .before .before .verdict .given .0 .0), c .before .before .before .before .number .ensures))),
+      omega (arith, w .end, line-short (o .args .number) (c .before .before .before .before .number .result) (o .pre .1) (omega (arith, number-short (c .before .before .before .before .before .before .verdict .given .0 .0), c .before .before .before .before .number .ensures))),
     )
 
 pub report-spec : {M : Type 1} → statement M

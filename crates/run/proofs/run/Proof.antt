@@ -8,7 +8,7 @@ use Rattle.theory.specs.Counting.{not-true, not-false}
 use Rattle.table.specs.Table.{isGood}
 use Rattle.lines.proofs.Laws.{refused-short}
 use Rattle.header.proofs.Laws.{sound, book-part, step-part, judged-taken, judged-refused}
-use Rattle.play.proofs.Laws.{number-small}
+use Rattle.refusals.specs.Numbers.{number-short}
 use Rattle.run.specs.Ran.{working}
 use Rattle.run.proofs.Laws.{steps-short, print-refused, print-taken, noted-part, roomy-told, no-room, with-room, refused-left, played-left}
 use Rattle.run.proofs.run.Statement.{statement}
@@ -96,7 +96,7 @@ put-refused-line-requires : tie.Need-put-refused-line-requires
 put-refused-line-requires c κs =
     let a = c .before .before .before .before .before .before .before .before .before .before .before .before .before .before .before .args in
     let room = roomy-told (working (now (a .sites)) (now (a .log)) (now (a .sent))) (now (a .out)) (sym (c .before .before .before .before .before .before .before .before .before .has-room .ensures) ∙ not-false _ (c .before .before .before .before .before .before .before .before .if1 .left)) in
-    omega (arith, room .1, refused-short (c .before .number .result) (omega (arith, number-small (c .before .before .before .opened2 .given .0 .0), c .before .number .ensures)))
+    omega (arith, room .1, refused-short (c .before .number .result) (omega (arith, number-short (c .before .before .before .opened2 .given .0 .0), c .before .number .ensures)))
 
 same-length : tie.Need-same-length
 same-length c = search needs

@@ -1,4 +1,4 @@
--- `judge_prefix` meets its contract: the first i entries are good, and the table counts them.
+-- `judge_counting` meets its contract: the first i entries are good, and the table counts them.
 -- Assumes nothing.
 use mathlib.Core.Bool.{true}
 use mathlib.Core.Path.{_≡_, refl}
@@ -11,8 +11,8 @@ use Rattle.entries.proofs.Counts.{table-size, counting-none, entry-bad,
 use borrow.Author.Needs.{needs}
 use denote.Ref.{now}
 use native.Mathlib.Omega.{arith}
-use Rattle.entries.proofs.judge_prefix.Statement.{statement}
-use Rattle.entries.proofs.judge_prefix.Tie as tie
+use Rattle.entries.proofs.judge_counting.Statement.{statement}
+use Rattle.entries.proofs.judge_counting.Tie as tie
 
 abbrev Inv-loop : tie.InvT-loop
 Inv-loop log k sites commands counts₀ i₀ counts i = (i ≤ k) × Counting log i counts × (goodTo log sites commands i ≡ true)
@@ -41,7 +41,7 @@ same-length c = table-size (c .before .before .before .before .loop .counts) (c 
 returns : tie.Need-returns Inv-loop μ-loop
 returns c =
     let a = c .before .before .before .before .before .before .before .args in
-    (entry-bad (now (a .log)) (a .sites) (a .commands) (c .before .before .before .before .before .before .before .pre .1) (c .before .before .before .before .loop .i) (c .before .before .read-entry .ensures) (c .before .in-range .ensures) (c .if1 .taken) (a .k) (omega arith), λ z. absurd (never _ z refl))
+    (entry-bad (now (a .log)) (a .sites) (a .commands) (c .before .before .before .before .before .before .before .pre .1) (c .before .before .before .before .loop .i) (c .before .before .read-entry .ensures) (c .before .in-range .ensures) (c .if1 .taken) (a .k) (omega arith))
 
 mul-cell : tie.Need-mul-cell Inv-loop μ-loop
 mul-cell c = omega (arith, inside (c .before))
@@ -61,7 +61,7 @@ same-length-2 c = table-size (c .before .before .before .before .before .before 
 returns-2 : tie.Need-returns-2 Inv-loop μ-loop
 returns-2 c =
     let a = c .before .before .before .before .before .before .before .before .before .before .before .args in
-    (third-bad (now (a .log)) (a .sites) (a .commands) (c .before .before .before .before .before .before .before .before .before .before .before .pre .1) (c .before .before .before .before .before .before .before .before .loop .i) (c .before .before .before .before .before .before .read-entry .ensures) (c .before .before .before .before .before .in-range .ensures) (c .before .before .before .before .if1 .left) (c .before .before .before .before .before .before .before .before .loop .counts) (c .before .before .before .before .before .before .before .before .loop .inv .1) (omega arith) (a .k) (omega arith), λ z. absurd (never _ z refl))
+    (third-bad (now (a .log)) (a .sites) (a .commands) (c .before .before .before .before .before .before .before .before .before .before .before .pre .1) (c .before .before .before .before .before .before .before .before .loop .i) (c .before .before .before .before .before .before .read-entry .ensures) (c .before .before .before .before .before .in-range .ensures) (c .before .before .before .before .if1 .left) (c .before .before .before .before .before .before .before .before .loop .counts) (c .before .before .before .before .before .before .before .before .loop .inv .1) (omega arith) (a .k) (omega arith))
 
 add-counts : tie.Need-add-counts Inv-loop μ-loop
 add-counts c = search needs
@@ -86,10 +86,10 @@ same-length-3 c = table-size (c .before .loop .counts) (c .before .loop .inv .1 
 
 returns-3 : tie.Need-returns-3 Inv-loop μ-loop
 returns-3 c =
-    let a = c .before .before .before .before .args in prefix-end (now (a .log)) (a .sites) (a .commands) (c .before .loop .i) (a .k) (omega arith) (c .before .loop .inv .1) (c .before .loop .inv .2)
+    let a = c .before .before .before .before .args in prefix-end (now (a .log)) (a .sites) (a .commands) (c .before .loop .i) (a .k) (omega arith) (c .before .loop .inv .2)
 
-pub judge-prefix-spec : {M : Type 1} → statement M
-judge-prefix-spec =
+pub judge-counting-spec : {M : Type 1} → statement M
+judge-counting-spec =
     tie.close
     (tie.spec
     Inv-loop
