@@ -15,7 +15,7 @@ use Rattle.refusals.specs.declared.Refusal.{Refusal}
 use Rattle.refusals.specs.declared.Refusal.the-variants.{Book, Table, Form, Range, Size}
 use Rattle.refusals.specs.declared.Verdict.{Verdict}
 use Rattle.refusals.specs.declared.Verdict.the-variants.{Taken, Refused}
-use Rattle.refusals.specs.Refusals.{numberOf, codeOf}
+use Rattle.refusals.specs.Refusals.{numberOf, codeOf, isTaken}
 use Rattle.refusals.specs.Numbers.{number-nonzero}
 use Rattle.table.specs.declared.Rules.{Rules}
 use Rattle.table.specs.declared.SiteTable.{SiteTable}
@@ -34,7 +34,7 @@ use Rattle.layout.specs.Layout.{siteSize, headOf}
 use Rattle.layout.specs.Good as layout
 use Rattle.layout.specs.Good.{goodSite}
 use Rattle.lent.proofs.Judged.{site-good}
-use Rattle.judging.specs.Outcomes.{isTaken, _then_}
+use Rattle.judging.specs.Outcomes.{_then_}
 use Rattle.judging.specs.declared.Judgement.{Judgement}
 use Rattle.judging.specs.declared.Judgement.the-variants as judgement
 use Rattle.judging.specs.Judging.{tableOf, anyPosition, entriesIn, isWhole, rulesOf, judgedAs, numberIn, forTable, forBook, forRules, forSite, forSiteAndLog, placesAfter}

@@ -11,7 +11,7 @@ use Rattle.wire.specs.Wire.{readLe}
 use Rattle.refusals.specs.declared.Refusal.the-variants.{Book, Table, Form, Range, Size}
 use Rattle.refusals.specs.declared.Verdict.{Verdict}
 use Rattle.refusals.specs.declared.Verdict.the-variants.{Taken, Refused}
-use Rattle.refusals.specs.Refusals.{numberOf}
+use Rattle.refusals.specs.Refusals.{numberOf, isTaken}
 use Rattle.table.specs.declared.Rules.{Rules}
 use Rattle.table.specs.declared.SiteTable.{SiteTable}
 use Rattle.table.specs.Table.{goodTable}
@@ -24,7 +24,7 @@ use Rattle.layout.specs.Layout.{siteSize, spanPlace, rowAt, view, encode}
 use Rattle.layout.specs.Good.{goodSite}
 use Rattle.judging.specs.declared.Judgement.{Judgement}
 use Rattle.judging.specs.declared.Judgement.the-variants as judgement
-use Rattle.judging.specs.Outcomes.{_then_, isTaken}
+use Rattle.judging.specs.Outcomes.{_then_}
 
 -- The site table of one site's engine, which does not know who is faulty.
 abbrev pub tableOf : ℕ → ℕ → SiteTable

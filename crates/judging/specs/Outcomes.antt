@@ -1,7 +1,6 @@
 -- What a call answers and leaves. It asks a list of demands: taken, it answers 0 and leaves what the step makes; refused, it answers the
 -- number of the first demand that does not hold, and everything is as it was.
 -- Assumes nothing.
-use mathlib.Core.Bool.{Bool, true, false}
 use Prim.Native.Nat.{ℕ}
 use Rattle.refusals.specs.declared.Verdict.{Verdict}
 use Rattle.refusals.specs.declared.Verdict.the-variants.{Taken, Refused}
@@ -26,7 +25,3 @@ infixr 20 _then_
 abbrev pub _then_ : Demands → Demands → Demands
 _then_ granted e = e
 _then_ (t else r ⨾ d) e = t else r ⨾ _then_ d e
-
-abbrev pub isTaken : Verdict → Bool
-isTaken Taken = true
-isTaken (Refused r) = false
