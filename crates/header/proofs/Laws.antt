@@ -28,8 +28,9 @@ use lib.Seq.{sets}
 use Rattle.wire.proofs.Laws.{part-all}
 use Rattle.protocol.specs.System.{granted, _else_⨾_, verdict}
 use Rattle.runs.specs.Run.{maxRun, headerSize, tableOf, bookSize, bookOf, stepBytes, forRun}
+use Rattle.header.specs.declared.Run.{Run}
 use Rattle.header.specs.declared.Opened.the-variants as opened
-use Rattle.header.specs.Header.{forHeader, openedAs, judgeRun, placesAfter}
+use Rattle.header.specs.Header.{forHeader, saidBy, openedAs, judgeRun, placesAfter}
 
 -- ---- the site table
 
@@ -130,7 +131,7 @@ module _ (run p : List ℕ) where
   unfolding judgeRun placesAfter
   run-refused {r} h =
       let e = first-refused (leb (length run) maxRun) (leb headerSize (length run)) (isGood (tableOf run)) (leb (headerSize + bookSize run) (length run)) (judgeBook (bookOf run)) h in (
-        ap (λ (v : Verdict). openedAs v (length (commandsOf (bookOf run)))) e,
+        ap (λ (v : Verdict). openedAs v (saidBy run)) e,
         ap (λ (v : Verdict). pick (isTaken v) (sets p 0 (notedPlaces (bookOf run))) p) (sym h),
       )
 
@@ -148,16 +149,18 @@ module _ (run p : List ℕ) where
         g ∙ ap judgeBook e ∙ book-last (readUpTo maxCommands (bookOf run))
         ∙ first-taken (leb (length run) maxRun) (leb headerSize (length run)) (isGood (tableOf run)) (leb (headerSize + bookSize run) (length run)) (judgeBook (bookOf run)) h
 
-    pub run-counted : {n : ℕ} → measureBook b ≡ Commands n → (opened.Commands n ≡ judgeRun run) × (q ≡ placesAfter run p)
+    pub run-counted : {n end : ℕ} {t : SiteTable} → measureBook b ≡ Commands n → t ≡ tableOf run → end ≡ headerSize + bookSize run
+        → (opened.Good (record { rules = record { table = t; commands = n }; steps = end }) ≡ judgeRun run) × (q ≡ placesAfter run p)
     unfolding judgeRun
-    run-counted {n} m =
+    run-counted {n} {end} {t} m et ee =
         let c = is-counted b m in
         let k : n ≡ length (commandsOf (bookOf run)) = c .1 ∙ ap (λ (l : List ℕ). length (commandsOf l)) e in
-        (ap opened.Commands k ∙ ap (λ (v : Verdict). openedAs v (length (commandsOf (bookOf run)))) (by-book (c .0)), walked)
+        let said : record { rules = record { table = t; commands = n }; steps = end } ≡ saidBy run = λ i. record { rules = record { table = et i; commands = k i }; steps = ee i } in
+        (ap opened.Good said ∙ ap (λ (v : Verdict). openedAs v (saidBy run)) (by-book (c .0)), walked)
 
     pub run-unreadable : measureBook b ≡ Unreadable → (opened.Refused Book ≡ judgeRun run) × (q ≡ placesAfter run p)
     unfolding judgeRun
-    run-unreadable m = (ap (λ (v : Verdict). openedAs v (length (commandsOf (bookOf run)))) (by-book (not-counted b m .0)), walked)
+    run-unreadable m = (ap (λ (v : Verdict). openedAs v (saidBy run)) (by-book (not-counted b m .0)), walked)
 
 -- ---- what a run that is taken gives
 
@@ -189,11 +192,11 @@ sound run h =
 
 -- ---- for a caller
 
-opened-taken : (v : Verdict) (m : ℕ) {n : ℕ} → opened.Commands n ≡ openedAs v m → (v ≡ Taken) × (n ≡ m)
-opened-taken Taken m {n} e = (refl, let q : n ≡ m = cc in q)
+opened-taken : (v : Verdict) (m : Run) {n : Run} → opened.Good n ≡ openedAs v m → (v ≡ Taken) × (n ≡ m)
+opened-taken Taken m e = (refl, cc)
 opened-taken (Refused r) m e = absurd (let z : _≡_ {A = ℕ} 0 1 = cc in omega arith)
 
-opened-refused : (v : Verdict) (m : ℕ) {r : Refusal} → opened.Refused r ≡ openedAs v m → v ≡ Refused r
+opened-refused : (v : Verdict) (m : Run) {r : Refusal} → opened.Refused r ≡ openedAs v m → v ≡ Refused r
 opened-refused Taken m e = absurd (let z : _≡_ {A = ℕ} 0 1 = cc in omega arith)
 opened-refused (Refused x) m {r} e = let q : r ≡ x = cc in ap Refused (sym q)
 
@@ -206,13 +209,20 @@ header-first true false c d v h = h
 header-first false b c d v h = h
 
 module _ (run : List ℕ) where
-  pub judged-taken : {n : ℕ} → opened.Commands n ≡ judgeRun run → (verdict (forRun run) ≡ Taken) × (n ≡ length (commandsOf (bookOf run)))
+  pub judged-taken : {n : Run} → opened.Good n ≡ judgeRun run → (verdict (forRun run) ≡ Taken) × (n ≡ saidBy run)
   unfolding judgeRun
-  judged-taken e = opened-taken (verdict (forRun run)) (length (commandsOf (bookOf run))) e
+  judged-taken e = opened-taken (verdict (forRun run)) (saidBy run) e
+
+  -- What a run that is taken says.
+  pub judged-table : {n : Run} → opened.Good n ≡ judgeRun run → n .rules .table ≡ tableOf run
+  judged-table e = ap (λ (r : Run). r .rules .table) (judged-taken e .1)
+
+  pub judged-end : {n : Run} → opened.Good n ≡ judgeRun run → n .steps ≡ headerSize + bookSize run
+  judged-end e = ap (λ (r : Run). r .steps) (judged-taken e .1)
 
   pub judged-refused : {r : Refusal} → opened.Refused r ≡ judgeRun run → verdict (forRun run) ≡ Refused r
   unfolding judgeRun
-  judged-refused e = opened-refused (verdict (forRun run)) (length (commandsOf (bookOf run))) e
+  judged-refused e = opened-refused (verdict (forRun run)) (saidBy run) e
 
   -- The places of a run that is taken.
   pub places-noted : (p : List ℕ) {q : List ℕ} → verdict (forRun run) ≡ Taken → maxCommands ≤ length p → q ≡ placesAfter run p → take (length (commandsOf (bookOf run))) q ≡ placesOf (bookOf run)

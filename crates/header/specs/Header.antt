@@ -14,6 +14,7 @@ use Rattle.table.specs.Table.{goodTable}
 use Rattle.commands.specs.Book.{commandsOf, notedPlaces}
 use Rattle.protocol.specs.System.{Demands, granted, _else_⨾_, verdict}
 use Rattle.runs.specs.Run.{maxRun, headerSize, tableOf, bookSize, bookOf, forRun}
+use Rattle.header.specs.declared.Run.{Run}
 use Rattle.header.specs.declared.Opened.{Opened}
 use Rattle.header.specs.declared.Opened.the-variants as opened
 
@@ -26,14 +27,18 @@ forHeader run =
     ⨾ leb (headerSize + bookSize run) (length run) else Table
     ⨾ granted
 
--- The number of commands where a verdict is taken, else its refusal.
-abbrev pub openedAs : Verdict → ℕ → Opened
-openedAs Taken n = opened.Commands n
-openedAs (Refused r) n = opened.Refused r
+-- What the header and the book of a run say.
+abbrev pub saidBy : List ℕ → Run
+saidBy run = record { rules = record { table = tableOf run; commands = length (commandsOf (bookOf run)) }; steps = headerSize + bookSize run }
+
+-- What a run says where a verdict is taken, else the refusal.
+abbrev pub openedAs : Verdict → Run → Opened
+openedAs Taken r = opened.Good r
+openedAs (Refused x) r = opened.Refused x
 
 -- What judging a run answers.
 unfoldable pub judgeRun : List ℕ → Opened
-judgeRun run = openedAs (verdict (forRun run)) (length (commandsOf (bookOf run)))
+judgeRun run = openedAs (verdict (forRun run)) (saidBy run)
 
 -- The places after judging a run: the book is walked where size and header are taken.
 unfoldable pub placesAfter : List ℕ → List ℕ → List ℕ

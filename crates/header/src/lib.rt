@@ -3,13 +3,12 @@ ghost use mathlib.Core.Path.{_≡_};
 ghost use Prim.Native.Nat.{_+_, _≤_};
 ghost use lib.ListN.{length};
 ghost use Rattle.commands.specs.Book.{maxCommands};
-ghost use Rattle.protocol.specs.System.{verdict};
 ghost use Rattle.runs.specs.Run.{headerSize, tableOf, bookSize};
-ghost use Rattle.header.specs.Header.{forHeader, judgeRun, placesAfter};
+ghost use Rattle.header.specs.Header.{judgeRun, placesAfter};
 use commands::Measured;
 use refusals::Refusal;
-use refusals::Verdict;
 use table::Judged;
+use table::Rules;
 use table::SiteTable;
 
 // The greatest size of a run in bytes.
@@ -25,14 +24,20 @@ const MASK: usize = 2;
 
 const BOOK_SIZE: usize = 4;
 
-// What judging a run answers: how many commands its book has, or why it is refused.
+// What the header and the book of a run say: the rules, and where the steps start.
+pub struct Run {
+    pub rules: Rules,
+    pub steps: usize,
+}
+
+// What judging a run answers: what it says, or why it is refused.
 pub enum Opened {
-    Commands(usize),
+    Good(Run),
     Refused(Refusal),
 }
 
 // The site table of a run.
-pub fn table_of(run: &[u8]) -> SiteTable
+fn table_of(run: &[u8]) -> SiteTable
     requires { ⌜ headerSize ≤ length (now run) ⌝ }
     ensures { λ r. ⌜ r ≡ tableOf (now (run .entry)) ⌝ }
 {
@@ -47,7 +52,7 @@ pub fn table_of(run: &[u8]) -> SiteTable
 }
 
 // The position after the book, where the steps start.
-pub fn book_end(run: &[u8]) -> usize
+fn book_end(run: &[u8]) -> usize
     requires { ⌜ headerSize ≤ length (now run) ⌝ }
     ensures { λ r. ⌜ r ≡ headerSize + bookSize (now (run .entry)) ⌝ }
 {
@@ -55,42 +60,31 @@ pub fn book_end(run: &[u8]) -> usize
     HEADER + size as usize
 }
 
-// Whether the size and the header of a run are taken: refusals 9 and 2, in this order.
-fn judge_header(run: &[u8]) -> Verdict
-    ensures { λ r. ⌜ r ≡ verdict (forHeader (now (run .entry))) ⌝ }
-{
-    let n = run.len();
-    if n > MAX_RUN {
-        return Verdict::Refused(Refusal::Size);
-    }
-    if n < HEADER {
-        return Verdict::Refused(Refusal::Table);
-    }
-    let table = table_of(run);
-    let judged = SiteTable::judge(table.sites, table.faults, table.mask);
-    let Judged::Good(_) = judged else {
-        return Verdict::Refused(Refusal::Table);
-    };
-    let end = book_end(run);
-    if end > n {
-        return Verdict::Refused(Refusal::Table);
-    }
-    Verdict::Taken
-}
-
 // A run is judged: refusals 9, 2 and 1, in this order. Where size and header are taken, the places of its commands are noted.
 pub fn judge_run(run: &[u8], places: &mut [u16]) -> Opened
     requires { ⌜ maxCommands ≤ length (now places) ⌝ }
     ensures { λ r. ⌜ (r ≡ judgeRun (now (run .entry))) × (now (places .exit) ≡ placesAfter (now (run .entry)) (now (places .entry))) ⌝ }
 {
-    let verdict = judge_header(run);
-    if let Verdict::Refused(refusal) = verdict {
-        return Opened::Refused(refusal);
+    let n = run.len();
+    if n > MAX_RUN {
+        return Opened::Refused(Refusal::Size);
     }
-    let end = book_end(run);
-    let measured = commands::note(&run[HEADER..end], places);
-    match measured {
-        Measured::Commands(commands) => Opened::Commands(commands),
-        Measured::Unreadable => Opened::Refused(Refusal::Book),
+    if n < HEADER {
+        return Opened::Refused(Refusal::Table);
     }
+    let table = table_of(run);
+    let judged = SiteTable::judge(table.sites, table.faults, table.mask);
+    let Judged::Good(_) = judged else {
+        return Opened::Refused(Refusal::Table);
+    };
+    let steps = book_end(run);
+    if steps > n {
+        return Opened::Refused(Refusal::Table);
+    }
+    let measured = commands::note(&run[HEADER..steps], places);
+    let Measured::Commands(commands) = measured else {
+        return Opened::Refused(Refusal::Book);
+    };
+    let rules = Rules { table, commands };
+    Opened::Good(Run { rules, steps })
 }

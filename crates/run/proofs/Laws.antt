@@ -30,6 +30,7 @@ use Rattle.steps.specs.declared.Reading.{Reading}
 use Rattle.steps.specs.Steps.{stepsOf}
 use Rattle.lines.specs.Lines.{runLine, refusedLine}
 use Rattle.lines.proofs.Laws.{run-short}
+use Rattle.header.specs.declared.Run.{Run}
 use Rattle.header.specs.declared.Opened.the-variants as opened
 use Rattle.header.specs.Header.{judgeRun, placesAfter}
 use Rattle.header.proofs.Laws.{Sound, judged-taken, places-noted}
@@ -136,11 +137,11 @@ module _ (run : List ℕ) where
       subst (λ (l : List ℕ). Wrote after end s 0 l) ((λ i. played (et i) (commandsOf (eb i)) (stepsOf (es i))) ∙ sym (ap (printAs run) e)) w
 
 -- The part that is the book of a run that is taken: its commands are counted, and their places noted.
-pub noted-part : (run p : List ℕ) {b q : List ℕ} {n : ℕ} → b ≡ bookOf run → opened.Commands n ≡ judgeRun run → q ≡ placesAfter run p → maxCommands ≤ length p
-    → (n ≡ length (commandsOf b)) × (take (length (commandsOf b)) q ≡ placesOf b)
+pub noted-part : (run p : List ℕ) {b q : List ℕ} {n : Run} → b ≡ bookOf run → opened.Good n ≡ judgeRun run → q ≡ placesAfter run p → maxCommands ≤ length p
+    → (n .rules .commands ≡ length (commandsOf b)) × (take (length (commandsOf b)) q ≡ placesOf b)
 noted-part run p {b} {q} e o w h =
     let j = judged-taken run o in (
-      j .1 ∙ ap (λ (l : List ℕ). length (commandsOf l)) (sym e),
+      ap (λ (r : Run). r .rules .commands) (j .1) ∙ ap (λ (l : List ℕ). length (commandsOf l)) (sym e),
       subst (λ (l : List ℕ). take (length (commandsOf l)) q ≡ placesOf l) (sym e) (places-noted run p (j .0) h w),
     )
 

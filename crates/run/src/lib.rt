@@ -135,10 +135,9 @@ pub fn run(input: &[u8], sites: &mut [u8], log: &mut [u8], sent: &mut [u8], out:
     let mut places = [0u16; 64];
     let opened = header::judge_run(input, &mut places);
     match opened {
-        Opened::Commands(commands) => {
-            let table = header::table_of(input);
-            let end = header::book_end(input);
-            let rules = Rules { table, commands };
+        Opened::Good(run) => {
+            let rules = run.rules;
+            let end = run.steps;
             print_noted(
                 sites,
                 log,

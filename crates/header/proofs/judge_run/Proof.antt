@@ -1,29 +1,39 @@
--- `header::judge_run`: size and header first, then the walk through the book.
+-- `header::judge_run`: a law for each answer.
 -- Assumes nothing.
 use borrow.Author.Needs.{needs}
 use denote.Ref.{now}
 use mathlib.Core.Path.{sym, _∙_}
 use native.Mathlib.Omega.{arith}
-use Rattle.header.proofs.Laws.{book-part, book-inside, run-refused, run-counted, run-unreadable}
+use Rattle.header.proofs.Laws.{too-long, header-cut, bad-table, book-cut, header-taken, book-part, run-refused, run-counted, run-unreadable}
 use Rattle.header.proofs.judge_run.Statement.{statement}
 use Rattle.header.proofs.judge_run.Tie as tie
 
-judge-header-requires : tie.Need-judge-header-requires
-judge-header-requires c κs = search needs
-
-enum-known-verdict : tie.Need-enum-known-verdict
-enum-known-verdict c = search needs
-
 returns : tie.Need-returns
-returns c =
-    let a = c .before .before .before .before .before .before .args in
-    run-refused (now (a .run)) (now (a .places)) (sym (c .before .before .before .judge-header .ensures) ∙ c .before .verdict .given .1)
+returns c = let a = c .before .before .before .args in run-refused (now (a .run)) (now (a .places)) (sym (too-long (now (a .run)) (c .if1 .taken)))
+
+returns-2 : tie.Need-returns-2
+returns-2 c = let a = c .before .before .before .before .args in run-refused (now (a .run)) (now (a .places)) (sym (header-cut (now (a .run)) (c .before .if1 .left) (c .if2 .taken)))
+
+table-of-requires : tie.Need-table-of-requires
+table-of-requires c κs = search needs
+
+judge-requires : tie.Need-judge-requires
+judge-requires c κs = search needs
 
 enum-told : tie.Need-enum-told
 enum-told c = search needs
 
+enum-told-2 : tie.Need-enum-told-2
+enum-told-2 c = search needs
+
+returns-3 : tie.Need-returns-3
+returns-3 c = let a = c .before .before .before .before .before .before .before .before .args in run-refused (now (a .run)) (now (a .places)) (sym (bad-table (now (a .run)) (c .before .before .before .before .before .if1 .left) (c .before .before .before .before .if2 .left) (c .before .before .before .table-of .ensures) (sym (c .before .before .judge .ensures) ∙ c .enum-told2 .given .1)))
+
 book-end-requires : tie.Need-book-end-requires
-book-end-requires c κs = omega (arith, book-inside (now (c .before .before .before .before .before .args .run)) (sym (c .before .before .judge-header .ensures) ∙ c .enum-told .given .1))
+book-end-requires c κs = search needs
+
+returns-4 : tie.Need-returns-4
+returns-4 c = let a = c .before .before .before .before .before .before .before .before .before .before .args in run-refused (now (a .run)) (now (a .places)) (sym (book-cut (now (a .run)) (c .before .before .before .before .before .before .before .if1 .left) (c .before .before .before .before .before .before .if2 .left) (c .before .before .before .before .before .table-of .ensures) (sym (c .before .before .before .before .judge .ensures) ∙ c .before .before .enum-told .given .1) (c .before .book-end .ensures) (c .if3 .taken)))
 
 sub-note : tie.Need-sub-note
 sub-note c = search needs
@@ -32,7 +42,7 @@ part-note-start : tie.Need-part-note-start
 part-note-start c = search needs
 
 part-note-end : tie.Need-part-note-end
-part-note-end c = omega (arith, c .book-end .ensures, book-inside (now (c .before .before .before .before .before .before .args .run)) (sym (c .before .before .before .judge-header .ensures) ∙ c .before .enum-told .given .1))
+part-note-end c = search needs
 
 note-requires : tie.Need-note-requires
 note-requires c κs = search needs
@@ -40,43 +50,47 @@ note-requires c κs = search needs
 enum-known-measured : tie.Need-enum-known-measured
 enum-known-measured c = search needs
 
-enum-told-2 : tie.Need-enum-told-2
-enum-told-2 c = search needs
+enum-told-3 : tie.Need-enum-told-3
+enum-told-3 c = search needs
 
 same-length : tie.Need-same-length
 same-length c = search needs
 
-returns-2 : tie.Need-returns-2
-returns-2 c =
-    let a = c .before .before .before .before .before .before .before .before .before .before .before .before .before .before .args in
-    run-counted (now (a .run)) (now (a .places)) (sym (c .before .before .before .before .before .before .before .before .before .before .before .judge-header .ensures) ∙ c .before .before .before .before .before .before .before .before .before .enum-told .given .1) (book-part (now (a .run)) (c .before .before .before .before .before .before .before .before .book-end .ensures)) (c .before .before .before .before .before .note .ensures .1)
-    (sym (c .before .before .before .before .before .note .ensures .0) ∙ c .before .measured .given .1)
+returns-5 : tie.Need-returns-5
+returns-5 c =
+    let a = c .before .before .before .before .before .before .before .before .before .before .before .before .before .before .before .before .before .args in
+    let h = sym (header-taken (now (a .run)) (c .before .before .before .before .before .before .before .before .before .before .before .before .before .before .if1 .left) (c .before .before .before .before .before .before .before .before .before .before .before .before .before .if2 .left) (c .before .before .before .before .before .before .before .before .before .before .before .before .table-of .ensures) (sym (c .before .before .before .before .before .before .before .before .before .before .before .judge .ensures) ∙ c .before .before .before .before .before .before .before .before .before .enum-told .given .1) (c .before .before .before .before .before .before .before .before .book-end .ensures) (c .before .before .before .before .before .before .before .if3 .left)) in
+    run-unreadable (now (a .run)) (now (a .places)) h (book-part (now (a .run)) (c .before .before .before .before .before .before .before .before .book-end .ensures)) (c .before .before .before .before .note .ensures .1) (sym (c .before .before .before .before .note .ensures .0) ∙ c .enum-told3 .given .1)
 
 same-length-2 : tie.Need-same-length-2
 same-length-2 c = search needs
 
-returns-3 : tie.Need-returns-3
-returns-3 c =
-    let a = c .before .before .before .before .before .before .before .before .before .before .before .before .before .args in
-    run-unreadable (now (a .run)) (now (a .places)) (sym (c .before .before .before .before .before .before .before .before .before .before .judge-header .ensures) ∙ c .before .before .before .before .before .before .before .before .enum-told .given .1) (book-part (now (a .run)) (c .before .before .before .before .before .before .before .book-end .ensures)) (c .before .before .before .before .note .ensures .1)
-    (sym (c .before .before .before .before .note .ensures .0) ∙ c .enum-told2 .given .1)
+returns-6 : tie.Need-returns-6
+returns-6 c =
+    let a = c .before .before .before .before .before .before .before .before .before .before .before .before .before .before .before .before .before .before .args in
+    let h = sym (header-taken (now (a .run)) (c .before .before .before .before .before .before .before .before .before .before .before .before .before .before .before .if1 .left) (c .before .before .before .before .before .before .before .before .before .before .before .before .before .before .if2 .left) (c .before .before .before .before .before .before .before .before .before .before .before .before .before .table-of .ensures) (sym (c .before .before .before .before .before .before .before .before .before .before .before .before .judge .ensures) ∙ c .before .before .before .before .before .before .before .before .before .before .enum-told .given .1) (c .before .before .before .before .before .before .before .before .before .book-end .ensures) (c .before .before .before .before .before .before .before .before .if3 .left)) in
+    run-counted (now (a .run)) (now (a .places)) h (book-part (now (a .run)) (c .before .before .before .before .before .before .before .before .before .book-end .ensures)) (c .before .before .before .before .before .note .ensures .1) (sym (c .before .before .before .before .before .note .ensures .0) ∙ c .before .measured .given .1) (c .before .before .before .before .before .before .before .before .before .before .before .before .before .table-of .ensures) (c .before .before .before .before .before .before .before .before .before .book-end .ensures)
 
 pub judge-run-spec : {M : Type 1} → statement M
 judge-run-spec =
     tie.close
     (tie.spec
-    judge-header-requires
-    enum-known-verdict
     returns
+    returns-2
+    table-of-requires
+    judge-requires
     enum-told
+    enum-told-2
+    returns-3
     book-end-requires
+    returns-4
     sub-note
     part-note-start
     part-note-end
     note-requires
     enum-known-measured
-    enum-told-2
+    enum-told-3
     same-length
-    returns-2
+    returns-5
     same-length-2
-    returns-3)
+    returns-6)

@@ -1,14 +1,14 @@
 -- `run::run`: a buffer too short, a run refused, a run played.
 -- Assumes nothing.
+use borrow.Author.Needs.{needs}
 use mathlib.Core.Path.{sym, ap, _∙_}
 use native.Mathlib.Omega.{arith}
-use borrow.Author.Needs.{needs}
 use denote.Ref.{now}
 use Rattle.theory.specs.Counting.{not-true, not-false}
+use Rattle.refusals.specs.Numbers.{number-short}
 use Rattle.table.specs.Table.{isGood}
 use Rattle.lines.proofs.Laws.{refused-short}
-use Rattle.header.proofs.Laws.{sound, book-part, step-part, judged-taken, judged-refused}
-use Rattle.refusals.specs.Numbers.{number-short}
+use Rattle.header.proofs.Laws.{sound, book-part, step-part, judged-taken, judged-table, judged-end, judged-refused}
 use Rattle.run.specs.Ran.{working}
 use Rattle.run.proofs.Laws.{steps-short, print-refused, print-taken, noted-part, roomy-told, no-room, with-room, refused-left, played-left}
 use Rattle.run.proofs.run.Statement.{statement}
@@ -31,57 +31,55 @@ judge-run-requires c κs = search needs
 enum-known-opened : tie.Need-enum-known-opened
 enum-known-opened c = search needs
 
-table-of-requires : tie.Need-table-of-requires
-table-of-requires c κs =
-    let r = now (c .before .before .before .before .before .before .before .before .before .before .before .before .before .args .input) in
-    let s = sound r (judged-taken r (sym (c .before .opened .given .1) ∙ c .before .before .before .before .judge-run .ensures .0) .0) in
-    omega arith
-
-book-end-requires : tie.Need-book-end-requires
-book-end-requires c κs =
-    let r = now (c .before .before .before .before .before .before .before .before .before .before .before .before .before .before .args .input) in
-    let s = sound r (judged-taken r (sym (c .before .before .opened .given .1) ∙ c .before .before .before .before .before .judge-run .ensures .0) .0) in
-    omega arith
-
 sub-print-noted : tie.Need-sub-print-noted
-sub-print-noted c = search needs
+sub-print-noted c =
+    let r = now (c .before .before .before .before .before .before .before .before .before .before .before .before .before .before .before .before .before .args .input) in
+    let e = judged-end r (sym (c .before .before .before .before .before .opened .given .1) ∙ c .before .before .before .before .before .before .before .before .judge-run .ensures .0) in
+    omega (arith, e)
 
 part-print-noted-start : tie.Need-part-print-noted-start
-part-print-noted-start c = search needs
+part-print-noted-start c =
+    let r = now (c .before .before .before .before .before .before .before .before .before .before .before .before .before .before .before .before .before .args .input) in
+    let e = judged-end r (sym (c .before .before .before .before .before .opened .given .1) ∙ c .before .before .before .before .before .before .before .before .judge-run .ensures .0) in
+    omega (arith, e)
 
 part-print-noted-end : tie.Need-part-print-noted-end
 part-print-noted-end c =
-    let r = now (c .before .before .before .before .before .before .before .before .before .before .before .before .before .before .before .before .before .before .args .input) in
-    let s = sound r (judged-taken r (sym (c .before .before .before .before .before .before .opened .given .1) ∙ c .before .before .before .before .before .before .before .before .before .judge-run .ensures .0) .0) in
-    omega arith
+    let r = now (c .before .before .before .before .before .before .before .before .before .before .before .before .before .before .before .before .before .args .input) in
+    let q = sym (c .before .before .before .before .before .opened .given .1) ∙ c .before .before .before .before .before .before .before .before .judge-run .ensures .0 in
+    let s = sound r (judged-taken r q .0) in
+    omega (arith, judged-end r q, s .end)
 
 slice-aggregate-print-noted : tie.Need-slice-aggregate-print-noted
 slice-aggregate-print-noted c = search needs
 
 sub-print-noted-2 : tie.Need-sub-print-noted-2
 sub-print-noted-2 c =
-    let r = now (c .before .before .before .before .before .before .before .before .before .before .before .before .before .before .before .before .before .before .before .before .args .input) in
-    let s = sound r (judged-taken r (sym (c .before .before .before .before .before .before .before .before .opened .given .1) ∙ c .before .before .before .before .before .before .before .before .before .before .before .judge-run .ensures .0) .0) in
-    omega arith
+    let r = now (c .before .before .before .before .before .before .before .before .before .before .before .before .before .before .before .before .before .before .before .args .input) in
+    let q = sym (c .before .before .before .before .before .before .before .opened .given .1) ∙ c .before .before .before .before .before .before .before .before .before .before .judge-run .ensures .0 in
+    let s = sound r (judged-taken r q .0) in
+    omega (arith, judged-end r q, s .end)
 
 part-print-noted-start-2 : tie.Need-part-print-noted-start-2
 part-print-noted-start-2 c =
-    let r = now (c .before .before .before .before .before .before .before .before .before .before .before .before .before .before .before .before .before .before .before .before .args .input) in
-    let s = sound r (judged-taken r (sym (c .before .before .before .before .before .before .before .before .opened .given .1) ∙ c .before .before .before .before .before .before .before .before .before .before .before .judge-run .ensures .0) .0) in
-    omega arith
+    let r = now (c .before .before .before .before .before .before .before .before .before .before .before .before .before .before .before .before .before .before .before .args .input) in
+    let q = sym (c .before .before .before .before .before .before .before .opened .given .1) ∙ c .before .before .before .before .before .before .before .before .before .before .judge-run .ensures .0 in
+    let s = sound r (judged-taken r q .0) in
+    omega (arith, judged-end r q, s .end)
 
 part-print-noted-end-2 : tie.Need-part-print-noted-end-2
 part-print-noted-end-2 c = search needs
 
 print-noted-requires : tie.Need-print-noted-requires
 print-noted-requires c κs =
-    let a = c .before .before .before .before .before .before .before .before .before .before .before .before .before .before .before .before .before .before .before .before .before .before .args in
+    let a = c .before .before .before .before .before .before .before .before .before .before .before .before .before .before .before .before .before .before .before .before .before .args in
     let r = now (a .input) in
-    let s = sound r (judged-taken r (sym (c .before .before .before .before .before .before .before .before .before .before .opened .given .1) ∙ c .before .before .before .before .before .before .before .before .before .before .before .before .before .judge-run .ensures .0) .0) in
-    let room = roomy-told (working (now (a .sites)) (now (a .log)) (now (a .sent))) (now (a .out)) (sym (c .before .before .before .before .before .before .before .before .before .before .before .before .before .before .before .before .has-room .ensures) ∙ not-false _ (c .before .before .before .before .before .before .before .before .before .before .before .before .before .before .before .if1 .left)) in
-    let e = c .before .before .before .before .before .before .before .book-end .ensures in
-    let n = noted-part r _ (book-part r e) (sym (c .before .before .before .before .before .before .before .before .before .before .opened .given .1) ∙ c .before .before .before .before .before .before .before .before .before .before .before .before .before .judge-run .ensures .0) (c .before .before .before .before .before .before .before .before .before .before .before .before .before .judge-run .ensures .1) (omega arith) in
-    (record { good = ap isGood (c .before .before .before .before .before .before .before .before .table-of .ensures) ∙ s .table; short = steps-short r s e; room = room .1 }, room .0, n .0, n .1)
+    let q = sym (c .before .before .before .before .before .before .before .before .before .opened .given .1) ∙ c .before .before .before .before .before .before .before .before .before .before .before .before .judge-run .ensures .0 in
+    let s = sound r (judged-taken r q .0) in
+    let room = roomy-told (working (now (a .sites)) (now (a .log)) (now (a .sent))) (now (a .out)) (sym (c .before .before .before .before .before .before .before .before .before .before .before .before .before .before .before .has-room .ensures) ∙ not-false _ (c .before .before .before .before .before .before .before .before .before .before .before .before .before .before .if1 .left)) in
+    let e = judged-end r q in
+    let n = noted-part r _ (book-part r e) q (c .before .before .before .before .before .before .before .before .before .before .before .before .judge-run .ensures .1) (omega arith) in
+    (record { good = ap isGood (judged-table r q) ∙ s .table; short = steps-short r s e; room = room .1 }, room .0, n .0, n .1)
 
 enum-known-opened-2 : tie.Need-enum-known-opened-2
 enum-known-opened-2 c = search needs
@@ -112,15 +110,16 @@ same-length-4 c = search needs
 
 returns-2 : tie.Need-returns-2
 returns-2 c =
-    let a = c .before .before .before .before .before .before .before .before .before .before .before .before .before .before .before .before .before .before .before .before .before .before .before .before .before .before .before .before .before .before .before .args in
+    let a = c .before .before .before .before .before .before .before .before .before .before .before .before .before .before .before .before .before .before .before .before .before .before .before .before .before .before .before .before .before .before .args in
     let r = now (a .input) in
     let w = (working (now (a .sites)) (now (a .log)) (now (a .sent))) in
     let o = now (a .out) in
     let p = c .before .before .before .before .before .before .before .before .print-noted in
-    let e = c .before .before .before .before .before .before .before .before .before .before .before .before .before .before .before .before .book-end .ensures in
-    let t = c .before .before .before .before .before .before .before .before .before .before .before .before .before .before .before .before .before .table-of .ensures in
-    let taken = judged-taken r (sym (c .before .before .before .before .before .before .before .before .before .before .before .before .before .before .before .before .before .before .before .opened .given .1) ∙ c .before .before .before .before .before .before .before .before .before .before .before .before .before .before .before .before .before .before .before .before .before .before .judge-run .ensures .0) .0 in
-    let room = sym (c .before .before .before .before .before .before .before .before .before .before .before .before .before .before .before .before .before .before .before .before .before .before .before .before .before .has-room .ensures) ∙ not-false _ (c .before .before .before .before .before .before .before .before .before .before .before .before .before .before .before .before .before .before .before .before .before .before .before .before .if1 .left) in (
+    let q = sym (c .before .before .before .before .before .before .before .before .before .before .before .before .before .before .before .before .before .before .opened .given .1) ∙ c .before .before .before .before .before .before .before .before .before .before .before .before .before .before .before .before .before .before .before .before .before .judge-run .ensures .0 in
+    let e = judged-end r q in
+    let t = judged-table r q in
+    let taken = judged-taken r q .0 in
+    let room = sym (c .before .before .before .before .before .before .before .before .before .before .before .before .before .before .before .before .before .before .before .before .before .before .before .before .has-room .ensures) ∙ not-false _ (c .before .before .before .before .before .before .before .before .before .before .before .before .before .before .before .before .before .before .before .before .before .before .before .if1 .left) in (
       with-room r w o room (print-taken r taken t (book-part r e) (step-part r e) (p .ensures .0)),
       played-left r w o room taken t (book-part r e) (step-part r e) (p .ensures .1),
     )
@@ -149,8 +148,6 @@ run-spec =
     slice-aggregate-judge-run
     judge-run-requires
     enum-known-opened
-    table-of-requires
-    book-end-requires
     sub-print-noted
     part-print-noted-start
     part-print-noted-end
