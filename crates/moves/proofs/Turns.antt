@@ -29,7 +29,7 @@ use Rattle.protocol.specs.System.{granted, _else_⨾_, verdict, correct, free}
 use Rattle.protocol.specs.Recovery as recovery
 use Rattle.protocol.specs.Site as protocol
 use Rattle.protocol.specs.Site.{isAcknowledging, undelivered, unacknowledged, acknowledges, acknowledge, propose, forTurn}
-use Rattle.protocol.specs.World.{World, turn, judge, step, settle, put, append, sendCheck, entryOf, acknowledgingTurn, proposingTurn}
+use Rattle.protocol.specs.World.{World, turn, judge, step, put, append, sendCheck, entryOf, acknowledgingTurn, proposingTurn}
 use Rattle.register.specs.declared.Command.{Command}
 use Rattle.system.specs.Dash.{dash, lastRound}
 use Rattle.layout.specs.declared.Proposal.{Proposal}
@@ -202,7 +202,7 @@ module _ (t : SiteTable) (bytes rows : List ℕ) (b : Buffers) (i : ℕ) (ready 
             let q : k ≡ world .site i .round = ek ∙ sym (λ z. at z .round) in
             let l = ready .acks i k in
             let sent-all : step (dash t book) world (turn i) .acks i k ≡ acksOf (b .sent) i k ++ (undelivered (dash t book) (world .site i) ∷ []) =
-            (λ z. settle (dash t book) ((judged ∙ told .0) z) (pick (told .1 z) (acknowledgingTurn (dash t book) i (world .site i) world) (proposingTurn (dash t book) i (world .site i) world)) world .acks i k)
+            (λ z. settled ((judged ∙ told .0) z) (pick (told .1 z) (acknowledgingTurn (dash t book) i (world .site i) world) (proposingTurn (dash t book) i (world .site i) world)) world .acks i k)
             ∙ ap (λ (y : Bool). pick y (acksOf (b .sent) i k ++ (undelivered (dash t book) (world .site i) ∷ [])) (acksOf (b .sent) i k))
             (both (eqb i i) (eqb k (world .site i .round)) (eq-eqb i i refl) (eq-eqb k (world .site i .round) q)) in
             omega (arith, l, ap length sent-all, length-append (acksOf (b .sent) i k) (undelivered (dash t book) (world .site i) ∷ []))

@@ -65,6 +65,21 @@ module _ (S : System) where
     pub heard : ℕ → ℕ → Set
     pub ledger : Ledger
 
+  -- The site of these fields, in this order.
+  abbrev siteOf : (received delivered pending fast : Set) (round : ℕ) → Phase → (position : ℕ) → (ℕ → ℕ → Set) → Ledger → Site
+  siteOf received delivered pending fast round phase position heard ledger =
+      record {
+        received = received;
+        delivered = delivered;
+        pending = pending;
+        fast = fast;
+        round = round;
+        phase = phase;
+        position = position;
+        heard = heard;
+        ledger = ledger;
+      }
+
   -- 004, lines 1 and 2, with the initial state of the machine.
   abbrev pub fresh : Site
   fresh =
@@ -96,97 +111,53 @@ module _ (S : System) where
         deliveries = g .deliveries ++ (record { command = m; answer = machine .answer (g .state) m } ∷ []);
       }
 
+  -- The site with one field changed.
+  abbrev pub withReceived : Set → Site → Site
+  withReceived x s = siteOf x (s .delivered) (s .pending) (s .fast) (s .round) (s .phase) (s .position) (s .heard) (s .ledger)
+
+  abbrev pub withPending : Set → Site → Site
+  withPending x s = siteOf (s .received) (s .delivered) x (s .fast) (s .round) (s .phase) (s .position) (s .heard) (s .ledger)
+
+  abbrev pub withFast : Set → Site → Site
+  withFast x s = siteOf (s .received) (s .delivered) (s .pending) x (s .round) (s .phase) (s .position) (s .heard) (s .ledger)
+
+  abbrev pub withPhase : Phase → Site → Site
+  withPhase p s = siteOf (s .received) (s .delivered) (s .pending) (s .fast) (s .round) p (s .position) (s .heard) (s .ledger)
+
+  abbrev pub withPosition : ℕ → Site → Site
+  withPosition k s = siteOf (s .received) (s .delivered) (s .pending) (s .fast) (s .round) (s .phase) k (s .heard) (s .ledger)
+
+  abbrev pub withHeard : (ℕ → ℕ → Set) → Site → Site
+  withHeard h s = siteOf (s .received) (s .delivered) (s .pending) (s .fast) (s .round) (s .phase) (s .position) h (s .ledger)
+
+  abbrev pub withLedger : Ledger → Site → Site
+  withLedger g s = siteOf (s .received) (s .delivered) (s .pending) (s .fast) (s .round) (s .phase) (s .position) (s .heard) g
+
   -- A set joins Received, whatever round it came in (004, lines 6, 7, 10 and 11).
   abbrev pub receive : Set → Site → Site
-  receive x s =
-      record {
-        received = s .received ∪ x;
-        delivered = s .delivered;
-        pending = s .pending;
-        fast = s .fast;
-        round = s .round;
-        phase = s .phase;
-        position = s .position;
-        heard = s .heard;
-        ledger = s .ledger;
-      }
+  receive x s = withReceived (s .received ∪ x) s
 
   -- An acknowledgment joins Received and is kept under its sender and its own round, united with what was there (004, lines 8 and 9).
   abbrev pub hear : ℕ → ℕ → Set → Site → Site
-  hear j r x s =
-      record {
-        received = s .received ∪ x;
-        delivered = s .delivered;
-        pending = s .pending;
-        fast = s .fast;
-        round = s .round;
-        phase = s .phase;
-        position = s .position;
-        heard = λ j′ r′ m. s .heard j′ r′ m || eqb j′ j && eqb r′ r && x m;
-        ledger = s .ledger;
-      }
+  hear j r x s = withHeard (λ j′ r′ m. s .heard j′ r′ m || eqb j′ j && eqb r′ r && x m) (receive x s)
 
   -- 004, line 14.
   abbrev pub acknowledge : Site → Site
-  acknowledge s =
-      record {
-        received = s .received;
-        delivered = s .delivered;
-        pending = undelivered s;
-        fast = s .fast;
-        round = s .round;
-        phase = s .phase;
-        position = s .position;
-        heard = s .heard;
-        ledger = s .ledger;
-      }
+  acknowledge s = withPending (undelivered s) s
 
   -- 004, line 18: the site waits with (pending, Received without G_del and pending).
   abbrev pub proposal : Site → Proposal
   proposal s = record { nc = s .pending; c = unacknowledged s }
 
   abbrev pub propose : Site → Site
-  propose s =
-      record {
-        received = s .received;
-        delivered = s .delivered;
-        pending = s .pending;
-        fast = s .fast;
-        round = s .round;
-        phase = waiting (proposal s);
-        position = s .position;
-        heard = s .heard;
-        ledger = s .ledger;
-      }
+  propose s = withPhase (waiting (proposal s)) s
 
   -- 004, lines 26 to 29.
   abbrev pub deliverFast : ℕ → Site → Site
-  deliverFast m s =
-      record {
-        received = s .received;
-        delivered = s .delivered;
-        pending = s .pending;
-        fast = s .fast ∪ only m;
-        round = s .round;
-        phase = s .phase;
-        position = s .position;
-        heard = s .heard;
-        ledger = deliver (s .ledger) m;
-      }
+  deliverFast m s = withLedger (deliver (s .ledger) m) (withFast (s .fast ∪ only m) s)
 
   abbrev pub readEntry : Site → Site
-  readEntry s =
-      record {
-        received = s .received;
-        delivered = s .delivered;
-        pending = s .pending;
-        fast = s .fast;
-        round = s .round;
-        phase = s .phase;
-        position = suc (s .position);
-        heard = s .heard;
-        ledger = s .ledger;
-      }
+  readEntry s = withPosition (suc (s .position)) s
 
   -- What a round end delivers (004, lines 20 to 22): NCSet, then CSet, each in number order, skipping G_del and gAck_del.
   abbrev pub due : Tally → Site → List ℕ

@@ -95,47 +95,30 @@ module _ (S : System) where
   abbrev pub sentAcknowledgment : World → ℕ → ℕ → ℕ → Option Set
   sentAcknowledgment w j r a = nth (w .acks j r) (pred a)
 
-  -- What each step asks for, in the order of document 01: 4, then 5, then 6, 7 and 8; 9 only where nothing else refuses.
+  -- What a message from j to i in round r asks for first, and what it asks for then.
+  abbrev pub forMessage : (i j r : ℕ) → Demands → Demands
+  forMessage i j r more =
+      ltb i sites else Range ⨾ ltb j sites else Range ⨾ leb 1 r else Range ⨾ leb r (suc rounds) else Range ⨾ more
+
+  -- What a message of a faulty site with a set asks for.
+  abbrev pub forFalse : (i j r : ℕ) → Set → Demands
+  forFalse i j r x = forMessage i j r (known S x else Range ⨾ correct S i else Role ⨾ faulty j else Role ⨾ granted)
+
+  -- What each step asks for, in the order of document 01: 4, then 5, then 6, 7 and 8; a full record only where nothing else refuses.
   abbrev pub demands : World → Step → Demands
   demands w (command i m) = ltb i sites else Range ⨾ ltb m commands else Range ⨾ correct S i else Role ⨾ granted
   demands w (acknowledgment i j r a) =
-      ltb i sites else Range
-      ⨾ ltb j sites else Range
-      ⨾ leb 1 r else Range
-      ⨾ leb r (suc rounds) else Range
-      ⨾ leb 1 a else Range
+      forMessage i j r
+      (leb 1 a else Range
       ⨾ leb a capacity else Range
       ⨾ correct S i else Role
       ⨾ correct S j else Role
       ⨾ isSome (sentAcknowledgment w j r a) else Disabled
-      ⨾ granted
+      ⨾ granted)
   demands w (check i j r) =
-      ltb i sites else Range
-      ⨾ ltb j sites else Range
-      ⨾ leb 1 r else Range
-      ⨾ leb r (suc rounds) else Range
-      ⨾ correct S i else Role
-      ⨾ correct S j else Role
-      ⨾ isSome (w .checks j r) else Disabled
-      ⨾ granted
-  demands w (falseAcknowledgment i j r x) =
-      ltb i sites else Range
-      ⨾ ltb j sites else Range
-      ⨾ leb 1 r else Range
-      ⨾ leb r (suc rounds) else Range
-      ⨾ known S x else Range
-      ⨾ correct S i else Role
-      ⨾ faulty j else Role
-      ⨾ granted
-  demands w (falseCheck i j r x) =
-      ltb i sites else Range
-      ⨾ ltb j sites else Range
-      ⨾ leb 1 r else Range
-      ⨾ leb r (suc rounds) else Range
-      ⨾ known S x else Range
-      ⨾ correct S i else Role
-      ⨾ faulty j else Role
-      ⨾ granted
+      forMessage i j r (correct S i else Role ⨾ correct S j else Role ⨾ isSome (w .checks j r) else Disabled ⨾ granted)
+  demands w (falseAcknowledgment i j r x) = forFalse i j r x
+  demands w (falseCheck i j r x) = forFalse i j r x
   demands w (falseEntry j r nc c) =
       ltb j sites else Range
       ⨾ leb 1 r else Range
@@ -173,9 +156,6 @@ module _ (S : System) where
   judge w t = verdict (demands w t)
 
   -- A refused step leaves everything as it was.
-  abbrev pub settle : Verdict → World → World → World
-  settle = settled
-
   abbrev pub step : World → Step → World
   step w t = settled (judge w t) (change w t) w
 

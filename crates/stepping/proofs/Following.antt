@@ -7,6 +7,7 @@ use mathlib.Core.Logic.{_⊎_, inl, inr, ⊎-elim}
 use Prim.Native.Nat.{ℕ, _+_, _*_, _≤_, _<_}
 use native.Mathlib.Omega.{arith}
 use lib.ListN.{length, length-append}
+use Rattle.refusals.specs.Refusals.{settled}
 use Rattle.refusals.specs.declared.Verdict.{Verdict}
 use Rattle.refusals.specs.declared.Verdict.the-variants.{Taken, Refused}
 use Rattle.theory.specs.Sets.{pick}
@@ -14,7 +15,7 @@ use Rattle.table.specs.declared.SiteTable.{SiteTable}
 use Rattle.register.specs.declared.Command.{Command}
 use Rattle.protocol.specs.System.{System}
 use Rattle.protocol.specs.Site as protocol
-use Rattle.protocol.specs.World.{World, Step, command, acknowledgment, check, falseAcknowledgment, falseCheck, falseEntry, turn, fastDelivery, logRead, roundEnd, judge, step, settle, change, acknowledgingTurn, proposingTurn}
+use Rattle.protocol.specs.World.{World, Step, command, acknowledgment, check, falseAcknowledgment, falseCheck, falseEntry, turn, fastDelivery, logRead, roundEnd, judge, step, change, acknowledgingTurn, proposingTurn}
 use Rattle.protocol.specs.CommonSequence.{isTaken}
 use Rattle.system.specs.Dash.{dash}
 use Rattle.entries.specs.declared.Entry.{Entry}
@@ -52,7 +53,7 @@ module _ (S : System) (w : World S) where
   stepped-log : (u : Step) → Longer (length (w .log)) (length (step S w u .log))
   stepped-log u = go (judge S w u)
     where
-      go : (v : Verdict) → Longer (length (w .log)) (length (settle S v (change S w u) w .log))
+      go : (v : Verdict) → Longer (length (w .log)) (length (settled v (change S w u) w .log))
       go Taken = changed-log u
       go (Refused r) = inl refl
 
