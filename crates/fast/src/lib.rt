@@ -28,7 +28,7 @@ fn one(test: bool) -> usize
 }
 
 // Whether so many senders have acknowledged a command in a round. Of those that there are not nothing was heard.
-// They are looked at one by one, and no more than are needed: the last set heard was often written just before.
+// They are looked at one by one, and no more than are needed.
 fn has_senders(site: &[u8], round: usize, m: usize, needed: usize) -> bool
     requires { ⌜ (length (now site) ≡ siteSize) × (1 ≤ round) × (round ≤ siteRounds) × (m < capacity) × (1 ≤ needed) ⌝ }
     ensures { λ r. ⌜ r ≡ leb needed (count maxSites (λ j. heardOf (now (site .entry)) j round m)) ⌝ }
