@@ -6,19 +6,19 @@ use mathlib.Core.Logic.{_⊎_, inl, inr, ⊎-elim}
 use mathlib.Core.List.{List}
 use lib.ListN.{length, getD}
 use lib.Seq.{getD-set-same, getD-set-other}
-use Prim.Native.Nat.{ℕ, zero, suc, _+_, _-_, _*_, _/_, _%_, _^_, _≤_, _<_, min, max}
+use Prim.Native.Nat.{ℕ, zero, suc, _+_, _*_, _/_, _%_, _^_, _≤_, _<_, min, max}
 use native.Mathlib.Nat.{div-one, div-eq-of-lt, pow-suc, lt-of-lt-of-le, mul-div-cancel, mul-mod-left, one-mul}
 use native.Mathlib.Numerals.{add-one, one-add}
 use native.Mathlib.Omega.{arith}
 use lib.Dec.{eqb, ltb, eqb·suc-suc, eqb·zero-suc, eqb·suc-zero, lit<}
 use lib.Arith.{digits-mod, lt-one}
-use lib.Pow.{pow-pos, pow-mono, pow-lt, shr-shr, shr-lt, shr-le, shl-exact}
+use lib.Pow.{pow-pos, pow-mono, pow-lt, shr-shr, shr-lt, shl-exact}
 use lib.Bits.{bitAnd, bitOr, bitXor, differ, and-step, or-step, xor-step, and-shr, or-shr, xor-shr, or-shifted-r}
 use lib.Bits.{or-lt, and-lt, xor-lt}
 use lib.Count.{ones, ones-step, trailingZeros, under}
-use borrow.Author.Tests.{lt-ltb, ltb-true, eq-eqb, ne-eqb, eqb-true}
+use borrow.Author.Tests.{lt-ltb, ltb-true, eq-eqb, ne-eqb}
 use Rattle.theory.specs.Sets.{pick, one, any, count}
-use Rattle.theory.specs.Counting.{either, not-true, not-false, never, same-test, lt-or-le}
+use Rattle.theory.specs.Counting.{either, not-true, not-false, never, lt-or-le}
 use Rattle.theory.specs.Counting.{all-at, all-of, any-some, any-none, count-none, count-first, count-ext}
 use Rattle.sets.specs.Sets.{has, word, least, inSet, setOf, emptyOf, withOf, unionOf, withoutOf, commonOf}
 use Rattle.sets.specs.Sets.{isEmptyOf, withinOf, sizeOf, firstOf}
@@ -390,30 +390,6 @@ empty-word s b = go (any 64 (inSet s)) (λ e. empty-same s b (ap not e)) (λ e i
         ne-eqb (s .bits) 0
         (λ e. let w = g refl e in never (inSet s (w .0)) (w .2) (ap (λ (x : ℕ). has x (w .0)) e ∙ has-empty (w .0)))
     go false f g = eq-eqb (s .bits) 0 (λ i. f refl i .bits)
-
-pub within-word : (s : Set) (n : ℕ) → s .bits < 2 ^ 64 → eqb (s .bits / 2 ^ n) 0 ≡ withinOf s n
-within-word s n b =
-    same-test (eqb (s .bits / 2 ^ n) 0) (withinOf s n)
-    (λ e. within-of s n (λ m l i. below m i (eqb-true (s .bits / 2 ^ n) 0 e) (lt-or-le m n)))
-    (λ h. eq-eqb (s .bits / 2 ^ n) 0 (has-ext 64 (s .bits / 2 ^ n) 0 (omega (arith, shr-le (s .bits) n)) (pow-pos 64) (none h)))
-  where
-    below : (m : ℕ) → inSet s m ≡ true → s .bits / 2 ^ n ≡ 0 → (m < n) ⊎ (n ≤ m) → m < n
-    below m i e (inl l) = l
-    below m i e (inr l) =
-        let z = sym (has-shr (s .bits) n (m - n)) ∙ ap (λ (x : ℕ). has x (m - n)) e ∙ has-empty (m - n) in
-        let k : n + (m - n) ≡ m = omega arith in
-        absurd (never (inSet s m) i (rw k at z))
-
-    outside : (h : withinOf s n ≡ true) (j : ℕ) (t : Bool) → inSet s (n + j) ≡ t → (n + j < 64) ⊎ (64 ≤ n + j) → t ≡ false
-    outside h j false e d = refl
-    outside h j true e (inl l) = absurd (let z = within-at s n h (n + j) l e in omega arith)
-    outside h j true e (inr l) = absurd (never (inSet s (n + j)) e (in-above s (n + j) b l))
-
-    none : withinOf s n ≡ true → (j : ℕ) → j < 64 → has (s .bits / 2 ^ n) j ≡ has 0 j
-    none h j l = has-shr (s .bits) n j ∙ outside h j (inSet s (n + j)) refl (lt-or-le (n + j) 64) ∙ sym (has-empty j)
-
-pub within-all : (s : Set) (n : ℕ) → 64 ≤ n → withinOf s n ≡ true
-within-all s n h = within-of s n (λ m l i. omega arith)
 
 pub size-word : (s : Set) → s .bits < 2 ^ 64 → ones (s .bits) ≡ sizeOf s
 size-word s b = ones-count 64 (s .bits) b

@@ -14,10 +14,10 @@ use Rattle.theory.specs.Sets.{count}
 use Rattle.theory.specs.Counting.{left, right, lt-or-le}
 use Rattle.theory.specs.Quorums.{Quorums}
 use Rattle.sets.specs.Sets.{has}
-use Rattle.sets.proofs.Laws.{has-above, ones-count}
+use Rattle.sets.proofs.Laws.{ones-count}
 use Rattle.refusals.specs.declared.Refusal.the-variants.{Table}
 use Rattle.table.specs.declared.Judged.the-variants.{Good, Refused}
-use Rattle.table.specs.Table.{maxSites, maxFaults, goodTable, isGood, judgeTable, roundedUpHalf, faultyOf, faultyCountOf, nAckOf, nChkOf, majorityOf}
+use Rattle.table.specs.Table.{maxSites, maxFaults, goodTable, isGood, judgeTable, roundedUpHalf, faultyCountOf, nAckOf, nChkOf, majorityOf}
 use Rattle.table.specs.declared.SiteTable.{SiteTable}
 
 -- The limits, one by one.
@@ -58,12 +58,6 @@ table-quorums n f mask h =
       reachable = (omega arith, omega arith);
     }
 
-pub few-faulty : (n f mask : ℕ) → goodTable n f mask ≡ true → count n (has mask) ≤ f
-few-faulty n f mask h = limits n f mask h .few
-
-pub no-faulty-beyond : (n f mask : ℕ) → goodTable n f mask ≡ true → (i : ℕ) → n ≤ i → has mask i ≡ false
-no-faulty-beyond n f mask h i l = has-above n mask i (limits n f mask h .no-bit) l
-
 -- The same for a table as a struct.
 pub good-limits : (t : SiteTable) → isGood t ≡ true → Limits (t .sites) (t .faults) (t .mask)
 good-limits t h = limits (t .sites) (t .faults) (t .mask) h
@@ -73,9 +67,6 @@ good-quorums t h = table-quorums (t .sites) (t .faults) (t .mask) h
 
 pub good-few : (t : SiteTable) → isGood t ≡ true → faultyCountOf t ≤ t .faults
 good-few t h = good-limits t h .few
-
-pub good-beyond : (t : SiteTable) → isGood t ≡ true → (i : ℕ) → t .sites ≤ i → faultyOf t i ≡ false
-good-beyond t h i l = no-faulty-beyond (t .sites) (t .faults) (t .mask) h i l
 
 -- A table that was judged good is within the limits, and has the numbers that were judged.
 pub judged-good : (n f mask : ℕ) (t : SiteTable) → judgeTable n f mask ≡ Good t

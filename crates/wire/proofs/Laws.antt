@@ -83,13 +83,6 @@ pub read-after : (n : ℕ) (s : List ℕ) (at : ℕ) (bs : List ℕ) (k : ℕ) �
 unfolding readLe
 read-after n s at bs k h g = ap (λ (l : List ℕ). value (take n l)) (drop-after s at bs k h g)
 
-pub splice-next : (p s bs : List ℕ) (at : ℕ) → length p ≡ at → at + length bs ≤ length s → splice (p ++ drop at s) at bs ≡ (p ++ bs) ++ drop (at + length bs) s
-unfolding splice
-splice-next p s bs at e h =
-    let q : drop (at + length bs) (p ++ drop at s) ≡ drop (at + length bs) s =
-    sym (drop-drop (length bs) at (p ++ drop at s)) ∙ ap (drop (length bs)) (drop-at p (drop at s) at e) ∙ drop-drop (length bs) at s in
-    rw (take-at p (drop at s) at e, q) refl
-
 pub mid-splice : (a k : ℕ) (xs ys : List ℕ) → length ys ≡ k → putMid a k xs ys ≡ splice xs a ys
 unfolding splice
 mid-splice a k xs ys e = rw (append-assoc, ← e, drop-drop) refl
