@@ -40,7 +40,7 @@ module _ (t : SiteTable) (commands : ℕ) (log : List ℕ) (entries j r : ℕ) (
   this = record { site = j; round = r; nc = nc; c = c }
 
   abbrev answered : Verdict → ℕ → List ℕ → Type 0
-  answered v k after = Entered t commands (falseEntry j r (inSet nc) (inSet c)) log entries (record { verdict = v; entries = k }) after
+  answered v k after = Entered t commands (falseEntry j r (inSet nc) (inSet c)) log entries v after k
 
   told : (book : List Command) (sites sent : List ℕ) → commands ≡ length book
       → judge (dash t book) (worldOf t book (lent sites log entries sent)) (falseEntry j r (inSet nc) (inSet c))
@@ -76,12 +76,12 @@ module _ (t : SiteTable) (commands : ℕ) (log : List ℕ) (entries j r : ℕ) (
         entry-third h = entry-refused ThirdEntry (by-number ∙ ap (λ (b : Bool). pick (not b) Taken (Refused ThirdEntry)) h)
 
         pub entered : third ≡ false → Fits this → (entries + 1) * entrySize ≤ length log → {after : List ℕ} → after ≡ writeEntry log entries this
-            → answered Taken (entries + 1) after
-        entered h fits room {after} ea =
-            λ book sites sent q g small.
+            → {n : ℕ} → n ≡ entries + 1 → answered Taken n after
+        entered h fits room {after} ea en =
+            subst (λ (k : ℕ). answered Taken k after) (sym en) (λ book sites sent q g small.
             let b = lent sites log entries sent in
             taken t book b g (falseEntry j r (inSet nc) (inSet c))
             (told book sites sent q ∙ by-number ∙ ap (λ (y : Bool). pick (not y) Taken (Refused ThirdEntry)) h)
             (subst (λ (l : List ℕ). HoldsWorld t book (lent sites l (entries + 1) sent) (append (dash t book) (viewEntry this) (worldOf t book b))) (sym ea)
             (entry-holds t book b (kept t book b g small) this fits (ap (λ (m : ℕ). inRangeOf (t .sites) m this) (sym q) ∙ sym ex ∙ not-false x hx) (ltb-true (recovery.entries j r (logTo log entries)) 2 (sym few ∙ ap not h)) room))
-            (ea ∙ ap (writeEntry log entries) (sym (entry-back this (fits .nc) (fits .c)))) refl (λ i l. past-same (siteAt sites i))
+            (ea ∙ ap (writeEntry log entries) (sym (entry-back this (fits .nc) (fits .c)))) refl (λ i l. past-same (siteAt sites i)))

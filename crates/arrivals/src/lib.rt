@@ -10,7 +10,7 @@ ghost use Rattle.protocol.specs.World as protocol;
 ghost use Rattle.layout.specs.Layout.{siteSize, siteRounds};
 ghost use Rattle.site.specs.Steps.{Received, Heard};
 ghost use Rattle.entries.specs.Entries.{entrySize};
-ghost use Rattle.rounds.specs.Rounds.{Kept};
+ghost use Rattle.rounds.specs.Rounds.{entriesIn, Kept};
 ghost use Rattle.sent.specs.Sent.{GoodSent};
 ghost use Rattle.world.specs.Parts.{AtSite, Arrived, Entered};
 ghost use Rattle.arrivals.specs.Messages.{messageVerdict};
@@ -22,7 +22,6 @@ use sent::Message;
 use sets::Set;
 use table::Rules;
 use table::SiteTable;
-use world::Stepped;
 
 // A set joins what site i received.
 fn receive(sites: &mut [u8], i: usize, set: Set)
@@ -197,16 +196,18 @@ pub fn false_check(
 // 06: an entry of a faulty site reaches the log.
 pub fn false_entry(
     log: &mut [u8],
-    entries: usize,
-    kept: &[u64],
+    kept: &mut [u64],
     rules: Rules,
+    rows: &[u64],
     from: u8,
     round: u8,
     nc: Set,
     c: Set,
-) -> Stepped
-    requires { ⌜ ((entries + 1) * entrySize ≤ length (now log)) × (isGood (rules .table) ≡ true) × ((rows : List ℕ) × Kept (rules .table) rows (now log) entries (now kept)) ⌝ }
-    ensures { λ s. ⌜ Entered (rules .table) (rules .commands) (protocol.falseEntry from round (inSet nc) (inSet c)) (now (log .entry)) entries s (now (log .exit)) ⌝ }
+) -> Verdict
+    requires { ⌜ ((entriesIn (now kept) + 1) * entrySize ≤ length (now log)) × (isGood (rules .table) ≡ true) × Kept (rules .table) (now rows) (now log) (now kept)
+        × (length (now rows) ≡ capacity) ⌝ }
+    ensures { λ v. ⌜ Entered (rules .table) (rules .commands) (protocol.falseEntry from round (inSet nc) (inSet c)) (now (log .entry)) (entriesIn (now (kept .entry))) v
+        (now (log .exit)) (entriesIn (now (kept .exit))) × Kept (rules .table) (now (rows .entry)) (now (log .exit)) (now (kept .exit)) ⌝ }
 {
     let table = rules.table;
     let j = from as usize;
@@ -218,20 +219,14 @@ pub fn false_entry(
         c: c,
     };
     if !entries::in_range(entry, table.sites, rules.commands) {
-        let verdict = Verdict::Refused(Refusal::Range);
-        return Stepped { verdict, entries };
+        return Verdict::Refused(Refusal::Range);
     }
     if !table.is_faulty(j) {
-        let verdict = Verdict::Refused(Refusal::Role);
-        return Stepped { verdict, entries };
+        return Verdict::Refused(Refusal::Role);
     }
-    if rounds::third(kept, j, r) {
-        let verdict = Verdict::Refused(Refusal::ThirdEntry);
-        return Stepped { verdict, entries };
+    if rounds::third(&kept[..], j, r) {
+        return Verdict::Refused(Refusal::ThirdEntry);
     }
-    entries::write_entry(log, entries, entry);
-    Stepped {
-        verdict: Verdict::Taken,
-        entries: entries + 1,
-    }
+    rounds::append(log, kept, entry, table, rows);
+    Verdict::Taken
 }

@@ -34,7 +34,7 @@ use Rattle.recovery.specs.Decisions.{decisionOf}
 use Rattle.recovery.proofs.Within.{sets-within}
 use Rattle.ending.specs.Ending.{Told, RoundEnded}
 use Rattle.ending.proofs.Telling.{told-none, told-decided}
-use Rattle.rounds.specs.Rounds.{keptRounds, Kept}
+use Rattle.rounds.specs.Rounds.{keptRounds, entriesIn, Kept}
 use Rattle.world.specs.World.{siteAt, worldOf}
 use Rattle.world.specs.Parts.{lent, AtSite}
 use Rattle.world.proofs.Sites.{lent-part}
@@ -117,37 +117,37 @@ pub read-room : (t : SiteTable) (commands : ℕ) (sites log : List ℕ) (entries
 read-room t commands sites log entries i g a e = let p = g .position i a in let l = g .room in (omega arith, omega arith)
 
 -- What the decision kept of the log tells site i.
-module _ (t : SiteTable) (table : isGood t ≡ true) (bytes sites log : List ℕ) (entries : ℕ) {kept : List ℕ} (good : KeptLog t bytes sites log entries kept) (i : ℕ) (a : i < t .sites)
+module _ (t : SiteTable) (table : isGood t ≡ true) (bytes sites log : List ℕ) {kept : List ℕ} (good : KeptLog t bytes sites log kept) (i : ℕ) (a : i < t .sites)
     {k r : ℕ} (ek : k ≡ headOf (siteAt sites i) .position) (round : r ≡ headOf (siteAt sites i) .round)
-    {d : Decision} (looked-up : (t : SiteTable) (rows log : List ℕ) (n : ℕ) → Kept t rows log n kept → k ≤ n → d ≡ decisionOf (rowsSystem t rows) (decide (rowsSystem t rows) r (logTo log k))) where
+    {d : Decision} (looked-up : (t : SiteTable) (rows log : List ℕ) → Kept t rows log kept → k ≤ entriesIn kept → d ≡ decisionOf (rowsSystem t rows) (decide (rowsSystem t rows) r (logTo log k))) where
   abbrev commands : ℕ
   commands = length (commandsOf bytes)
 
-  read : (k ≤ entries) × (k * entrySize ≤ length log)
-  read = read-room t commands sites log entries i (good .good) a ek
+  read : (k ≤ (entriesIn kept)) × (k * entrySize ≤ length log)
+  read = read-room t commands sites log (entriesIn kept) i (good .good) a ek
 
   abbrev rows : List ℕ
   rows = conflictRows bytes
 
   ed : d ≡ decisionOf (rowsSystem t rows) (decide (rowsSystem t rows) r (logTo log k))
-  ed = looked-up t rows log entries (good .words) (read .0)
+  ed = looked-up t rows log (good .words) (read .0)
 
   logged-read : (p : ℕ) → p < k → inRangeOf (t .sites) commands (entryOf log p) ≡ true
   logged-read p l = good .good .logged p (let q = read .0 in omega arith)
 
-  same : decision (dash t (commandsOf bytes)) (view t (commandsOf bytes) (siteAt sites i)) (logTo log entries) ≡ decide (dash t (commandsOf bytes)) r (logTo log k)
+  same : decision (dash t (commandsOf bytes)) (view t (commandsOf bytes) (siteAt sites i)) (logTo log (entriesIn kept)) ≡ decide (dash t (commandsOf bytes)) r (logTo log k)
   same =
-      (λ z. decide (dash t (commandsOf bytes)) (sym round z) (take (sym ek z) (logTo log entries)))
-      ∙ ap (decide (dash t (commandsOf bytes)) r) (log-take log k entries (read .0))
+      (λ z. decide (dash t (commandsOf bytes)) (sym round z) (take (sym ek z) (logTo log (entriesIn kept))))
+      ∙ ap (decide (dash t (commandsOf bytes)) r) (log-take log k (entriesIn kept) (read .0))
 
-  pub site-undecided : (nc c : Set) → d ≡ Undecided → Told t (commandsOf bytes) false nc c (view t (commandsOf bytes) (siteAt sites i)) (logTo log entries)
+  pub site-undecided : (nc c : Set) → d ≡ Undecided → Told t (commandsOf bytes) false nc c (view t (commandsOf bytes) (siteAt sites i)) (logTo log (entriesIn kept))
   site-undecided nc c h =
-      told-none t table bytes rows log (good .bytes) k r (read .1) logged-read refl ed (view t (commandsOf bytes) (siteAt sites i)) (logTo log entries)
+      told-none t table bytes rows log (good .bytes) k r (read .1) logged-read refl ed (view t (commandsOf bytes) (siteAt sites i)) (logTo log (entriesIn kept))
       same (sym round) nc c h
 
-  pub site-decided : (x : Sets) → d ≡ Decided x → Told t (commandsOf bytes) true (x .nc) (x .c) (view t (commandsOf bytes) (siteAt sites i)) (logTo log entries)
+  pub site-decided : (x : Sets) → d ≡ Decided x → Told t (commandsOf bytes) true (x .nc) (x .c) (view t (commandsOf bytes) (siteAt sites i)) (logTo log (entriesIn kept))
   site-decided x h =
-      told-decided t table bytes rows log (good .bytes) k r (read .1) logged-read refl ed (view t (commandsOf bytes) (siteAt sites i)) (logTo log entries)
+      told-decided t table bytes rows log (good .bytes) k r (read .1) logged-read refl ed (view t (commandsOf bytes) (siteAt sites i)) (logTo log (entriesIn kept))
       same (sym round) x h
 
   pub sets-fit : (n : ℕ) → commands ≡ n → (x : Sets) → d ≡ Decided x → (withinOf (x .nc) n ≡ true) × (withinOf (x .c) n ≡ true)

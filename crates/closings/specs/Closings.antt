@@ -18,7 +18,7 @@ use Rattle.layout.specs.Layout.{siteSize, headOf, view}
 use Rattle.layout.specs.Good.{Good}
 use Rattle.layout.specs.Step.{Carried}
 use Rattle.entries.specs.Entries.{entrySize, entryOf, inRangeOf}
-use Rattle.rounds.specs.Rounds.{Kept}
+use Rattle.rounds.specs.Rounds.{entriesIn, Kept}
 use Rattle.world.specs.World.{siteAt, GoodWorld, Outcome}
 use Rattle.world.specs.Parts.{lent}
 
@@ -34,10 +34,10 @@ pub record GoodLog (t : SiteTable) (commands : ℕ) (sites log : List ℕ) (entr
   pub position : (i : ℕ) → i < t .sites → headOf (siteAt sites i) .position ≤ entries
 
 -- A good log in bytes, and what is kept of it by the conflicts of a book.
-pub record KeptLog (t : SiteTable) (book sites log : List ℕ) (entries : ℕ) (kept : List ℕ) : Type 0 where
-  pub good : GoodLog t (length (commandsOf book)) sites log entries
+pub record KeptLog (t : SiteTable) (book sites log kept : List ℕ) : Type 0 where
+  pub good : GoodLog t (length (commandsOf book)) sites log (entriesIn kept)
   pub bytes : (k : ℕ) → getD log k 0 < 256
-  pub words : Kept t (conflictRows book) log entries kept
+  pub words : Kept t (conflictRows book) log kept
 
 -- A fast delivery at a site with the bytes b.
 abbrev pub FastAt : SiteTable → List Command → ℕ → Verdict → List ℕ → List ℕ → Type 0

@@ -8,6 +8,7 @@ ghost use Rattle.table.specs.Table.{isGood};
 ghost use Rattle.commands.specs.Book.{commandsOf};
 ghost use Rattle.protocol.specs.World as protocol;
 ghost use Rattle.deliver.specs.Delivering.{Noted};
+ghost use Rattle.rounds.specs.Rounds.{entriesIn};
 ghost use Rattle.closings.specs.Closings.{GoodSites, KeptLog, Closed};
 use layout::Site;
 use recovery::Decision;
@@ -54,10 +55,10 @@ pub fn round_end(
     places: &[u16],
     site: u8,
 ) -> Verdict
-    requires { ⌜ GoodSites (rules .table) (rules .commands) (now sites) × ((log : List ℕ) × (entries : ℕ) × KeptLog (rules .table) (now book) (now sites) log entries (now kept))
+    requires { ⌜ GoodSites (rules .table) (rules .commands) (now sites) × ((log : List ℕ) × KeptLog (rules .table) (now book) (now sites) log (now kept))
         × (isGood (rules .table) ≡ true) × Noted (now book) (now places) × (length (commandsOf (now book)) ≡ rules .commands) ⌝ }
-    ensures { λ v. ⌜ ((log : List ℕ) (entries : ℕ) → KeptLog (rules .table) (now (book .entry)) (now (sites .entry)) log entries (now (kept .entry))
-        → Closed (rules .table) (commandsOf (now (book .entry))) (protocol.roundEnd site) log entries (now (sites .entry)) v (now (sites .exit))) ⌝ }
+    ensures { λ v. ⌜ ((log : List ℕ) → KeptLog (rules .table) (now (book .entry)) (now (sites .entry)) log (now (kept .entry))
+        → Closed (rules .table) (commandsOf (now (book .entry))) (protocol.roundEnd site) log (entriesIn (now (kept .entry))) (now (sites .entry)) v (now (sites .exit))) ⌝ }
 {
     let table = rules.table;
     let commands = rules.commands;

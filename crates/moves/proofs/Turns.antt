@@ -40,7 +40,7 @@ use Rattle.layout.specs.Step.{settled}
 use Rattle.site.specs.declared.Turn.{Turn}
 use Rattle.site.specs.declared.Turn.the-variants as turns
 use Rattle.site.specs.Steps.{undeliveredOf, TookTurn, Turned, answerTo}
-use Rattle.rounds.specs.Rounds.{Kept}
+use Rattle.rounds.specs.Rounds.{entriesIn, Kept}
 use Rattle.entries.specs.declared.Entry.{Entry}
 use Rattle.entries.specs.Entries.{logTo, writeEntry, viewEntry, inRangeOf}
 use Rattle.entries.proofs.Bytes.{Fits}
@@ -60,16 +60,16 @@ use Rattle.moves.proofs.Words.{undelivered-word, unacknowledged-word, p
 -- The conflict test by the rows and the number of entries by what is kept of the log are those that the turn asks for.
 pub turned-by : (rows kept : List ℕ) (i : ℕ) (b : List ℕ) {u : Set} {f third : Bool} {round : ℕ} {r : Turn} {after : List ℕ}
     → u ≡ undeliveredOf (headOf b) → f ≡ freeBy rows (inSet u) → round ≡ headOf b .round
-    → ((t : SiteTable) (rows log : List ℕ) (k : ℕ) → Kept t rows log k kept → third ≡ not (ltb (recovery.entries i round (logTo log k)) 2))
+    → ((t : SiteTable) (rows log : List ℕ) → Kept t rows log kept → third ≡ not (ltb (recovery.entries i round (logTo log (entriesIn kept))) 2))
     → TookTurn f third b r after → TurnedBy rows kept i r b after
 turned-by rows kept i b {u} eu ef er et took =
-    λ t book log entries ec ek g.
-    took t (commandsOf book) i (logTo log entries) g
+    λ t book log ec ek g.
+    took t (commandsOf book) i (logTo log (entriesIn kept)) g
     (ef
     ∙ (λ k. freeBy (ec k) (inSet u))
     ∙ free-rows book t (inSet u)
     ∙ ap (free (dash t (commandsOf book))) (ap inSet eu ∙ (λ k m. in-without (headOf b .received) (headOf b .delivered) m k)))
-    (ap not (et t rows log entries ek) ∙ not-not (ltb (recovery.entries i _ (logTo log entries)) 2) ∙ (λ k. ltb (recovery.entries i (er k) (logTo log entries)) 2))
+    (ap not (et t rows log ek) ∙ not-not (ltb (recovery.entries i _ (logTo log (entriesIn kept))) 2) ∙ (λ k. ltb (recovery.entries i (er k) (logTo log (entriesIn kept))) 2))
 
 -- ---- what an answer tells
 
@@ -148,12 +148,13 @@ module _ (t : SiteTable) (bytes rows : List ℕ) (b : Buffers) (i : ℕ) (ready 
         subst (λ (s : protocol.Site (dash t book)). knownTo (length book) (some (undelivered (dash t book) s)) ≡ true) (sym at)
         (undelivered-known t book (siteAt (b .sites) i) part-good part-small)
 
-    module _ {f : Bool} (ef : f ≡ faultyOf t i) (hf : f ≡ false) {r : Turn} {sites kept : List ℕ} (ek : Kept t rows (b .log) (b .entries) kept)
+    module _ {f : Bool} (ef : f ≡ faultyOf t i) (hf : f ≡ false) {r : Turn} {sites kept : List ℕ} (en : b .entries ≡ entriesIn kept) (ek : Kept t rows (b .log) kept)
         (h : AtSite i (TurnedBy rows kept i r) (b .sites) sites) where
       turned : Turned t book i (world .log) (world .site i) (siteAt (b .sites) i) r (h .new)
       turned =
           subst (λ (s : protocol.Site (dash t book)). Turned t book i (world .log) s (siteAt (b .sites) i) r (h .new)) (sym at)
-          (h .did t bytes (b .log) (b .entries) (ready .conflicts) ek part-good)
+          (subst (λ (n : ℕ). Turned t book i (logTo (b .log) n) (view t book (siteAt (b .sites) i)) (siteAt (b .sites) i) r (h .new)) (sym en)
+          (h .did t bytes (b .log) (ready .conflicts) ek part-good))
 
       judged : judge (dash t book) world (turn i) ≡ verdict (forTurn (dash t book) i (world .site i) (world .log))
       judged =
@@ -288,8 +289,9 @@ module _ (t : SiteTable) (bytes rows : List ℕ) (b : Buffers) (i : ℕ) (ready 
         pub proposed : (k : ℕ) → k ≡ headOf (siteAt (b .sites) i) .round → {after log : List ℕ}
             → sent.Holds after (checkedIn (b .sent) (cellOf i k) x) (acksOf (b .sent)) (checked i k (inSet x) (checksOf (b .sent)))
             → log ≡ writeEntry (b .log) (b .entries) (record { site = i; round = k; nc = p .nc; c = p .c })
-            → Outcome t book (turn i) b Taken (lent sites log (b .entries + 1) after)
-        proposed k ek {after} {log} s el =
+            → {n : ℕ} → n ≡ b .entries + 1 → Outcome t book (turn i) b Taken (lent sites log n after)
+        proposed k ek {after} {log} s el more =
+            subst (λ (n : ℕ). Outcome t book (turn i) b Taken (lent sites log n after)) (sym more) (
             let q : k ≡ world .site i .round = ek ∙ sym (λ z. at z .round) in
             let new : sent.Holds after (checkedIn (b .sent) (cellOf i (world .site i .round)) (setOf capacity (undelivered (dash t book) (world .site i)))) (acksOf (b .sent))
             (checked i (world .site i .round) (undelivered (dash t book) (world .site i)) (checksOf (b .sent))) =
@@ -321,4 +323,4 @@ module _ (t : SiteTable) (bytes rows : List ℕ) (b : Buffers) (i : ℕ) (ready 
             (new .bytes
             ∙ sym (ap (λ (y : Bool). pick y (acknowledgedIn (b .sent) (cellOf i (world .site i .round)) (setOf capacity (undelivered (dash t book) (world .site i))))
             (checkedIn (b .sent) (cellOf i (world .site i .round)) (setOf capacity (undelivered (dash t book) (world .site i))))) (proposal-told .1)))
-            turned-past
+            turned-past)

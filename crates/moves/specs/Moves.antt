@@ -18,7 +18,7 @@ use Rattle.layout.specs.Good.{Good}
 use Rattle.site.specs.declared.Turn.{Turn}
 use Rattle.site.specs.Steps.{Turned}
 use Rattle.entries.specs.Entries.{entrySize, logTo}
-use Rattle.rounds.specs.Rounds.{Kept}
+use Rattle.rounds.specs.Rounds.{entriesIn, Kept}
 use Rattle.sent.specs.Sent.{maxAcknowledgments}
 use Rattle.world.specs.World.{Buffers, GoodWorld, worldOf, Outcome}
 use Rattle.world.specs.Parts.{lent}
@@ -36,8 +36,8 @@ pub record Ready (t : SiteTable) (book rows : List ℕ) (b : Buffers) (u : Step)
 -- The turn of site i with the bytes b, by the rows of a book and what is kept of a log.
 abbrev pub TurnedBy : List ℕ → List ℕ → ℕ → Turn → List ℕ → List ℕ → Type 0
 TurnedBy rows kept i r b after =
-    (t : SiteTable) (book log : List ℕ) (entries : ℕ) → rows ≡ conflictRows book → Kept t rows log entries kept → Good (t .sites) (length (commandsOf book)) b
-    → Turned t (commandsOf book) i (logTo log entries) (view t (commandsOf book) b) b r after
+    (t : SiteTable) (book log : List ℕ) → rows ≡ conflictRows book → Kept t rows log kept → Good (t .sites) (length (commandsOf book)) b
+    → Turned t (commandsOf book) i (logTo log (entriesIn kept)) (view t (commandsOf book) b) b r after
 
 -- A log read, which changes a site only, of any log with so many entries.
 abbrev pub LogRead : SiteTable → ℕ → ℕ → List ℕ → Verdict → List ℕ → Type 0

@@ -8,7 +8,7 @@ ghost use Rattle.table.specs.Table.{maxSites};
 ghost use Rattle.commands.specs.Book.{commandsOf};
 ghost use Rattle.protocol.specs.World as protocol;
 ghost use Rattle.layout.specs.Layout.{siteSize, headOf};
-ghost use Rattle.rounds.specs.Rounds.{keptRounds, keptWords, Kept};
+ghost use Rattle.rounds.specs.Rounds.{keptRounds, keptWords, entriesIn, Kept};
 ghost use Rattle.world.specs.World.{Outcome};
 ghost use Rattle.world.specs.Parts.{lent};
 ghost use Rattle.moves.specs.Moves.{Ready, TurnedBy, LogRead};
@@ -18,7 +18,6 @@ use refusals::Refusal;
 use refusals::Verdict;
 use site::Turn;
 use table::Rules;
-use world::Stepped;
 
 // Site i, of these bytes, takes its turn, by the rows of conflicts and what is kept of the log. Conflicts are looked for only where the turn is enabled.
 fn turn_by(site: &mut [u8], kept: &[u64], rows: &[u64], i: usize) -> Turn
@@ -36,41 +35,35 @@ pub fn turn(
     sites: &mut [u8],
     log: &mut [u8],
     sent: &mut [u8],
-    entries: usize,
-    kept: &[u64],
+    kept: &mut [u64],
     rules: Rules,
     rows: &[u64],
     site: u8,
-) -> Stepped
-    requires { ⌜ ((book : List ℕ) × Ready (rules .table) book (now rows) (lent (now sites) (now log) entries (now sent)) (protocol.turn site))
-        × Kept (rules .table) (now rows) (now log) entries (now kept) ⌝ }
-    ensures { λ r. ⌜ ((book : List ℕ) → Ready (rules .table) book (now (rows .entry)) (lent (now (sites .entry)) (now (log .entry)) entries (now (sent .entry))) (protocol.turn site)
-        → Outcome (rules .table) (commandsOf book) (protocol.turn site) (lent (now (sites .entry)) (now (log .entry)) entries (now (sent .entry)))
-        (r .verdict) (lent (now (sites .exit)) (now (log .exit)) (r .entries) (now (sent .exit)))) ⌝ }
+) -> Verdict
+    requires { ⌜ ((book : List ℕ) × Ready (rules .table) book (now rows) (lent (now sites) (now log) (entriesIn (now kept)) (now sent)) (protocol.turn site))
+        × Kept (rules .table) (now rows) (now log) (now kept) ⌝ }
+    ensures { λ v. ⌜ ((book : List ℕ) → Ready (rules .table) book (now (rows .entry)) (lent (now (sites .entry)) (now (log .entry)) (entriesIn (now (kept .entry))) (now (sent .entry))) (protocol.turn site)
+        → Outcome (rules .table) (commandsOf book) (protocol.turn site) (lent (now (sites .entry)) (now (log .entry)) (entriesIn (now (kept .entry))) (now (sent .entry)))
+        v (lent (now (sites .exit)) (now (log .exit)) (entriesIn (now (kept .exit))) (now (sent .exit))))
+        × Kept (rules .table) (now (rows .entry)) (now (log .exit)) (now (kept .exit)) ⌝ }
 {
     let table = rules.table;
     let i = site as usize;
     if i >= table.sites {
-        let verdict = Verdict::Refused(Refusal::Range);
-        return Stepped { verdict, entries };
+        return Verdict::Refused(Refusal::Range);
     }
     if table.is_faulty(i) {
-        let verdict = Verdict::Refused(Refusal::Role);
-        return Stepped { verdict, entries };
+        return Verdict::Refused(Refusal::Role);
     }
     let from = i * Site::SIZE;
     let to = from + Site::SIZE;
     let round = layout::round(&sites[from..to]) as usize;
-    let answer = turn_by(&mut sites[from..to], kept, rows, i);
+    let answer = turn_by(&mut sites[from..to], &kept[..], rows, i);
     match answer {
-        Turn::Refused(refusal) => Stepped {
-            verdict: Verdict::Refused(refusal),
-            entries: entries,
-        },
+        Turn::Refused(refusal) => Verdict::Refused(refusal),
         Turn::Acknowledged(set) => {
             sent::add_acknowledgment(sent, i, round, set);
-            let verdict = Verdict::Taken;
-            Stepped { verdict, entries }
+            Verdict::Taken
         }
         Turn::Proposed { check, entry } => {
             sent::put_check(sent, i, round, check);
@@ -82,11 +75,8 @@ pub fn turn(
                 nc: nc,
                 c: c,
             };
-            entries::write_entry(log, entries, proposed);
-            Stepped {
-                verdict: Verdict::Taken,
-                entries: entries + 1,
-            }
+            rounds::append(log, kept, proposed, table, rows);
+            Verdict::Taken
         }
     }
 }

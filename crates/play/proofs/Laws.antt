@@ -25,12 +25,14 @@ use Rattle.steps.specs.declared.Reading.the-variants.{Whole, Unreadable}
 use Rattle.steps.specs.Steps.{sizeOf, readStep, stepsOf}
 use Rattle.steps.specs.Meaning.{meaning}
 use Rattle.steps.proofs.Walk.{more-at, bad-at, end-at}
+use Rattle.entries.proofs.Logs.{log-length}
 use Rattle.lines.specs.Lines.{stepLine}
 use Rattle.lines.proofs.Laws.{step-length}
 use Rattle.runs.specs.Run.{report, stepLines, worldAfter}
 use Rattle.world.specs.World.{Buffers, siteAt, PastRows, worldOf, HoldsWorld, Outcome}
+use Rattle.world.specs.Parts.{lent}
 use Rattle.world.proofs.Past.{past-same, past-more}
-use Rattle.play.specs.Played.{lineRoom, linesRoom, PlayedAll}
+use Rattle.play.specs.Played.{lineRoom, linesRoom, lastWorld, HoldsLast, PlayedAll}
 
 -- ---- the line of a step
 
@@ -69,6 +71,12 @@ module _ (t : SiteTable) (book : List Command) where
         after = refl;
         kept = λ i l. past-same (siteAt (b .sites) i);
       }
+
+  -- Buffers that hold the last world have as many log entries as it has.
+  last-held : (steps : List ℕ) {b : Buffers} → HoldsWorld t book b (lastWorld t book (stepsOf steps)) → HoldsLast t book (stepsOf steps) (b .sites) (b .log) (b .sent)
+  last-held steps {b} h =
+      subst (λ (k : ℕ). HoldsWorld t book (lent (b .sites) (b .log) k (b .sent)) (lastWorld t book (stepsOf steps)))
+      (sym (log-length (b .log) (b .entries)) ∙ (λ i. length (h .says i .log))) h
 
   module _ (steps before : List ℕ) (from : ℕ) {earlier : List ℕ} {b : Buffers} {out : List ℕ} {end at number : ℕ} (p : Playing steps before from earlier b out end at number) where
     now-world : worldOf t book b ≡ play (dash t book) (start (dash t book)) (p .past)
@@ -143,11 +151,11 @@ module _ (t : SiteTable) (book : List Command) where
         none = end-at steps next (omega arith)
 
     -- No bytes are left.
-    pub playing-end : length steps ≤ at → end ≤ from + linesRoom → PlayedAll t book steps before out from end earlier b
+    pub playing-end : length steps ≤ at → end ≤ from + linesRoom → PlayedAll t book steps before out from end earlier (b .sites) (b .log) (b .sent)
     playing-end g r =
         record {
           lines = left-none (subst (λ (rs : List Reading). Left out end (stepLines t book number past rs) before from whole) left (p .lines));
-          world = subst (λ (x : World (dash t book)). HoldsWorld t book b x) (ap (worldAfter t book past) (sym left) ∙ p .after) (p .world);
+          world = last-held steps (subst (λ (x : World (dash t book)). HoldsWorld t book b x) (ap (worldAfter t book past) (sym left) ∙ p .after) (p .world));
           room = r;
           past = p .kept;
         }

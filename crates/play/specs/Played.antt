@@ -11,14 +11,16 @@ use Rattle.table.specs.Table.{maxSites, isGood}
 use Rattle.register.specs.declared.Command.{Command}
 use Rattle.commands.specs.Book.{commandsOf}
 use Rattle.conflicts.specs.Conflicts.{conflictRows}
-use Rattle.protocol.specs.World.{start}
+use Rattle.protocol.specs.World.{World, start}
 use Rattle.system.specs.Dash.{dash, lastRound}
 use Rattle.print.specs.Print.{Wrote}
+use Rattle.steps.specs.declared.Reading.{Reading}
 use Rattle.steps.specs.Steps.{stepsOf}
 use Rattle.runs.specs.Run.{maxRun, stepLines, worldAfter}
 use Rattle.deliver.specs.Delivering.{Noted}
 use Rattle.entries.specs.Entries.{entrySize}
 use Rattle.world.specs.World.{Buffers, PastRows, HoldsWorld}
+use Rattle.world.specs.Parts.{lent}
 
 -- The bytes of the line of a refused step, at most: five digits of its place, two of the refusal.
 abbrev pub lineRoom : ℕ
@@ -43,10 +45,19 @@ pub record Playable (rules : Rules) (book places rows steps out : List ℕ) (fro
   pub room : from + linesRoom ≤ length out
   pub world : HoldsWorld (rules .table) (commandsOf book) b (start (dash (rules .table) (commandsOf book)))
 
+module _ (t : SiteTable) (book : List Command) (steps : List Reading) where
+  -- The world after the steps of a run.
+  abbrev pub lastWorld : World (dash t book)
+  lastWorld = worldAfter t book (start (dash t book)) steps
+
+  -- Buffers of just their sizes hold that world: every site, as many log entries as it has, and what was sent.
+  abbrev pub HoldsLast : List ℕ → List ℕ → List ℕ → Type 0
+  HoldsLast sites log sent = HoldsWorld t book (lent sites log (length (lastWorld .log)) sent) lastWorld
+
 -- Steps played from the start of a run: `before` became `after` by the lines of the refused ones, written from `from` to `end`.
 -- What is past the rows of the sites is as it was in `earlier`.
-pub record PlayedAll (t : SiteTable) (book : List Command) (steps before after : List ℕ) (from end : ℕ) (earlier : List ℕ) (b : Buffers) : Type 0 where
+pub record PlayedAll (t : SiteTable) (book : List Command) (steps before after : List ℕ) (from end : ℕ) (earlier sites log sent : List ℕ) : Type 0 where
   pub lines : Wrote after end before from (stepLines t book 1 (start (dash t book)) (stepsOf steps))
-  pub world : HoldsWorld t book b (worldAfter t book (start (dash t book)) (stepsOf steps))
+  pub world : HoldsLast t book (stepsOf steps) sites log sent
   pub room : end ≤ from + linesRoom
-  pub past : PastRows (t .sites) earlier (b .sites)
+  pub past : PastRows (t .sites) earlier sites

@@ -4,19 +4,13 @@ ghost use lib.ListN.{length};
 ghost use Rattle.commands.specs.Book.{commandsOf};
 ghost use Rattle.print.specs.Print.{Wrote};
 ghost use Rattle.runs.specs.Run as runs;
-ghost use Rattle.rounds.specs.Rounds.{Kept};
+ghost use Rattle.rounds.specs.Rounds.{entriesIn, Kept};
 ghost use Rattle.world.specs.Parts.{lent};
 ghost use Rattle.play.specs.Played.{lineRoom, Playable, PlayedAll};
 use refusals::Refusal;
 use refusals::Verdict;
 use steps::Reading;
 use table::Rules;
-
-// What playing the steps answers: the position after the last line, and how many entries of the log are meant.
-pub struct Played {
-    pub end: usize,
-    pub entries: usize,
-}
 
 // The line of a step is written where it is refused.
 fn report(out: &mut [u8], at: usize, number: usize, verdict: Verdict) -> usize
@@ -30,7 +24,7 @@ fn report(out: &mut [u8], at: usize, number: usize, verdict: Verdict) -> usize
     lines::put_step_line(out, at, number, cause)
 }
 
-// The steps are played from the start of a run, with words to keep what the log says.
+// The steps are played from the start of a run, with words to keep what the log says. The answer is the position after the last line.
 // What cannot be read is refused as 3, and nothing is read after it.
 fn play_on(
     sites: &mut [u8],
@@ -44,44 +38,30 @@ fn play_on(
     steps: &[u8],
     out: &mut [u8],
     from: usize,
-) -> Played
-    requires { ⌜ Playable rules (now book) (now places) (now rows) (now steps) (now out) from (lent (now sites) (now log) 0 (now sent))
-        × Kept (rules .table) (now rows) (now log) 0 (now kept) ⌝ }
-    ensures { λ r. ⌜ PlayedAll (rules .table) (commandsOf (now (book .entry))) (now (steps .entry)) (now (out .entry)) (now (out .exit)) from (r .end) (now (sites .entry))
-        (lent (now (sites .exit)) (now (log .exit)) (r .entries) (now (sent .exit))) ⌝ }
+) -> usize
+    requires { ⌜ Playable rules (now book) (now places) (now rows) (now steps) (now out) from (lent (now sites) (now log) (entriesIn (now kept)) (now sent))
+        × Kept (rules .table) (now rows) (now log) (now kept) ⌝ }
+    ensures { λ r. ⌜ PlayedAll (rules .table) (commandsOf (now (book .entry))) (now (steps .entry)) (now (out .entry)) (now (out .exit)) from r (now (sites .entry))
+        (now (sites .exit)) (now (log .exit)) (now (sent .exit)) ⌝ }
 {
-    let mut entries: usize = 0;
     let mut end = from;
     let mut at: usize = 0;
     let mut number: usize = 1;
     while at < steps.len() {
         let reading = steps::read_step(steps, at);
         let Reading::Whole(step) = reading else {
-            end = report(out, end, number, Verdict::Refused(Refusal::Form));
-            return Played { end, entries };
+            return report(out, end, number, Verdict::Refused(Refusal::Form));
         };
-        let stepped = stepping::step(
-            sites,
-            log,
-            sent,
-            entries,
-            kept,
-            rules,
-            book,
-            places,
-            rows,
-            step,
-        );
-        entries = stepped.entries;
-        let verdict = stepped.verdict;
+        let size = steps::size(step);
+        let verdict = stepping::step(sites, log, sent, kept, rules, book, places, rows, step);
         end = report(out, end, number, verdict);
-        at += steps::size(step);
+        at += size;
         number += 1;
     }
-    Played { end, entries }
+    end
 }
 
-// The steps are played from the start of a run.
+// The steps are played from the start of a run. The answer is the position after the last line.
 pub fn play_steps(
     sites: &mut [u8],
     log: &mut [u8],
@@ -93,10 +73,10 @@ pub fn play_steps(
     steps: &[u8],
     out: &mut [u8],
     from: usize,
-) -> Played
+) -> usize
     requires { ⌜ Playable rules (now book) (now places) (now rows) (now steps) (now out) from (lent (now sites) (now log) 0 (now sent)) ⌝ }
-    ensures { λ r. ⌜ PlayedAll (rules .table) (commandsOf (now (book .entry))) (now (steps .entry)) (now (out .entry)) (now (out .exit)) from (r .end) (now (sites .entry))
-        (lent (now (sites .exit)) (now (log .exit)) (r .entries) (now (sent .exit))) ⌝ }
+    ensures { λ r. ⌜ PlayedAll (rules .table) (commandsOf (now (book .entry))) (now (steps .entry)) (now (out .entry)) (now (out .exit)) from r (now (sites .entry))
+        (now (sites .exit)) (now (log .exit)) (now (sent .exit)) ⌝ }
 {
     let mut kept = [0u64; rounds::WORDS];
     play_on(

@@ -7,7 +7,8 @@ use Prim.Native.Nat.{ℕ, _+_, _*_, _≤_, _<_}
 use native.Mathlib.Decide.{ℕ-discrete}
 use native.Mathlib.Omega.{arith}
 use lib.Dec.{ltb}
-use lib.ListN.{length, getD, replicate, length-replicate, getD-replicate}
+use lib.ListN.{length, getD, set, length-set, replicate, length-replicate, getD-replicate}
+use lib.Seq.{getD-set-same, getD-set-other}
 use Rattle.sets.specs.declared.Set.{Set}
 use Rattle.sets.specs.Sets.{emptyOf, inSet, loadSet}
 use Rattle.sets.proofs.Laws.{in-empty}
@@ -17,7 +18,7 @@ use Rattle.protocol.specs.Recovery.{entries, decide}
 use Rattle.calm.specs.Rows.{rowsSystem}
 use Rattle.entries.specs.declared.Entry.{Entry}
 use Rattle.entries.specs.Entries.{entrySize, entryOf, writeEntry, logTo}
-use Rattle.entries.proofs.Bytes.{entry-other}
+use Rattle.entries.proofs.Bytes.{Fits, entry-written, entry-other}
 use Rattle.entries.proofs.Judging.{entries-none}
 use Rattle.standing.specs.Standings.{standingOf}
 use Rattle.standing.proofs.Tallies.{decide-none}
@@ -25,7 +26,7 @@ use Rattle.recovery.specs.declared.Decision.{Decision}
 use Rattle.recovery.specs.declared.Decision.the-variants.{Undecided, Decided}
 use Rattle.recovery.specs.Decisions.{decisionOf}
 use Rattle.rounds.specs.declared.Round.{Round}
-use Rattle.rounds.specs.Rounds.{keptRounds, roundWords, keptWords, roundIn, writeRound, answerAt, Counts, Decides, Kept}
+use Rattle.rounds.specs.Rounds.{keptRounds, roundWords, entriesPlace, keptWords, entriesIn, roundIn, writeRound, answerAt, Counts, Decides, KeptTo, Kept}
 use Rattle.rounds.proofs.Words.{same-round, length-written, round-written, round-other}
 use Rattle.rounds.proofs.Sites.{counts-other, counts-same}
 use Rattle.rounds.proofs.Answers.{answer-none, answer-later, answer-sets, decides-other, decides-same}
@@ -67,7 +68,7 @@ all-zero kept zeros r l =
     (zeros (at + 4) (omega arith)) (zeros (at + 5) (omega arith)) (zeros (at + 6) (omega arith))
 
 -- Words that are all zero keep nothing yet.
-pub kept-none : (t : SiteTable) (rows log kept : List ℕ) → length kept ≡ keptWords → ((i : ℕ) → i < keptWords → getD kept i 0 ≡ 0) → Kept t rows log 0 kept
+pub kept-none : (t : SiteTable) (rows log kept : List ℕ) → length kept ≡ keptWords → ((i : ℕ) → i < keptWords → getD kept i 0 ≡ 0) → KeptTo t rows log 0 kept
 kept-none t rows log kept size zeros =
     record {
       size = size;
@@ -75,16 +76,21 @@ kept-none t rows log kept size zeros =
       decides = λ r l. subst (λ (x : Round). Decides log 0 r t rows x) (sym (all-zero kept zeros r l)) (unheard-decides t rows log r);
     }
 
-pub kept-start : (t : SiteTable) (rows log : List ℕ) → Kept t rows log 0 (replicate {A = ℕ} keptWords 0)
+-- They say that the log has no entry.
+pub none-yet : entriesIn (replicate {A = ℕ} keptWords 0) ≡ 0
+none-yet = getD-replicate {0} {A = ℕ} keptWords entriesPlace 0 0 (omega arith)
+
+pub kept-start : (t : SiteTable) (rows log : List ℕ) → Kept t rows log (replicate {A = ℕ} keptWords 0)
 kept-start t rows log =
-    kept-none t rows log (replicate {A = ℕ} keptWords 0) (length-replicate {0} {A = ℕ} keptWords 0)
-    (λ i l. getD-replicate {0} {A = ℕ} keptWords i 0 0 l)
+    subst (λ (k : ℕ). KeptTo t rows log k (replicate {A = ℕ} keptWords 0)) (sym none-yet)
+    (kept-none t rows log (replicate {A = ℕ} keptWords 0) (length-replicate {0} {A = ℕ} keptWords 0)
+    (λ i l. getD-replicate {0} {A = ℕ} keptWords i 0 0 l))
 
 -- ---- one entry more
 
 -- The same entries keep the same;
 pub kept-same : (t : SiteTable) (rows a b : List ℕ) (k : ℕ) (kept : List ℕ) → ((i : ℕ) → i < k → entryOf a i ≡ entryOf b i)
-    → Kept t rows a k kept → Kept t rows b k kept
+    → KeptTo t rows a k kept → KeptTo t rows b k kept
 kept-same t rows a b k kept e h =
     record {
       size = h .size;
@@ -94,16 +100,16 @@ kept-same t rows a b k kept e h =
 
 -- so writing the entry after them changes nothing.
 pub kept-written : (t : SiteTable) (rows log : List ℕ) (k : ℕ) (kept : List ℕ) (e : Entry) → k * entrySize + entrySize ≤ length log
-    → Kept t rows log k kept → Kept t rows (writeEntry log k e) k kept
+    → KeptTo t rows log k kept → KeptTo t rows (writeEntry log k e) k kept
 kept-written t rows log k kept e room =
     kept-same t rows log (writeEntry log k e) k kept (λ i l. sym (entry-other log k e i room (λ q. omega arith)))
 
 -- The entry's round is written; the others stay, and their decision too.
 pub kept-more : (t : SiteTable) (rows log : List ℕ) (k r : ℕ) (kept : List ℕ) (x : Round) {after : List ℕ} → isGood t ≡ true → r < keptRounds
-    → entryOf log k .round ≡ r → Kept t rows log k kept → Counts log (k + 1) r x → Decides log (k + 1) r t rows x
-    → after ≡ writeRound kept r x → Kept t rows log (k + 1) after
+    → entryOf log k .round ≡ r → KeptTo t rows log k kept → Counts log (k + 1) r x → Decides log (k + 1) r t rows x
+    → after ≡ writeRound kept r x → KeptTo t rows log (k + 1) after
 kept-more t rows log k r kept x good l er h hc hd ew =
-    subst (λ (w : List ℕ). Kept t rows log (k + 1) w) (sym ew)
+    subst (λ (w : List ℕ). KeptTo t rows log (k + 1) w) (sym ew)
     (record {
       size = length-written kept r x ∙ h .size;
       counts = λ s g. counted s g (ℕ-discrete s r);
@@ -125,30 +131,76 @@ kept-more t rows log k r kept x good l er h hc hd ew =
     decided s g (no n) = subst (λ (y : Round). Decides log (k + 1) s t rows y) (sym (round-other kept r x s n))
         (decides-other t rows log k s (roundIn kept s) (h .decides s g) good (λ q. n (sym q ∙ er)))
 
+-- ---- an entry appended
+
+-- The number of entries is stored beside the rounds.
+stored : (kept : List ℕ) (n : ℕ) → length kept ≡ keptWords → entriesIn (set kept entriesPlace n) ≡ n
+stored kept n size = getD-set-same kept entriesPlace n 0 (omega arith)
+
+round-stored : (kept : List ℕ) (n r : ℕ) → r < keptRounds → roundIn (set kept entriesPlace n) r ≡ roundIn kept r
+unfolding roundIn
+round-stored kept n r l =
+    same-round (beside (r * roundWords) (omega arith)) (beside (r * roundWords + 1) (omega arith)) (beside (r * roundWords + 2) (omega arith))
+    (beside (r * roundWords + 3) (omega arith)) (beside (r * roundWords + 4) (omega arith)) (beside (r * roundWords + 5) (omega arith))
+    (beside (r * roundWords + 6) (omega arith))
+  where
+    beside : (i : ℕ) → i < entriesPlace → getD (set kept entriesPlace n) i 0 ≡ getD kept i 0
+    beside i g = getD-set-other kept entriesPlace i n 0 (λ q. omega arith)
+
+kept-stored : (t : SiteTable) (rows log : List ℕ) (k : ℕ) (kept : List ℕ) (n : ℕ) → KeptTo t rows log k kept → KeptTo t rows log k (set kept entriesPlace n)
+kept-stored t rows log k kept n h =
+    record {
+      size = length-set kept entriesPlace n ∙ h .size;
+      counts = λ r l. subst (λ (x : Round). Counts log k r x) (sym (round-stored kept n r l)) (h .counts r l);
+      decides = λ r l. subst (λ (x : Round). Decides log k r t rows x) (sym (round-stored kept n r l)) (h .decides r l);
+    }
+
+module _ (t : SiteTable) (rows log kept : List ℕ) (e : Entry) (h : Kept t rows log kept) (room : entriesIn kept * entrySize + entrySize ≤ length log)
+    {k : ℕ} (ek : k ≡ entriesIn kept) {written : List ℕ} (ew : written ≡ writeEntry log k e) where
+  -- Written after those that are kept, the entry leaves them,
+  pub kept-before : KeptTo t rows written k kept
+  kept-before =
+      subst (λ (l : List ℕ). KeptTo t rows l k kept) (sym ew)
+      (kept-written t rows log k kept e (omega arith) (subst (λ (n : ℕ). KeptTo t rows log n kept) (sym ek) h))
+
+  -- and is read back.
+  pub new-entry : Fits e → entryOf written k ≡ e
+  new-entry f = ap (λ (l : List ℕ). entryOf l k) ew ∙ entry-written log k e (omega arith) f
+
+  -- Taken in and counted, it is kept.
+  pub kept-appended : {entered : List ℕ} {n : ℕ} → KeptTo t rows written (k + 1) entered → n ≡ k + 1
+      → (written ≡ writeEntry log (entriesIn kept) e) × (entriesIn (set entered entriesPlace n) ≡ entriesIn kept + 1) × Kept t rows written (set entered entriesPlace n)
+  kept-appended {entered} {n} g en =
+      let q = stored entered n (g .size) in (
+        ew ∙ ap (λ (i : ℕ). writeEntry log i e) ek,
+        q ∙ en ∙ ap (λ (i : ℕ). i + 1) ek,
+        subst (λ (i : ℕ). KeptTo t rows written i (set entered entriesPlace n)) (sym (q ∙ en)) (kept-stored t rows written (k + 1) entered n g),
+      )
+
 -- ---- what is looked up
 
 pub is-third : (kept : List ℕ) (site r : ℕ) → site < maxSites → r < keptRounds → {two : Set} {b : Bool} → two ≡ loadSet kept (r * roundWords + 1) → b ≡ inSet two site
-    → (t : SiteTable) (rows log : List ℕ) (k : ℕ) → Kept t rows log k kept → b ≡ not (ltb (entries site r (logTo log k)) 2)
+    → (t : SiteTable) (rows log : List ℕ) → Kept t rows log kept → b ≡ not (ltb (entries site r (logTo log (entriesIn kept))) 2)
 unfolding roundIn
-is-third kept site r l g e2 eb t rows log k h = eb ∙ ap (λ (s : Set). inSet s site) e2 ∙ h .counts r g .twice site l
+is-third kept site r l g e2 eb t rows log h = eb ∙ ap (λ (s : Set). inSet s site) e2 ∙ h .counts r g .twice site l
 
 module _ (kept : List ℕ) (r p : ℕ) (l : r < keptRounds) {x : Round} (ex : x ≡ roundIn kept r) where
   answered : {d : Decision} → d ≡ answerAt x p
-      → (t : SiteTable) (rows log : List ℕ) (k : ℕ) → Kept t rows log k kept → p ≤ k
+      → (t : SiteTable) (rows log : List ℕ) → Kept t rows log kept → p ≤ entriesIn kept
       → d ≡ decisionOf (rowsSystem t rows) (decide (rowsSystem t rows) r (logTo log p))
-  answered ed t rows log k h g = ed ∙ ap (λ (w : Round). answerAt w p) ex ∙ sym (h .decides r l .answers p g)
+  answered ed t rows log h g = ed ∙ ap (λ (w : Round). answerAt w p) ex ∙ sym (h .decides r l .answers p g)
 
   pub not-yet : x .decided ≡ 0
-      → (t : SiteTable) (rows log : List ℕ) (k : ℕ) → Kept t rows log k kept → p ≤ k
+      → (t : SiteTable) (rows log : List ℕ) → Kept t rows log kept → p ≤ entriesIn kept
       → Undecided ≡ decisionOf (rowsSystem t rows) (decide (rowsSystem t rows) r (logTo log p))
   not-yet z = answered (answer-none x p z)
 
   pub only-later : p < x .decided
-      → (t : SiteTable) (rows log : List ℕ) (k : ℕ) → Kept t rows log k kept → p ≤ k
+      → (t : SiteTable) (rows log : List ℕ) → Kept t rows log kept → p ≤ entriesIn kept
       → Undecided ≡ decisionOf (rowsSystem t rows) (decide (rowsSystem t rows) r (logTo log p))
   only-later g = answered (answer-later x p g)
 
   pub looked-up : 0 < x .decided → x .decided ≤ p
-      → (t : SiteTable) (rows log : List ℕ) (k : ℕ) → Kept t rows log k kept → p ≤ k
+      → (t : SiteTable) (rows log : List ℕ) → Kept t rows log kept → p ≤ entriesIn kept
       → Decided (record { nc = x .nc; c = x .c }) ≡ decisionOf (rowsSystem t rows) (decide (rowsSystem t rows) r (logTo log p))
   looked-up g b = answered (answer-sets x p g b)

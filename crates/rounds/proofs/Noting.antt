@@ -18,7 +18,7 @@ use Rattle.entries.specs.Entries.{entryOf}
 use Rattle.recovery.specs.declared.Sets.{Sets}
 use Rattle.recovery.specs.Decisions.{foundSets}
 use Rattle.rounds.specs.declared.Round.{Round}
-use Rattle.rounds.specs.Rounds.{keptRounds, roundWords, keptWords, roundIn, writeRound, notedOf, againOf, decidedOf, Counts, Kept}
+use Rattle.rounds.specs.Rounds.{keptRounds, roundWords, keptWords, roundIn, writeRound, notedOf, againOf, decidedOf, Counts, KeptTo}
 use Rattle.rounds.proofs.Words.{round-written, round-kept, word-stored, written-over}
 use Rattle.rounds.proofs.Entering.{withValid, noted, first-decided, first-unfree, first-waiting, first-deciding, again-counts, again-decides}
 use Rattle.rounds.proofs.Keeping.{kept-more}
@@ -148,10 +148,10 @@ module _ (log : List ℕ) (k r : ℕ) (kept : List ℕ) (er : entryOf log k .rou
 
 -- ---- what is kept
 
-module _ (t : SiteTable) (rows log : List ℕ) (k r : ℕ) (kept : List ℕ) (site : ℕ) (good : isGood t ≡ true) (h : Kept t rows log k kept)
+module _ (t : SiteTable) (rows log : List ℕ) (k r : ℕ) (kept : List ℕ) (site : ℕ) (good : isGood t ≡ true) (h : KeptTo t rows log k kept)
     (ls : site < t .sites) (l : r < keptRounds) (es : site ≡ entryOf log k .site) (er : r ≡ entryOf log k .round) where
   -- Another entry of a site.
-  pub taken-again : inSet (roundIn kept r .once) site ≡ true → {a : List ℕ} → a ≡ writeRound kept r (againOf (roundIn kept r) site) → Kept t rows log (k + 1) a
+  pub taken-again : inSet (roundIn kept r .once) site ≡ true → {a : List ℕ} → a ≡ writeRound kept r (againOf (roundIn kept r) site) → KeptTo t rows log (k + 1) a
   taken-again n ea =
       let x = roundIn kept r in
       kept-more t rows log k r kept (againOf x site) good l (sym er) h
@@ -163,7 +163,7 @@ module _ (t : SiteTable) (rows log : List ℕ) (k r : ℕ) (kept : List ℕ) (si
     more : Counts log (k + 1) r (notedOf (roundIn kept r) site (k + 1))
     more = noted t rows log k r (roundIn kept r) good (sym er) (h .counts r l) (h .decides r l) site ls es n
 
-    pub taken-decided : (getD kept (r * roundWords + 3) 0 ≡ 0 → ⊥) → Kept t rows log (k + 1) a
+    pub taken-decided : (getD kept (r * roundWords + 3) 0 ≡ 0 → ⊥) → KeptTo t rows log (k + 1) a
     unfolding roundIn
     taken-decided d =
         let x = roundIn kept r in
@@ -171,7 +171,7 @@ module _ (t : SiteTable) (rows log : List ℕ) (k r : ℕ) (kept : List ℕ) (si
         (first-decided t rows log k r x good (sym er) (h .counts r l) (h .decides r l) site ls es n d) ea
 
     module _ (z : getD kept (r * roundWords + 3) 0 ≡ 0) {f : Bool} (ef : f ≡ freeBy rows (inSet (entryOf log k .nc))) where
-      pub taken-unfree : not f ≡ true → Kept t rows log (k + 1) a
+      pub taken-unfree : not f ≡ true → KeptTo t rows log (k + 1) a
       unfolding roundIn
       taken-unfree g =
           let x = roundIn kept r in
@@ -191,7 +191,7 @@ module _ (t : SiteTable) (rows log : List ℕ) (k r : ℕ) (kept : List ℕ) (si
         unfolding roundIn
         own = ev ∙ ap (λ (s : Set). withOf s site) eo
 
-        pub taken-waiting : {size enough : ℕ} → size ≡ sizeOf v → enough ≡ nChkOf t → (size ≡ enough → ⊥) → Kept t rows log (k + 1) b
+        pub taken-waiting : {size enough : ℕ} → size ≡ sizeOf v → enough ≡ nChkOf t → (size ≡ enough → ⊥) → KeptTo t rows log (k + 1) b
         unfolding roundIn
         taken-waiting e1 e2 d =
             let x = roundIn kept r in
@@ -208,7 +208,7 @@ module _ (t : SiteTable) (rows log : List ℕ) (k r : ℕ) (kept : List ℕ) (si
         counts-before = subst (λ (y : Round). Counts log (k + 1) r y) (sym stored-round) counts-stored
 
         pub taken-deciding : {size enough : ℕ} → size ≡ sizeOf v → enough ≡ nChkOf t → size ≡ enough → {c : List ℕ}
-            → c ≡ writeRound b r (decidedOf (roundIn b r) (k + 1) (foundSets t log r v (k + 1))) → Kept t rows log (k + 1) c
+            → c ≡ writeRound b r (decidedOf (roundIn b r) (k + 1) (foundSets t log r v (k + 1))) → KeptTo t rows log (k + 1) c
         unfolding roundIn
         taken-deciding e1 e2 d ec =
             let x = roundIn kept r in

@@ -21,15 +21,22 @@ use Rattle.recovery.specs.declared.Decision.the-variants.{Undecided, Decided}
 use Rattle.recovery.specs.Decisions.{decisionOf}
 use Rattle.rounds.specs.declared.Round.{Round}
 
--- Rounds 0 to 33, of 7 words each.
+-- Rounds 0 to 33, of 7 words each, and one word for how many entries the log has.
 abbrev pub keptRounds : ℕ
 keptRounds = 34
 
 abbrev pub roundWords : ℕ
 roundWords = 7
 
+abbrev pub entriesPlace : ℕ
+entriesPlace = keptRounds * roundWords
+
 abbrev pub keptWords : ℕ
-keptWords = 238
+keptWords = entriesPlace + 1
+
+-- How many entries the log has.
+abbrev pub entriesIn : List ℕ → ℕ
+entriesIn kept = getD kept entriesPlace 0
 
 -- What the words of round r hold.
 unfoldable pub roundIn : List ℕ → ℕ → Round
@@ -114,7 +121,11 @@ module _ (log : List ℕ) (k r : ℕ) where
     pub valid : x .decided ≡ 0 → standingOf t rows r log k .valid ≡ x .valid
 
 -- The words say of every round what the first k entries of the log do.
-pub record Kept (t : SiteTable) (rows log : List ℕ) (k : ℕ) (kept : List ℕ) : Type 0 where
+pub record KeptTo (t : SiteTable) (rows log : List ℕ) (k : ℕ) (kept : List ℕ) : Type 0 where
   pub size : length kept ≡ keptWords
   pub counts : (r : ℕ) → r < keptRounds → Counts log k r (roundIn kept r)
   pub decides : (r : ℕ) → r < keptRounds → Decides log k r t rows (roundIn kept r)
+
+-- The words say what the log does, with as many entries as they say that it has.
+abbrev pub Kept : SiteTable → (rows log kept : List ℕ) → Type 0
+Kept t rows log kept = KeptTo t rows log (entriesIn kept) kept

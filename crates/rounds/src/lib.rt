@@ -11,18 +11,25 @@ ghost use Rattle.table.specs.declared.SiteTable.{SiteTable};
 ghost use Rattle.table.specs.Table.{isGood, maxSites};
 ghost use Rattle.protocol.specs.Recovery.{entries, decide};
 ghost use Rattle.calm.specs.Rows.{rowsSystem};
-ghost use Rattle.entries.specs.Entries.{entrySize, entryOf, logTo};
+ghost use Rattle.entries.specs.Entries.{entrySize, entryOf, writeEntry, logTo};
 ghost use Rattle.recovery.specs.Decisions.{foundSets, decisionOf};
-ghost use Rattle.rounds.specs.Rounds.{keptRounds, keptWords, roundIn, writeRound, notedOf, againOf, decidedOf, Counts, Kept};
+ghost use Rattle.rounds.specs.Rounds.{keptRounds, keptWords, entriesIn, roundIn, writeRound, notedOf, againOf, decidedOf, Counts, KeptTo, Kept};
+use entries::Entry;
 use recovery::Decision;
 use recovery::Sets;
 use sets::Set;
 use table::SiteTable;
 
-// The words that are kept of a log, for rounds 0 to 33.
-pub const WORDS: usize = 238;
-// The words of a round.
+// Rounds 0 to 33 are kept, of so many words each.
+const ROUNDS: usize = 34;
+
 const ROUND_WORDS: usize = 7;
+
+// After them stands how many entries the log has.
+const ENTRIES: usize = ROUNDS * ROUND_WORDS;
+
+// The words that are kept of a log.
+pub const WORDS: usize = ENTRIES + 1;
 
 // What is kept of a round. The place of an entry is how many entries the log has with it; 0 where there is none.
 pub struct Round {
@@ -120,10 +127,10 @@ fn enter_first(
     table: SiteTable,
     rows: &[u64],
 )
-    requires { ⌜ (isGood table ≡ true) × Kept table (now rows) (now log) k (now kept) × (k * entrySize + entrySize ≤ length (now log))
+    requires { ⌜ (isGood table ≡ true) × KeptTo table (now rows) (now log) k (now kept) × (k * entrySize + entrySize ≤ length (now log))
         × (length (now rows) ≡ capacity) × (site < table .sites) × (round < keptRounds) × (site ≡ entryOf (now log) k .site)
         × (round ≡ entryOf (now log) k .round) × (inSet (roundIn (now kept) round .once) site ≡ false) ⌝ }
-    ensures { λ _. ⌜ Kept table (now (rows .entry)) (now (log .entry)) (k + 1) (now (kept .exit)) ⌝ }
+    ensures { λ _. ⌜ KeptTo table (now (rows .entry)) (now (log .entry)) (k + 1) (now (kept .exit)) ⌝ }
 {
     let at = round * ROUND_WORDS;
     let valid = Set::load(&kept[..], at + 2);
@@ -145,10 +152,10 @@ fn enter_first(
 }
 
 // The k-th entry of the log is taken into what is kept of its round.
-pub fn append(kept: &mut [u64], log: &[u8], k: usize, table: SiteTable, rows: &[u64])
-    requires { ⌜ (isGood table ≡ true) × Kept table (now rows) (now log) k (now kept) × (k * entrySize + entrySize ≤ length (now log))
+fn enter(kept: &mut [u64], log: &[u8], k: usize, table: SiteTable, rows: &[u64])
+    requires { ⌜ (isGood table ≡ true) × KeptTo table (now rows) (now log) k (now kept) × (k * entrySize + entrySize ≤ length (now log))
         × (length (now rows) ≡ capacity) × (entryOf (now log) k .site < table .sites) × (entryOf (now log) k .round < keptRounds) ⌝ }
-    ensures { λ _. ⌜ Kept table (now (rows .entry)) (now (log .entry)) (k + 1) (now (kept .exit)) ⌝ }
+    ensures { λ _. ⌜ KeptTo table (now (rows .entry)) (now (log .entry)) (k + 1) (now (kept .exit)) ⌝ }
 {
     let round = entries::round_of(log, k);
     let site = entries::site_of(log, k);
@@ -160,11 +167,33 @@ pub fn append(kept: &mut [u64], log: &[u8], k: usize, table: SiteTable, rows: &[
     enter_first(kept, log, k, round, site, table, rows);
 }
 
+// How many entries the log has.
+pub fn entries(kept: &[u64]) -> usize
+    requires { ⌜ length (now kept) ≡ keptWords ⌝ }
+    ensures { λ r. ⌜ r ≡ entriesIn (now (kept .entry)) ⌝ }
+{
+    kept[ENTRIES] as usize
+}
+
+// An entry is written after those that the log has, and taken into what is kept.
+pub fn append(log: &mut [u8], kept: &mut [u64], entry: Entry, table: SiteTable, rows: &[u64])
+    requires { ⌜ (isGood table ≡ true) × Kept table (now rows) (now log) (now kept) × (entriesIn (now kept) * entrySize + entrySize ≤ length (now log))
+        × (length (now rows) ≡ capacity) × (entry .site < table .sites) × (entry .round < keptRounds) ⌝ }
+    ensures { λ _. ⌜ (now (log .exit) ≡ writeEntry (now (log .entry)) (entriesIn (now (kept .entry))) entry)
+        × (entriesIn (now (kept .exit)) ≡ entriesIn (now (kept .entry)) + 1) × Kept table (now (rows .entry)) (now (log .exit)) (now (kept .exit)) ⌝ }
+{
+    let k = entries(&kept[..]);
+    entries::write_entry(log, k, entry);
+    enter(kept, &log[..], k, table, rows);
+    let after = k + 1;
+    kept[ENTRIES] = after as u64;
+}
+
 // Whether an entry of a site and round would be its third.
 pub fn third(kept: &[u64], site: usize, round: usize) -> bool
     requires { ⌜ (length (now kept) ≡ keptWords) × (site < maxSites) × (round < keptRounds) ⌝ }
-    ensures { λ r. ⌜ ((t : SiteTable) (rows log : List ℕ) (k : ℕ) → Kept t rows log k (now (kept .entry))
-        → r ≡ not (ltb (entries site round (logTo log k)) 2)) ⌝ }
+    ensures { λ r. ⌜ ((t : SiteTable) (rows log : List ℕ) → Kept t rows log (now (kept .entry))
+        → r ≡ not (ltb (entries site round (logTo log (entriesIn (now (kept .entry))))) 2)) ⌝ }
 {
     let twice = Set::load(kept, round * ROUND_WORDS + 1);
     twice.has(site)
@@ -173,7 +202,7 @@ pub fn third(kept: &[u64], site: usize, round: usize) -> bool
 // The decision of a round at a log position.
 pub fn decision(kept: &[u64], round: usize, position: usize) -> Decision
     requires { ⌜ (length (now kept) ≡ keptWords) × (round < keptRounds) ⌝ }
-    ensures { λ r. ⌜ ((t : SiteTable) (rows log : List ℕ) (k : ℕ) → Kept t rows log k (now (kept .entry)) → position ≤ k
+    ensures { λ r. ⌜ ((t : SiteTable) (rows log : List ℕ) → Kept t rows log (now (kept .entry)) → position ≤ entriesIn (now (kept .entry))
         → r ≡ decisionOf (rowsSystem t rows) (decide (rowsSystem t rows) round (logTo log position))) ⌝ }
 {
     let x = read_round(kept, round);

@@ -39,14 +39,13 @@ use Rattle.layout.specs.Layout.{siteAt, siteSize, spanPlace}
 use Rattle.world.specs.World.{Buffers, HoldsWorld}
 use Rattle.world.specs.Started.{Started}
 use Rattle.world.proofs.Past.{further}
-use Rattle.play.specs.Played.{PlayedAll}
+use Rattle.play.specs.Played.{HoldsLast, PlayedAll}
 use Rattle.report.specs.Report.{AllPrintable, linesBelow}
 use Rattle.report.proofs.Laws.{good-all-printable, lines-seen}
 use Rattle.sent.specs.Sent.{sentSize}
 use Rattle.world.specs.Parts.{lent}
-use Rattle.entries.proofs.Logs.{log-length}
 use Rattle.run.specs.Ran.{runLineRoom, printRoom, sitesBytes, logBytes, Ran, ran, runOf, Working, working, isRoomy}
-use Rattle.run.specs.Left.{PastLeft, lastWorld, HoldsLast, Worked, isPlayed, Left}
+use Rattle.run.specs.Left.{PastLeft, Worked, isPlayed, Left}
 use Rattle.run.specs.Prepared.{Roomy}
 
 -- ---- the first line
@@ -66,27 +65,20 @@ module _ (t : SiteTable) (book : List Command) {b : Buffers} {w : World (dash t 
   held-lines = lines-seen t book (b .sites) w (t .sites) (λ i l. sym (h .site i l .says))
 
 -- The first line, those of the refused steps and those of the sites are the print.
-pub all-parts : (t : SiteTable) (book : List Command) (steps : List ℕ) {s s₁ s₂ s₃ e : List ℕ} {r₁ r₂ r₃ f c : ℕ} {b : Buffers} → f ≡ faultyCountOf t → c ≡ length book
-    → Wrote s₁ r₁ s 0 (runLine (t .sites) f c) → PlayedAll t book steps s₁ s₂ r₁ r₂ e b → Wrote s₃ r₃ s₂ r₂ (linesBelow t (b .sites) (t .sites))
+pub all-parts : (t : SiteTable) (book : List Command) (steps : List ℕ) {s s₁ s₂ s₃ e : List ℕ} {r₁ r₂ r₃ f c : ℕ} {sites log sent : List ℕ} → f ≡ faultyCountOf t → c ≡ length book
+    → Wrote s₁ r₁ s 0 (runLine (t .sites) f c) → PlayedAll t book steps s₁ s₂ r₁ r₂ e sites log sent → Wrote s₃ r₃ s₂ r₂ (linesBelow t sites (t .sites))
     → Wrote s₃ r₃ s 0 (played t book (stepsOf steps))
-all-parts t book steps {s} {s₁} {s₂} {s₃} {e} {r₁} {r₂} {r₃} {f} {c} {b} ef ec x p y =
+all-parts t book steps {s} {s₁} {s₂} {s₃} {e} {r₁} {r₂} {r₃} {f} {c} ef ec x p y =
     both (omega arith)
     (both (omega arith) (subst (λ (l : List ℕ). Wrote s₁ r₁ s 0 l) (λ i. runLine (t .sites) (ef i) (ec i)) x) (p .lines))
     (subst (λ (l : List ℕ). Wrote s₃ r₃ s₂ r₂ l) (held-lines t book (p .world)) y)
 
--- The buffers then hold the last world, with as many log entries as it has.
-pub last-held : (t : SiteTable) (book : List Command) (steps : List ℕ) {s₁ s₂ e sites log sent : List ℕ} {r₁ r₂ n : ℕ}
-    → PlayedAll t book steps s₁ s₂ r₁ r₂ e (lent sites log n sent) → HoldsLast t book (stepsOf steps) sites log sent
-last-held t book steps {s₁} {s₂} {e} {sites} {log} {sent} {r₁} {r₂} {n} p =
-    subst (λ (k : ℕ). HoldsWorld t book (lent sites log k sent) (lastWorld t book (stepsOf steps)))
-    (sym (log-length log n) ∙ (λ i. length (p .world .says i .log))) (p .world)
-
 -- What is past the rows of the sites is as it was before the start.
-pub past-left : (t : SiteTable) (book : List Command) {steps earlier started sent unsent s₁ s₂ : List ℕ} {r₁ r₂ : ℕ} {b : Buffers} → Started t started sent earlier unsent
-    → PlayedAll t book steps s₁ s₂ r₁ r₂ started b → PastLeft t earlier (b .sites)
-past-left t book {earlier = earlier} {started = started} {b = b} fresh played i l =
+pub past-left : (t : SiteTable) (book : List Command) {steps earlier started sent unsent s₁ s₂ sites log sent′ : List ℕ} {r₁ r₂ : ℕ} → Started t started sent earlier unsent
+    → PlayedAll t book steps s₁ s₂ r₁ r₂ started sites log sent′ → PastLeft t earlier sites
+past-left t book {earlier = earlier} {started = started} {sites = sites} fresh played i l =
     played .past i l .past
-    ∙ further 0 (readLe 2 (siteAt (b .sites) i) spanPlace) (siteAt earlier i) (siteAt started i) (omega arith) (fresh .past i l)
+    ∙ further 0 (readLe 2 (siteAt sites i) spanPlace) (siteAt earlier i) (siteAt started i) (omega arith) (fresh .past i l)
 
 -- ---- the first parts of the working memory
 

@@ -10,16 +10,13 @@ use Rattle.table.specs.declared.SiteTable.{SiteTable}
 use Rattle.register.specs.declared.Command.{Command}
 use Rattle.commands.specs.Book.{commandsOf}
 use Rattle.protocol.specs.System.{verdict}
-use Rattle.protocol.specs.World.{World, start}
-use Rattle.system.specs.Dash.{dash}
 use Rattle.steps.specs.declared.Reading.{Reading}
 use Rattle.steps.specs.Steps.{stepsOf}
-use Rattle.runs.specs.Run.{tableOf, bookOf, stepBytes, forRun, worldAfter}
+use Rattle.runs.specs.Run.{tableOf, bookOf, stepBytes, forRun}
 use Rattle.wire.specs.Wire.{readLe}
 use Rattle.layout.specs.Layout.{siteAt, siteSize, spanPlace, rowAt}
 use Rattle.sent.specs.Sent.{sentSize}
-use Rattle.world.specs.World.{HoldsWorld}
-use Rattle.world.specs.Parts.{lent}
+use Rattle.play.specs.Played.{HoldsLast}
 use Rattle.run.specs.Ran.{Working, logBytes, isRoomy}
 
 -- What is past the rows of each site of the table is as it was.
@@ -29,17 +26,9 @@ PastLeft t before after =
     → drop (rowAt (readLe 2 (siteAt after i) spanPlace)) (siteAt after i) ≡ drop (rowAt (readLe 2 (siteAt after i) spanPlace)) (siteAt before i)
 
 module _ (t : SiteTable) (book : List Command) (steps : List Reading) where
-  -- The world after the steps of a run.
-  abbrev pub lastWorld : World (dash t book)
-  lastWorld = worldAfter t book (start (dash t book)) steps
-
-  -- Buffers of just their sizes hold that world: every site, as many log entries as it has, and what was sent.
-  abbrev pub HoldsLast : List ℕ → List ℕ → List ℕ → Type 0
-  HoldsLast sites log sent = HoldsWorld t book (lent sites log (length (lastWorld .log)) sent) lastWorld
-
-  -- The first bytes of the working memory hold it, and what is past them and past the rows of each site is as it was.
+  -- The first bytes of the working memory hold the last world, and what is past them and past the rows of each site is as it was.
   pub record Worked (before after : Working) : Type 0 where
-    pub world : HoldsLast (take (t .sites * siteSize) (after .sites)) (take logBytes (after .log)) (take sentSize (after .sent))
+    pub world : HoldsLast t book steps (take (t .sites * siteSize) (after .sites)) (take logBytes (after .log)) (take sentSize (after .sent))
     pub rows : PastLeft t (take (t .sites * siteSize) (before .sites)) (take (t .sites * siteSize) (after .sites))
     pub sites : drop (t .sites * siteSize) (after .sites) ≡ drop (t .sites * siteSize) (before .sites)
     pub log : drop logBytes (after .log) ≡ drop logBytes (before .log)

@@ -6,7 +6,8 @@ ghost use Rattle.print.specs.Print.{Wrote};
 ghost use Rattle.steps.specs.Steps.{stepsOf};
 ghost use Rattle.runs.specs.Run.{played};
 ghost use Rattle.run.specs.Ran.{working, hasRoom, ran, runOf};
-ghost use Rattle.run.specs.Left.{PastLeft, HoldsLast, Worked, Left};
+ghost use Rattle.play.specs.Played.{HoldsLast};
+ghost use Rattle.run.specs.Left.{PastLeft, Worked, Left};
 ghost use Rattle.run.specs.Prepared.{Playable, Roomy, Sized, Noted};
 use header::Opened;
 use layout::Site;
@@ -45,7 +46,7 @@ fn print_on(
     world::start(sites, sent, table);
     let faulty = table.faulty_count();
     let first = lines::put_run_line(out, 0, table.sites, faulty, rules.commands);
-    let played = play::play_steps(
+    let end = play::play_steps(
         sites,
         log,
         sent,
@@ -57,7 +58,7 @@ fn print_on(
         out,
         first,
     );
-    report::put_site_lines(out, played.end, &sites[..], table)
+    report::put_site_lines(out, end, &sites[..], table)
 }
 
 // The run takes the first part of each buffer: of the sites' as much as its table has sites.

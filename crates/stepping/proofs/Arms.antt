@@ -16,15 +16,15 @@ use Rattle.register.specs.declared.Command.{Command}
 use Rattle.commands.specs.Book.{commandsOf}
 use Rattle.commands.proofs.Walk.{few-commands}
 use Rattle.conflicts.specs.Conflicts.{conflictRows}
-use Rattle.rounds.specs.Rounds.{Kept}
+use Rattle.rounds.specs.Rounds.{entriesIn, Kept}
 use Rattle.steps.specs.declared.Step.{Step}
 use Rattle.steps.specs.declared.Step.the-variants as kinds
 use Rattle.steps.specs.Meaning.{meaning}
 use Rattle.steps.proofs.Step as declared
 use Rattle.world.specs.World.{Buffers, GoodWorld, Outcome}
 use Rattle.world.specs.Parts.{Arrived}
-use Rattle.moves.specs.Moves.{Ready}
-use Rattle.closings.specs.Closings.{GoodSites, KeptLog}
+use Rattle.moves.specs.Moves.{Ready, LogRead}
+use Rattle.closings.specs.Closings.{GoodSites, GoodLog, KeptLog}
 use Rattle.stepping.specs.Kinds.{arrives}
 
 -- ---- the kinds, by their places in the declaration
@@ -66,19 +66,23 @@ arm t book b after {r = r} e h = subst (λ (x : Step). Outcome t book (meaning x
 pub ready-as : (t : SiteTable) (book rows : List ℕ) (b : Buffers) {u v : Step} → u ≡ v → Ready t book rows b (meaning u) → Ready t book rows b (meaning v)
 ready-as t book rows b e h = subst (λ (x : Step). Ready t book rows b (meaning x)) e h
 
+-- A log read goes by as many entries as there are.
+pub read-to : (t : SiteTable) (i : ℕ) (sites after : List ℕ) {n k : ℕ} {v : Verdict} → n ≡ k → LogRead t i n sites v after → LogRead t i k sites v after
+read-to t i sites after {v = v} e h = subst (λ (m : ℕ). LogRead t i m sites v after) e h
+
 -- ---- what the functions ask for
 
 module _ (t : SiteTable) (book : List ℕ) (commands : ℕ) (b : Buffers) (e : length (commandsOf book) ≡ commands) (g : GoodWorld t (length (commandsOf book)) b) where
   pub good-sites : GoodSites t commands (b .sites)
   good-sites = subst (λ (n : ℕ). GoodSites t n (b .sites)) e (record { size = g .size; site = g .site })
 
-  pub kept-log : {rows kept : List ℕ} → rows ≡ conflictRows book → ((k : ℕ) → getD (b .log) k 0 < 256) → Kept t rows (b .log) (b .entries) kept
-      → KeptLog t book (b .sites) (b .log) (b .entries) kept
-  kept-log {kept = kept} er small k =
+  pub kept-log : {rows kept : List ℕ} → rows ≡ conflictRows book → ((k : ℕ) → getD (b .log) k 0 < 256) → b .entries ≡ entriesIn kept → Kept t rows (b .log) kept
+      → KeptLog t book (b .sites) (b .log) kept
+  kept-log {kept = kept} er small en k =
       record {
-        good = record { room = g .room; logged = g .logged; position = g .position };
+        good = subst (λ (n : ℕ). GoodLog t (length (commandsOf book)) (b .sites) (b .log) n) en (record { room = g .room; logged = g .logged; position = g .position });
         bytes = small;
-        words = subst (λ (x : List ℕ). Kept t x (b .log) (b .entries) kept) er k;
+        words = subst (λ (x : List ℕ). Kept t x (b .log) kept) er k;
       }
 
   pub few : commands ≤ capacity

@@ -10,7 +10,6 @@ use Rattle.table.specs.declared.SiteTable.{SiteTable}
 use Rattle.register.specs.declared.Command.{Command}
 use Rattle.protocol.specs.World.{Step}
 use Rattle.layout.specs.Layout.{siteAt, siteSize}
-use Rattle.world.specs.declared.Stepped.{Stepped}
 use Rattle.world.specs.World.{Buffers, GoodWorld, Outcome}
 
 abbrev pub lent : List ℕ → List ℕ → ℕ → List ℕ → Buffers
@@ -29,9 +28,9 @@ Arrived t commands u sent sites v after =
     (book : List Command) (log : List ℕ) (entries : ℕ) → commands ≡ length book → GoodWorld t (length book) (lent sites log entries sent)
     → Outcome t book u (lent sites log entries sent) v (lent after log entries sent)
 
--- A step that changes the log only.
-abbrev pub Entered : SiteTable → ℕ → Step → List ℕ → ℕ → Stepped → List ℕ → Type 0
-Entered t commands u log entries r after =
+-- A step that changes the log only, which has n entries after it.
+abbrev pub Entered : SiteTable → ℕ → Step → List ℕ → ℕ → Verdict → List ℕ → ℕ → Type 0
+Entered t commands u log entries v after n =
     (book : List Command) (sites sent : List ℕ) → commands ≡ length book → GoodWorld t (length book) (lent sites log entries sent)
     → ((k : ℕ) → getD sites k 0 < 256)
-    → Outcome t book u (lent sites log entries sent) (r .verdict) (lent sites after (r .entries) sent)
+    → Outcome t book u (lent sites log entries sent) v (lent sites after n sent)

@@ -1,4 +1,4 @@
-// All sites, the log and what was sent, in three lent buffers: the start of a run, and what a step answers.
+// All sites, the log and what was sent, in three lent buffers: the start of a run.
 ghost use mathlib.Core.Path.{_≡_};
 ghost use Prim.Native.Nat.{_*_};
 ghost use lib.ListN.{length};
@@ -6,14 +6,7 @@ ghost use Rattle.layout.specs.Layout.{siteSize};
 ghost use Rattle.sent.specs.Sent.{sentSize};
 ghost use Rattle.world.specs.Started.{Started};
 use layout::Site;
-use refusals::Verdict;
 use table::SiteTable;
-
-// What a step answers: the verdict, and how many entries of the log are meant after it.
-pub struct Stepped {
-    pub verdict: Verdict,
-    pub entries: usize,
-}
 
 // Every site is fresh and nothing is sent.
 pub fn start(sites: &mut [u8], sent: &mut [u8], table: SiteTable)

@@ -2,6 +2,7 @@
 -- Assumes nothing.
 use borrow.Author.Needs.{needs}
 use denote.Ref.{now}
+use Rattle.rounds.specs.Rounds.{entriesIn}
 use mathlib.Core.Path.{ap, _∙_}
 use mathlib.Core.Bool.{true, false}
 use native.Mathlib.Omega.{arith}
@@ -20,7 +21,7 @@ use Rattle.closings.proofs.round_end.Tie as tie
 returns : tie.Need-returns
 returns c =
     let a = c .before .before .before .before .before .before .before .args in
-    λ log entries k. end-no-site (a .rules .table) (commandsOf (now (a .book))) (now (a .sites)) (λ n. c .before .before .before .before .before .before .slice-known .given n .fits) (a .site) log entries (omega arith)
+    λ log k. end-no-site (a .rules .table) (commandsOf (now (a .book))) (now (a .sites)) (λ n. c .before .before .before .before .before .before .slice-known .given n .fits) (a .site) log (entriesIn (now (a .kept))) (omega arith)
 
 is-faulty-requires : tie.Need-is-faulty-requires
 is-faulty-requires c κs = search needs
@@ -29,7 +30,7 @@ returns-2 : tie.Need-returns-2
 returns-2 c =
     let a = c .before .before .before .before .before .before .before .before .before .args in
     let i : a .site < a .rules .table .sites = omega (arith, c .before .before .if1 .left) in
-    λ log entries k. end-role (a .rules .table) (commandsOf (now (a .book))) (now (a .sites)) (λ n. c .before .before .before .before .before .before .before .before .slice-known .given n .fits) (a .site) log entries i (c .before .is-faulty .ensures) (c .if2 .taken)
+    λ log k. end-role (a .rules .table) (commandsOf (now (a .book))) (now (a .sites)) (λ n. c .before .before .before .before .before .before .before .before .slice-known .given n .fits) (a .site) log (entriesIn (now (a .kept))) i (c .before .is-faulty .ensures) (c .if2 .taken)
 
 mul-from : tie.Need-mul-from
 mul-from c = search needs
@@ -71,7 +72,7 @@ decision-requires : tie.Need-decision-requires
 decision-requires c κs =
     let o = c .before .before .before .before .before .before .before .before .before .before .before .before .before .before .before in
     let a = o .args in
-    (o .pre .1 .2 .words .size, round-kept (a .rules .table) (a .rules .commands) (now (a .sites)) (a .site) (o .pre .0) (omega arith) (c .round .ensures ∙ (λ z. head-at (now (a .sites)) (a .site) ((a .site * siteSize + siteSize) - a .site * siteSize) (omega arith) z .round)))
+    (o .pre .1 .1 .words .size, round-kept (a .rules .table) (a .rules .commands) (now (a .sites)) (a .site) (o .pre .0) (omega arith) (c .round .ensures ∙ (λ z. head-at (now (a .sites)) (a .site) ((a .site * siteSize + siteSize) - a .site * siteSize) (omega arith) z .round)))
 
 enum-told : tie.Need-enum-told
 enum-told c = search needs
@@ -119,7 +120,7 @@ round-end-requires-2 c κs =
     let i : a .site < a .rules .table .sites = omega (arith, c .before .before .before .before .before .before .before .before .before .before .before .before .before .before .before .if1 .left) in
     let k = (a .site * siteSize + siteSize) - a .site * siteSize in
     let h = head-at (now (a .sites)) (a .site) k (omega arith) in
-    let w = sets-fit (a .rules .table) (o .pre .2) (now (a .book)) (now (a .sites)) (o .pre .1 .0) (o .pre .1 .1) (o .pre .1 .2) (a .site) i (c .before .before .before .before .before .before .before .before .before .before .position .ensures ∙ (λ z. h z .position)) (c .before .before .before .before .before .before .before .round .ensures ∙ (λ z. h z .round)) (c .before .before .before .before .before .before .decision .ensures) (a .rules .commands) (o .pre .4) _ (c .before .before .before .before .decision2 .given .1) in (
+    let w = sets-fit (a .rules .table) (o .pre .2) (now (a .book)) (now (a .sites)) (o .pre .1 .0) (o .pre .1 .1) (a .site) i (c .before .before .before .before .before .before .before .before .before .before .position .ensures ∙ (λ z. h z .position)) (c .before .before .before .before .before .before .before .round .ensures ∙ (λ z. h z .round)) (c .before .before .before .before .before .before .decision .ensures) (a .rules .commands) (o .pre .4) _ (c .before .before .before .before .decision2 .given .1) in (
       (a .rules .table .sites, good-part (a .rules .table) (a .rules .commands) (now (a .sites)) (a .site) k (o .pre .0) i (omega arith)),
       o .pre .3,
       o .pre .4,
@@ -138,9 +139,9 @@ returns-3 c =
     let k = (a .site * siteSize + siteSize) - a .site * siteSize in
     let h = head-at (now (a .sites)) (a .site) k (omega arith) in
     let r = c .before .before .round-end in
-    λ log entries g.
-    end-carried (a .rules .table) (commandsOf (now (a .book))) (now (a .sites)) (λ n. c .before .before .before .before .before .before .before .before .before .before .before .before .before .before .before .before .before .before .before .before .before .before .slice-known .given n .fits) (a .site) log entries i (c .before .before .before .before .before .before .before .before .before .before .before .before .before .before .before .is-faulty .ensures) (c .before .before .before .before .before .before .before .before .before .before .before .before .before .before .if2 .left)
-    (site-undecided (a .rules .table) (o .pre .2) (now (a .book)) (now (a .sites)) log entries g (a .site) i (c .before .before .before .before .before .before .before .before .before .before .before .position .ensures ∙ (λ z. h z .position)) (c .before .before .before .before .before .before .before .before .round .ensures ∙ (λ z. h z .round)) (c .before .before .before .before .before .before .before .decision .ensures) _ _ (c .before .before .before .before .before .enum-told .given .1))
+    λ log g.
+    end-carried (a .rules .table) (commandsOf (now (a .book))) (now (a .sites)) (λ n. c .before .before .before .before .before .before .before .before .before .before .before .before .before .before .before .before .before .before .before .before .before .before .slice-known .given n .fits) (a .site) log (entriesIn (now (a .kept))) i (c .before .before .before .before .before .before .before .before .before .before .before .before .before .before .before .is-faulty .ensures) (c .before .before .before .before .before .before .before .before .before .before .before .before .before .before .if2 .left)
+    (site-undecided (a .rules .table) (o .pre .2) (now (a .book)) (now (a .sites)) log g (a .site) i (c .before .before .before .before .before .before .before .before .before .before .before .position .ensures ∙ (λ z. h z .position)) (c .before .before .before .before .before .before .before .before .round .ensures ∙ (λ z. h z .round)) (c .before .before .before .before .before .before .before .decision .ensures) _ _ (c .before .before .before .before .before .enum-told .given .1))
     (at-site (λ b after. RoundEnded (commandsOf (now (a .book))) false (c .before .before .before .before .empty .result) (c .before .before .before .before .empty .result) b (r .result) after) (now (a .sites)) (a .site) k _ (omega arith)
     (sites-room (a .rules .table) (a .rules .commands) (now (a .sites)) (a .site) (o .pre .0) i) (r .kept .0) (r .ensures))
 
@@ -156,9 +157,9 @@ returns-4 c =
     let h = head-at (now (a .sites)) (a .site) k (omega arith) in
     let r = c .before .before .round-end2 in
     let x = c .before .before .before .before .before .before .before .decision2 .given .0 .0 in
-    λ log entries g.
-    end-carried (a .rules .table) (commandsOf (now (a .book))) (now (a .sites)) (λ n. c .before .before .before .before .before .before .before .before .before .before .before .before .before .before .before .before .before .before .before .before .before .before .before .before .slice-known .given n .fits) (a .site) log entries i (c .before .before .before .before .before .before .before .before .before .before .before .before .before .before .before .before .before .is-faulty .ensures) (c .before .before .before .before .before .before .before .before .before .before .before .before .before .before .before .before .if2 .left)
-    (site-decided (a .rules .table) (o .pre .2) (now (a .book)) (now (a .sites)) log entries g (a .site) i (c .before .before .before .before .before .before .before .before .before .before .before .before .before .position .ensures ∙ (λ z. h z .position)) (c .before .before .before .before .before .before .before .before .before .before .round .ensures ∙ (λ z. h z .round)) (c .before .before .before .before .before .before .before .before .before .decision .ensures) _ (c .before .before .before .before .before .before .before .decision2 .given .1))
+    λ log g.
+    end-carried (a .rules .table) (commandsOf (now (a .book))) (now (a .sites)) (λ n. c .before .before .before .before .before .before .before .before .before .before .before .before .before .before .before .before .before .before .before .before .before .before .before .before .slice-known .given n .fits) (a .site) log (entriesIn (now (a .kept))) i (c .before .before .before .before .before .before .before .before .before .before .before .before .before .before .before .before .before .is-faulty .ensures) (c .before .before .before .before .before .before .before .before .before .before .before .before .before .before .before .before .if2 .left)
+    (site-decided (a .rules .table) (o .pre .2) (now (a .book)) (now (a .sites)) log g (a .site) i (c .before .before .before .before .before .before .before .before .before .before .before .before .before .position .ensures ∙ (λ z. h z .position)) (c .before .before .before .before .before .before .before .before .before .before .round .ensures ∙ (λ z. h z .round)) (c .before .before .before .before .before .before .before .before .before .decision .ensures) _ (c .before .before .before .before .before .before .before .decision2 .given .1))
     (at-site (λ b after. RoundEnded (commandsOf (now (a .book))) true (x .nc) (x .c) b (r .result) after) (now (a .sites)) (a .site) k _ (omega arith)
     (sites-room (a .rules .table) (a .rules .commands) (now (a .sites)) (a .site) (o .pre .0) i) (r .kept .0) (r .ensures))
 

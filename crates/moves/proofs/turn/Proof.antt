@@ -3,11 +3,11 @@
 use borrow.Author.Needs.{needs}
 use native.Mathlib.Omega.{arith}
 use denote.Ref.{now}
-use mathlib.Core.Path.{ap, _∙_}
+use mathlib.Core.Path.{refl, ap, _∙_}
 use Prim.Native.Nat.{_+_, _*_, _-_, _<_}
 use lib.ListN.{length}
-use Rattle.table.proofs.Laws.{good-limits}
 use Rattle.layout.specs.Layout.{siteSize}
+use Rattle.rounds.specs.Rounds.{entriesIn}
 use Rattle.world.specs.Parts.{lent}
 use Rattle.world.proofs.Sites.{at-site, length-part, head-at}
 use Rattle.conflicts.proofs.Laws.{rows-size}
@@ -18,16 +18,20 @@ use Rattle.moves.proofs.turn.Tie as tie
 
 returns : tie.Need-returns
 returns c =
-    let a = c .before .before .before .before .before .before .before .before .args in
-    λ book ready. turn-range (a .rules .table) book (now (a .rows)) (lent (now (a .sites)) (now (a .log)) (a .entries) (now (a .sent))) (a .site) ready (λ k. c .before .before .before .before .before .before .before .slice-known .given k .fits) (omega arith)
+    let o = c .before .before .before .before .before .before .before .before in
+    let a = o .args in
+    let b = lent (now (a .sites)) (now (a .log)) (entriesIn (now (a .kept))) (now (a .sent)) in
+    ((λ book ready. turn-range (a .rules .table) book (now (a .rows)) b (a .site) ready (λ k. c .before .before .before .before .before .before .before .slice-known .given k .fits) (omega arith)), o .pre .1)
 
 is-faulty-requires : tie.Need-is-faulty-requires
 is-faulty-requires c κs = search needs
 
 returns-2 : tie.Need-returns-2
 returns-2 c =
-    let a = c .before .before .before .before .before .before .before .before .before .before .args in
-    λ book ready. turn-role (a .rules .table) book (now (a .rows)) (lent (now (a .sites)) (now (a .log)) (a .entries) (now (a .sent))) (a .site) ready (λ k. c .before .before .before .before .before .before .before .before .before .slice-known .given k .fits) (omega arith) (c .before .is-faulty .ensures) (c .if2 .taken)
+    let o = c .before .before .before .before .before .before .before .before .before .before in
+    let a = o .args in
+    let b = lent (now (a .sites)) (now (a .log)) (entriesIn (now (a .kept))) (now (a .sent)) in
+    ((λ book ready. turn-role (a .rules .table) book (now (a .rows)) b (a .site) ready (λ k. c .before .before .before .before .before .before .before .before .before .slice-known .given k .fits) (omega arith) (c .before .is-faulty .ensures) (c .if2 .taken)), o .pre .1)
 
 mul-from : tie.Need-mul-from
 mul-from c = search needs
@@ -45,7 +49,10 @@ part-round-end : tie.Need-part-round-end
 part-round-end c = omega (arith, c .before .before .before .before .before .before .before .before .before .before .before .pre .0 .1 .world .size)
 
 round-requires : tie.Need-round-requires
-round-requires c κs = length-part (now (c .before .before .before .before .before .before .before .before .before .before .before .before .args .sites)) (c .before .before .before .before .before .before .before .before .before .before .before .before .args .site) ((c .before .before .before .before .before .before .before .before .before .before .before .before .args .site * siteSize + siteSize) - c .before .before .before .before .before .before .before .before .before .before .before .before .args .site * siteSize) (omega arith) (omega (arith, c .before .before .before .before .before .before .before .before .before .before .before .before .pre .0 .1 .world .size))
+round-requires c κs =
+    let o = c .before .before .before .before .before .before .before .before .before .before .before .before in
+    let a = o .args in
+    length-part (now (a .sites)) (a .site) ((a .site * siteSize + siteSize) - a .site * siteSize) (omega arith) (omega (arith, o .pre .0 .1 .world .size))
 
 cast-round : tie.Need-cast-round
 cast-round c = search needs
@@ -61,11 +68,18 @@ part-turn-by-end c = search needs
 
 turn-by-requires : tie.Need-turn-by-requires
 turn-by-requires c κs =
-    let o = c .before .before .before .before .before .before .before .before .before .before .before .before .before .before in
+    let o = c .before .before .before .before .before .before .before .before .before .before .before .before .before .before .before in
     let a = o .args in
-    let p = round-told (a .rules .table) (o .pre .0 .0) (now (a .rows)) (lent (now (a .sites)) (now (a .log)) (a .entries) (now (a .sent))) (a .site) (o .pre .0 .1) (λ k. c .before .before .before .before .before .before .before .before .before .before .before .before .before .slice-known .given k .fits) (omega arith) (c .before .round .ensures ∙ (λ z. head-at (now (a .sites)) (a .site) ((a .site * siteSize + siteSize) - a .site * siteSize) (omega arith) z .round)) in
-    let l = p .1 in
-    (length-part (now (a .sites)) (a .site) ((a .site * siteSize + siteSize) - a .site * siteSize) (omega arith) (omega (arith, o .pre .0 .1 .world .size)), o .pre .1 .size, ap length (o .pre .0 .1 .conflicts) ∙ rows-size (o .pre .0 .0), p .2, omega (arith, c .before .round .ensures))
+    let b = lent (now (a .sites)) (now (a .log)) (entriesIn (now (a .kept))) (now (a .sent)) in
+    let i : a .site < a .rules .table .sites = omega (arith, c .before .before .before .before .before .before .before .if1 .left) in
+    let e = c .before .before .round .ensures ∙ (λ z. head-at (now (a .sites)) (a .site) ((a .site * siteSize + siteSize) - a .site * siteSize) (omega arith) z .round) in
+    let p = round-told (a .rules .table) (o .pre .0 .0) (now (a .rows)) b (a .site) (o .pre .0 .1) (λ k. c .before .before .before .before .before .before .before .before .before .before .before .before .before .before .slice-known .given k .fits) i e in (
+      length-part (now (a .sites)) (a .site) ((a .site * siteSize + siteSize) - a .site * siteSize) (omega arith) (omega (arith, o .pre .0 .1 .world .size)),
+      o .pre .1 .size,
+      ap length (o .pre .0 .1 .conflicts) ∙ rows-size (o .pre .0 .0),
+      p .2,
+      omega (arith, p .1, c .before .before .round .ensures),
+    )
 
 enum-known-answer : tie.Need-enum-known-answer
 enum-known-answer c = search needs
@@ -75,18 +89,19 @@ enum-known-answer-2 c = search needs
 
 add-acknowledgment-requires : tie.Need-add-acknowledgment-requires
 add-acknowledgment-requires c κs =
-    let o = c .before .before .before .before .before .before .before .before .before .before .before .before .before .before .before .before .before .before .before .before .before in
+    let o = c .before .before .before .before .before .before .before .before .before .before .before .before .before .before .before .before .before .before .before .before .before .before in
     let a = o .args in
-    let b = lent (now (a .sites)) (now (a .log)) (a .entries) (now (a .sent)) in
-    let i : a .site < a .rules .table .sites = omega (arith, c .before .before .before .before .before .before .before .before .before .before .before .before .before .if1 .left) in
-    let e = c .before .before .before .before .before .before .before .before .round .ensures ∙ (λ z. head-at (now (a .sites)) (a .site) ((a .site * siteSize + siteSize) - a .site * siteSize) (omega arith) z .round) in
-    let p = round-told (a .rules .table) (o .pre .0 .0) (now (a .rows)) b (a .site) (o .pre .0 .1) (λ k. c .before .before .before .before .before .before .before .before .before .before .before .before .before .before .before .before .before .before .before .before .slice-known .given k .fits) i e in
-    let h = at-site (TurnedBy (now (a .rows)) (now (a .kept)) (a .site) (c .before .before .before .before .before .before .turn-by .result)) (now (a .sites)) (a .site) ((a .site * siteSize + siteSize) - a .site * siteSize) _ (omega arith) (omega (arith, i, o .pre .0 .1 .world .size)) (c .before .before .before .before .before .before .turn-by .kept .0) (c .before .before .before .before .before .before .turn-by .ensures) in (
+    let b = lent (now (a .sites)) (now (a .log)) (entriesIn (now (a .kept))) (now (a .sent)) in
+    let i : a .site < a .rules .table .sites = omega (arith, c .before .before .before .before .before .before .before .before .before .before .before .before .before .before .if1 .left) in
+    let e = c .before .before .before .before .before .before .before .before .before .round .ensures ∙ (λ z. head-at (now (a .sites)) (a .site) ((a .site * siteSize + siteSize) - a .site * siteSize) (omega arith) z .round) in
+    let p = round-told (a .rules .table) (o .pre .0 .0) (now (a .rows)) b (a .site) (o .pre .0 .1) (λ k. c .before .before .before .before .before .before .before .before .before .before .before .before .before .before .before .before .before .before .before .before .before .slice-known .given k .fits) i e in
+    let h = at-site (TurnedBy (now (a .rows)) (now (a .kept)) (a .site) (c .before .before .before .before .before .before .turn-by .result)) (now (a .sites)) (a .site) ((a .site * siteSize + siteSize) - a .site * siteSize) _ (omega arith)
+    (omega (arith, i, o .pre .0 .1 .world .size)) (c .before .before .before .before .before .before .turn-by .kept .0) (c .before .before .before .before .before .before .turn-by .ensures) in (
       o .pre .0 .1 .world .sent,
       p .2,
       p .0,
       p .1,
-      room-told (a .rules .table) (o .pre .0 .0) (now (a .rows)) b (a .site) (o .pre .0 .1) (λ k. c .before .before .before .before .before .before .before .before .before .before .before .before .before .before .before .before .before .before .before .before .slice-known .given k .fits) i (c .before .before .before .before .before .before .before .before .before .before .before .before .is-faulty .ensures) (c .before .before .before .before .before .before .before .before .before .before .before .if2 .left) (o .pre .1) h _ (c .before .before .answer2 .given .1) _ e,
+      room-told (a .rules .table) (o .pre .0 .0) (now (a .rows)) b (a .site) (o .pre .0 .1) (λ k. c .before .before .before .before .before .before .before .before .before .before .before .before .before .before .before .before .before .before .before .before .before .slice-known .given k .fits) i (c .before .before .before .before .before .before .before .before .before .before .before .before .before .is-faulty .ensures) (c .before .before .before .before .before .before .before .before .before .before .before .before .if2 .left) refl (o .pre .1) h _ (c .before .before .answer2 .given .1) _ e,
     )
 
 enum-known-answer-3 : tie.Need-enum-known-answer-3
@@ -94,50 +109,42 @@ enum-known-answer-3 c = search needs
 
 put-check-requires : tie.Need-put-check-requires
 put-check-requires c κs =
-    let o = c .before .before .before .before .before .before .before .before .before .before .before .before .before .before .before .before .before .before .before .before .before in
+    let o = c .before .before .before .before .before .before .before .before .before .before .before .before .before .before .before .before .before .before .before .before .before .before in
     let a = o .args in
-    let i : a .site < a .rules .table .sites = omega (arith, c .before .before .before .before .before .before .before .before .before .before .before .before .before .if1 .left) in
-    let e = c .before .before .before .before .before .before .before .before .round .ensures ∙ (λ z. head-at (now (a .sites)) (a .site) ((a .site * siteSize + siteSize) - a .site * siteSize) (omega arith) z .round) in
-    let p = round-told (a .rules .table) (o .pre .0 .0) (now (a .rows)) (lent (now (a .sites)) (now (a .log)) (a .entries) (now (a .sent))) (a .site) (o .pre .0 .1) (λ k. c .before .before .before .before .before .before .before .before .before .before .before .before .before .before .before .before .before .before .before .before .slice-known .given k .fits) i e in
+    let b = lent (now (a .sites)) (now (a .log)) (entriesIn (now (a .kept))) (now (a .sent)) in
+    let i : a .site < a .rules .table .sites = omega (arith, c .before .before .before .before .before .before .before .before .before .before .before .before .before .before .if1 .left) in
+    let e = c .before .before .before .before .before .before .before .before .before .round .ensures ∙ (λ z. head-at (now (a .sites)) (a .site) ((a .site * siteSize + siteSize) - a .site * siteSize) (omega arith) z .round) in
+    let p = round-told (a .rules .table) (o .pre .0 .0) (now (a .rows)) b (a .site) (o .pre .0 .1) (λ k. c .before .before .before .before .before .before .before .before .before .before .before .before .before .before .before .before .before .before .before .before .before .slice-known .given k .fits) i e in
     (o .pre .0 .1 .world .sent, p .2, p .0, p .1)
 
-write-entry-requires : tie.Need-write-entry-requires
-write-entry-requires c κs =
-    let o = c .before .before .before .before .before .before .before .before .before .before .before .before .before .before .before .before .before .before .before .before .before .before .before .before .before .before .before in
+append-requires : tie.Need-append-requires
+append-requires c κs =
+    let o = c .before .before .before .before .before .before .before .before .before .before .before .before .before .before .before .before .before .before .before .before .before .before .before .before .before .before .before .before .before in
     let a = o .args in
-    let i : a .site < a .rules .table .sites = omega (arith, c .before .before .before .before .before .before .before .before .before .before .before .before .before .before .before .before .before .before .before .if1 .left) in
-    let e = c .before .before .before .before .before .before .before .before .before .before .before .before .before .before .round .ensures ∙ (λ z. head-at (now (a .sites)) (a .site) ((a .site * siteSize + siteSize) - a .site * siteSize) (omega arith) z .round) in
-    let p = round-told (a .rules .table) (o .pre .0 .0) (now (a .rows)) (lent (now (a .sites)) (now (a .log)) (a .entries) (now (a .sent))) (a .site) (o .pre .0 .1) (λ k. c .before .before .before .before .before .before .before .before .before .before .before .before .before .before .before .before .before .before .before .before .before .before .before .before .before .before .slice-known .given k .fits) i e in
-    (omega (arith, o .pre .0 .1 .room), omega (arith, p .2), omega (arith, p .1))
-
-add-t48 : tie.Need-add-t48
-add-t48 c = omega (arith, c .before .before .before .before .before .before .before .before .before .before .before .before .before .before .before .before .before .before .before .before .before .before .before .before .before .before .before .before .before .before .pre .0 .1 .room, c .before .before .before .before .before .before .before .before .before .before .before .before .before .before .before .before .before .before .before .before .before .before .before .before .before .before .before .before .before .before .pre .0 .1 .world .short)
+    let b = lent (now (a .sites)) (now (a .log)) (entriesIn (now (a .kept))) (now (a .sent)) in
+    let i : a .site < a .rules .table .sites = omega (arith, c .before .before .before .before .before .before .before .before .before .before .before .before .before .before .before .before .before .before .before .before .before .if1 .left) in
+    let e = c .before .before .before .before .before .before .before .before .before .before .before .before .before .before .before .before .round .ensures ∙ (λ z. head-at (now (a .sites)) (a .site) ((a .site * siteSize + siteSize) - a .site * siteSize) (omega arith) z .round) in
+    let p = round-told (a .rules .table) (o .pre .0 .0) (now (a .rows)) b (a .site) (o .pre .0 .1) (λ k. c .before .before .before .before .before .before .before .before .before .before .before .before .before .before .before .before .before .before .before .before .before .before .before .before .before .before .before .before .slice-known .given k .fits) i e in
+    (o .pre .0 .1 .table, o .pre .1, omega (arith, o .pre .0 .1 .room), ap length (o .pre .0 .1 .conflicts) ∙ rows-size (o .pre .0 .0), i, omega (arith, p .1))
 
 same-length : tie.Need-same-length
 same-length c = search needs
 
-returns-3 : tie.Need-returns-3
-returns-3 c =
-    let o = c .before .before .before .before .before .before .before .before .before .before .before .before .before .before .before .before .before .before .before .before in
-    let a = o .args in
-    let i : a .site < a .rules .table .sites = omega (arith, c .before .before .before .before .before .before .before .before .before .before .before .before .if1 .left) in
-    let h = at-site (TurnedBy (now (a .rows)) (now (a .kept)) (a .site) (c .before .before .before .before .before .turn-by .result)) (now (a .sites)) (a .site) ((a .site * siteSize + siteSize) - a .site * siteSize) _ (omega arith) (omega (arith, i, o .pre .0 .1 .world .size)) (c .before .before .before .before .before .turn-by .kept .0) (c .before .before .before .before .before .turn-by .ensures) in
-    λ book ready. turn-refused (a .rules .table) book (now (a .rows)) (lent (now (a .sites)) (now (a .log)) (a .entries) (now (a .sent))) (a .site) ready (λ k. c .before .before .before .before .before .before .before .before .before .before .before .before .before .before .before .before .before .before .before .slice-known .given k .fits) i (c .before .before .before .before .before .before .before .before .before .before .before .is-faulty .ensures) (c .before .before .before .before .before .before .before .before .before .before .if2 .left) (o .pre .1) h _ (c .before .answer .given .1)
-
 same-length-2 : tie.Need-same-length-2
 same-length-2 c = search needs
 
+returns-3 : tie.Need-returns-3
+returns-3 c =
+    let o = c .before .before .before .before .before .before .before .before .before .before .before .before .before .before .before .before .before .before .before .before .before in
+    let a = o .args in
+    let b = lent (now (a .sites)) (now (a .log)) (entriesIn (now (a .kept))) (now (a .sent)) in
+    let i : a .site < a .rules .table .sites = omega (arith, c .before .before .before .before .before .before .before .before .before .before .before .before .before .if1 .left) in
+    let h = at-site (TurnedBy (now (a .rows)) (now (a .kept)) (a .site) (c .before .before .before .before .before .turn-by .result)) (now (a .sites)) (a .site) ((a .site * siteSize + siteSize) - a .site * siteSize) _ (omega arith)
+    (omega (arith, i, o .pre .0 .1 .world .size)) (c .before .before .before .before .before .turn-by .kept .0) (c .before .before .before .before .before .turn-by .ensures) in
+    ((λ book ready. turn-refused (a .rules .table) book (now (a .rows)) b (a .site) ready (λ k. c .before .before .before .before .before .before .before .before .before .before .before .before .before .before .before .before .before .before .before .before .slice-known .given k .fits) i (c .before .before .before .before .before .before .before .before .before .before .before .before .is-faulty .ensures) (c .before .before .before .before .before .before .before .before .before .before .before .if2 .left) refl (o .pre .1) h _ (c .before .answer .given .1)), o .pre .1)
+
 same-length-3 : tie.Need-same-length-3
 same-length-3 c = search needs
-
-returns-4 : tie.Need-returns-4
-returns-4 c =
-    let o = c .before .before .before .before .before .before .before .before .before .before .before .before .before .before .before .before .before .before .before .before .before .before .before .before in
-    let a = o .args in
-    let i : a .site < a .rules .table .sites = omega (arith, c .before .before .before .before .before .before .before .before .before .before .before .before .before .before .before .before .if1 .left) in
-    let e = c .before .before .before .before .before .before .before .before .before .before .before .round .ensures ∙ (λ z. head-at (now (a .sites)) (a .site) ((a .site * siteSize + siteSize) - a .site * siteSize) (omega arith) z .round) in
-    let h = at-site (TurnedBy (now (a .rows)) (now (a .kept)) (a .site) (c .before .before .before .before .before .before .before .before .before .turn-by .result)) (now (a .sites)) (a .site) ((a .site * siteSize + siteSize) - a .site * siteSize) _ (omega arith) (omega (arith, i, o .pre .0 .1 .world .size)) (c .before .before .before .before .before .before .before .before .before .turn-by .kept .0) (c .before .before .before .before .before .before .before .before .before .turn-by .ensures) in
-    λ book ready. acknowledged (a .rules .table) book (now (a .rows)) (lent (now (a .sites)) (now (a .log)) (a .entries) (now (a .sent))) (a .site) ready (λ k. c .before .before .before .before .before .before .before .before .before .before .before .before .before .before .before .before .before .before .before .before .before .before .before .slice-known .given k .fits) i (c .before .before .before .before .before .before .before .before .before .before .before .before .before .before .before .is-faulty .ensures) (c .before .before .before .before .before .before .before .before .before .before .before .before .before .before .if2 .left) (o .pre .1) h _ (c .before .before .before .before .before .answer2 .given .1) _ e (c .before .before .add-acknowledgment .ensures)
 
 same-length-4 : tie.Need-same-length-4
 same-length-4 c = search needs
@@ -145,17 +152,46 @@ same-length-4 c = search needs
 same-length-5 : tie.Need-same-length-5
 same-length-5 c = search needs
 
+returns-4 : tie.Need-returns-4
+returns-4 c =
+    let o = c .before .before .before .before .before .before .before .before .before .before .before .before .before .before .before .before .before .before .before .before .before .before .before .before .before in
+    let a = o .args in
+    let b = lent (now (a .sites)) (now (a .log)) (entriesIn (now (a .kept))) (now (a .sent)) in
+    let i : a .site < a .rules .table .sites = omega (arith, c .before .before .before .before .before .before .before .before .before .before .before .before .before .before .before .before .before .if1 .left) in
+    let e = c .before .before .before .before .before .before .before .before .before .before .before .before .round .ensures ∙ (λ z. head-at (now (a .sites)) (a .site) ((a .site * siteSize + siteSize) - a .site * siteSize) (omega arith) z .round) in
+    let h = at-site (TurnedBy (now (a .rows)) (now (a .kept)) (a .site) (c .before .before .before .before .before .before .before .before .before .turn-by .result)) (now (a .sites)) (a .site) ((a .site * siteSize + siteSize) - a .site * siteSize) _ (omega arith)
+    (omega (arith, i, o .pre .0 .1 .world .size)) (c .before .before .before .before .before .before .before .before .before .turn-by .kept .0) (c .before .before .before .before .before .before .before .before .before .turn-by .ensures) in (
+      (λ book ready. acknowledged (a .rules .table) book (now (a .rows)) b (a .site) ready (λ k. c .before .before .before .before .before .before .before .before .before .before .before .before .before .before .before .before .before .before .before .before .before .before .before .before .slice-known .given k .fits) i (c .before .before .before .before .before .before .before .before .before .before .before .before .before .before .before .before .is-faulty .ensures) (c .before .before .before .before .before .before .before .before .before .before .before .before .before .before .before .if2 .left) refl (o .pre .1) h _ (c .before .before .before .before .before .answer2 .given .1) _ e
+          (c .before .before .add-acknowledgment .ensures)),
+      o .pre .1,
+    )
+
 same-length-6 : tie.Need-same-length-6
 same-length-6 c = search needs
 
+same-length-7 : tie.Need-same-length-7
+same-length-7 c = search needs
+
+same-length-8 : tie.Need-same-length-8
+same-length-8 c = search needs
+
+same-length-9 : tie.Need-same-length-9
+same-length-9 c = search needs
+
 returns-5 : tie.Need-returns-5
 returns-5 c =
-    let o = c .before .before .before .before .before .before .before .before .before .before .before .before .before .before .before .before .before .before .before .before .before .before .before .before .before .before .before .before .before .before in
+    let o = c .before .before .before .before .before .before .before .before .before .before .before .before .before .before .before .before .before .before .before .before .before .before .before .before .before .before .before .before .before .before .before .before .before .before in
     let a = o .args in
-    let i : a .site < a .rules .table .sites = omega (arith, c .before .before .before .before .before .before .before .before .before .before .before .before .before .before .before .before .before .before .before .before .before .before .if1 .left) in
-    let e = c .before .before .before .before .before .before .before .before .before .before .before .before .before .before .before .before .before .round .ensures ∙ (λ z. head-at (now (a .sites)) (a .site) ((a .site * siteSize + siteSize) - a .site * siteSize) (omega arith) z .round) in
-    let h = at-site (TurnedBy (now (a .rows)) (now (a .kept)) (a .site) (c .before .before .before .before .before .before .before .before .before .before .before .before .before .before .before .turn-by .result)) (now (a .sites)) (a .site) ((a .site * siteSize + siteSize) - a .site * siteSize) _ (omega arith) (omega (arith, i, o .pre .0 .1 .world .size)) (c .before .before .before .before .before .before .before .before .before .before .before .before .before .before .before .turn-by .kept .0) (c .before .before .before .before .before .before .before .before .before .before .before .before .before .before .before .turn-by .ensures) in
-    λ book ready. proposed (a .rules .table) book (now (a .rows)) (lent (now (a .sites)) (now (a .log)) (a .entries) (now (a .sent))) (a .site) ready (λ k. c .before .before .before .before .before .before .before .before .before .before .before .before .before .before .before .before .before .before .before .before .before .before .before .before .before .before .before .before .before .slice-known .given k .fits) i (c .before .before .before .before .before .before .before .before .before .before .before .before .before .before .before .before .before .before .before .before .before .is-faulty .ensures) (c .before .before .before .before .before .before .before .before .before .before .before .before .before .before .before .before .before .before .before .before .if2 .left) (o .pre .1) h _ _ (c .before .before .before .before .before .before .before .before .before .before .before .answer3 .given .1) _ e (c .before .before .before .before .before .before .before .before .put-check .ensures) (c .before .before .write-entry .ensures)
+    let b = lent (now (a .sites)) (now (a .log)) (entriesIn (now (a .kept))) (now (a .sent)) in
+    let i : a .site < a .rules .table .sites = omega (arith, c .before .before .before .before .before .before .before .before .before .before .before .before .before .before .before .before .before .before .before .before .before .before .before .before .before .before .if1 .left) in
+    let e = c .before .before .before .before .before .before .before .before .before .before .before .before .before .before .before .before .before .before .before .before .before .round .ensures ∙ (λ z. head-at (now (a .sites)) (a .site) ((a .site * siteSize + siteSize) - a .site * siteSize) (omega arith) z .round) in
+    let h = at-site (TurnedBy (now (a .rows)) (now (a .kept)) (a .site) (c .before .before .before .before .before .before .before .before .before .before .before .before .before .before .before .before .before .before .turn-by .result)) (now (a .sites)) (a .site) ((a .site * siteSize + siteSize) - a .site * siteSize) _ (omega arith)
+    (omega (arith, i, o .pre .0 .1 .world .size)) (c .before .before .before .before .before .before .before .before .before .before .before .before .before .before .before .before .before .before .turn-by .kept .0) (c .before .before .before .before .before .before .before .before .before .before .before .before .before .before .before .before .before .before .turn-by .ensures) in
+    let w = c .before .before .before .before .append .ensures in (
+      (λ book ready. proposed (a .rules .table) book (now (a .rows)) b (a .site) ready (λ k. c .before .before .before .before .before .before .before .before .before .before .before .before .before .before .before .before .before .before .before .before .before .before .before .before .before .before .before .before .before .before .before .before .before .slice-known .given k .fits) i (c .before .before .before .before .before .before .before .before .before .before .before .before .before .before .before .before .before .before .before .before .before .before .before .before .before .is-faulty .ensures) (c .before .before .before .before .before .before .before .before .before .before .before .before .before .before .before .before .before .before .before .before .before .before .before .before .if2 .left) refl (o .pre .1) h _ _ (c .before .before .before .before .before .before .before .before .before .before .before .before .before .before .answer3 .given .1) _ e
+          (c .before .before .before .before .before .before .before .before .before .before .before .put-check .ensures) (w .0) (w .1)),
+      w .2,
+    )
 
 pub turn-spec : {M : Type 1} → statement M
 turn-spec =
@@ -180,14 +216,16 @@ turn-spec =
     add-acknowledgment-requires
     enum-known-answer-3
     put-check-requires
-    write-entry-requires
-    add-t48
+    append-requires
     same-length
-    returns-3
     same-length-2
+    returns-3
     same-length-3
-    returns-4
     same-length-4
     same-length-5
+    returns-4
     same-length-6
+    same-length-7
+    same-length-8
+    same-length-9
     returns-5)

@@ -9,7 +9,7 @@ use lib.ListN.{length}
 use Rattle.commands.specs.Book.{commandsOf}
 use Rattle.steps.specs.Meaning.{meaning}
 use Rattle.steps.proofs.Walk.{inside}
-use Rattle.rounds.specs.Rounds.{Kept}
+use Rattle.rounds.specs.Rounds.{entriesIn, Kept}
 use Rattle.world.specs.Parts.{lent}
 use Rattle.play.specs.Played.{lineRoom}
 use Rattle.play.proofs.Laws.{Playing, playing-none, playing-more, playing-last, playing-end}
@@ -18,7 +18,7 @@ use Rattle.play.proofs.play_on.Statement.{statement}
 use Rattle.play.proofs.play_on.Tie as tie
 
 abbrev Inv-loop : tie.InvT-loop
-Inv-loop sites₀ log₀ sent₀ kept₀ rules book places rows steps out₀ from entries₀ end₀ at₀ number₀ sites log sent kept out entries end at number =
+Inv-loop sites₀ log₀ sent₀ kept₀ rules book places rows steps out₀ from end₀ at₀ number₀ sites log sent kept out end at number =
     (at ≤ length steps)
     × (2 * number ≤ at + 2)
     × (end + lineRoom ≤ from + lineRoom * number)
@@ -26,11 +26,11 @@ Inv-loop sites₀ log₀ sent₀ kept₀ rules book places rows steps out₀ fro
     × (length log ≡ length log₀)
     × (length sent ≡ length sent₀)
     × (length out ≡ length out₀)
-    × Playing (rules .table) (commandsOf book) steps out₀ from sites₀ (lent sites log entries sent) out end at number
-    × Kept (rules .table) rows log entries kept
+    × Playing (rules .table) (commandsOf book) steps out₀ from sites₀ (lent sites log (entriesIn kept) sent) out end at number
+    × Kept (rules .table) rows log kept
 
 abbrev μ-loop : tie.MeasureT-loop
-μ-loop sites₀ log₀ sent₀ kept₀ rules book places rows steps out₀ from entries₀ end₀ at₀ number₀ sites log sent kept out entries end at number =
+μ-loop sites₀ log₀ sent₀ kept₀ rules book places rows steps out₀ from end₀ at₀ number₀ sites log sent kept out end at number =
     length steps - at
 
 loop-holds : tie.Need-loop-holds Inv-loop μ-loop
@@ -60,6 +60,7 @@ enum-told c = search needs
 report-requires : tie.Need-report-requires Inv-loop μ-loop
 report-requires c κs =
     let o = c .before .before .before .before .before .before .before .before .before .before .before .before .before .before .before in
+    let a = o .args in
     let l = c .before .before .before .before .before .loop in
     (omega (arith, o .pre .0 .room, o .pre .0 .short, l .inv .0, l .inv .1, l .inv .2, l .inv .6, c .before .before .before .before .loop-test .taken), omega (arith, o .pre .0 .short, l .inv .0, l .inv .1))
 
@@ -85,19 +86,22 @@ returns c =
     let l = c .before .before .before .before .before .before .before .before .loop in
     let w = c .before .before .report .ensures in
     let g : l .at < length (now (a .steps)) = omega (arith, c .before .before .before .before .before .before .before .loop-test .taken) in
-    let far : l .end ≤ length (l .out) = omega (arith, o .pre .0 .room, o .pre .0 .short, l .inv .0, l .inv .1, l .inv .2, l .inv .6, g) in
+    let far : l .end ≤ length (l .out) = omega (arith, o .pre .0 .room, o .pre .0 .short, l .inv .0, l .inv .1, l .inv .2, l .inv .6, c .before .before .before .before .before .before .before .loop-test .taken) in
     playing-end (a .rules .table) (commandsOf (now (a .book))) (now (a .steps)) (now (a .out)) (a .from)
     (playing-last (a .rules .table) (commandsOf (now (a .book))) (now (a .steps)) (now (a .out)) (a .from) (l .inv .7) far g (sym (c .before .before .before .before .before .before .read-step .ensures) ∙ c .before .before .before .before .enum-told .given .1) refl (w .0))
     (omega arith) (omega (arith, o .pre .0 .short, l .inv .1, l .inv .2, w .1, g))
 
+size-requires : tie.Need-size-requires Inv-loop μ-loop
+size-requires c κs = search needs
+
 step-requires : tie.Need-step-requires Inv-loop μ-loop
 step-requires c κs =
-    let o = c .before .before .before .before .before .before .before .before .before .before .before .before .before .before .before .before .before .before .before in
+    let o = c .before .before .before .before .before .before .before .before .before .before .before .before .before .before .before .before .before .before .before .before in
     let a = o .args in
+    let l = c .before .before .before .before .before .before .before .before .before .before .loop in
     let t = a .rules .table in
     let k = now (a .book) in
     let q = o .pre .0 in
-    let l = c .before .before .before .before .before .before .before .before .before .loop in
     let p = l .inv .7 in
     let n = entries-few t k (q .good) (p .past) (p .world) in (
       (record {
@@ -105,7 +109,7 @@ step-requires c κs =
         conflicts = q .conflicts;
         world = p .world .good;
         room = omega (arith, q .log, l .inv .4);
-        acks = acks-few t k (q .good) (p .past) (p .world) (meaning (c .before .before .before .before .before .reading .given .0 .0));
+        acks = acks-few t k (q .good) (p .past) (p .world) (meaning (c .before .before .before .before .before .before .reading .given .0 .0));
       }),
       q .noted,
       q .counted,
@@ -114,31 +118,34 @@ step-requires c κs =
 
 report-requires-2 : tie.Need-report-requires-2 Inv-loop μ-loop
 report-requires-2 c κs =
-    let o = c .before .before .before .before .before .before .before .before .before .before .before .before .before .before .before .before .before .before .before .before .before .before .before .before .before .before .before .before .before in
-    let l = c .before .before .before .before .before .before .before .before .before .before .before .before .before .before .before .before .before .before .before .loop in
-    (omega (arith, o .pre .0 .room, o .pre .0 .short, l .inv .0, l .inv .1, l .inv .2, l .inv .6, c .before .before .before .before .before .before .before .before .before .before .before .before .before .before .before .before .before .before .loop-test .taken), omega (arith, o .pre .0 .short, l .inv .0, l .inv .1))
-
-size-requires : tie.Need-size-requires Inv-loop μ-loop
-size-requires c κs = search needs
+    let o = c .before .before .before .before .before .before .before .before .before .before .before .before .before .before .before .before .before .before .before .before .before .before .before .before .before .before .before .before .before .before in
+    let a = o .args in
+    let l = c .before .before .before .before .before .before .before .before .before .before .before .before .before .before .before .before .before .before .before .before .loop in
+    (omega (arith, o .pre .0 .room, o .pre .0 .short, l .inv .0, l .inv .1, l .inv .2, l .inv .6, c .before .before .before .before .before .before .before .before .before .before .before .before .before .before .before .before .before .before .before .loop-test .taken), omega (arith, o .pre .0 .short, l .inv .0, l .inv .1))
 
 add-at : tie.Need-add-at Inv-loop μ-loop
 add-at c =
     let o = c .before .before .before .before .before .before .before .before .before .before .before .before .before .before .before .before .before .before .before .before .before .before .before .before .before .before .before .before .before .before .before .before .before in
+    let a = o .args in
     let l = c .before .before .before .before .before .before .before .before .before .before .before .before .before .before .before .before .before .before .before .before .before .before .before .loop in
-    let i = inside (now (o .args .steps)) (l .at) (l .inv .0) (sym (c .before .before .before .before .before .before .before .before .before .before .before .before .before .before .before .before .before .before .before .before .before .read-step .ensures) ∙ c .before .before .before .before .before .before .before .before .before .before .before .before .before .before .before .before .before .before .before .reading .given .1) (c .size .ensures) in
+    let e = sym (c .before .before .before .before .before .before .before .before .before .before .before .before .before .before .before .before .before .before .before .before .before .read-step .ensures) ∙ c .before .before .before .before .before .before .before .before .before .before .before .before .before .before .before .before .before .before .before .reading .given .1 in
+    let i = inside (now (a .steps)) (l .at) (l .inv .0) e (c .before .before .before .before .before .before .before .before .before .before .before .before .before .before .before .before .before .size .ensures) in
     record { fits = omega (arith, o .pre .0 .short, i .1) }
 
 add-number : tie.Need-add-number Inv-loop μ-loop
 add-number c =
     let o = c .before .before .before .before .before .before .before .before .before .before .before .before .before .before .before .before .before .before .before .before .before .before .before .before .before .before .before .before .before .before .before .before .before in
+    let a = o .args in
     let l = c .before .before .before .before .before .before .before .before .before .before .before .before .before .before .before .before .before .before .before .before .before .before .before .loop in
     record { fits = omega (arith, o .pre .0 .short, l .inv .0, l .inv .1) }
 
 loop-less : tie.Need-loop-less Inv-loop μ-loop
 loop-less c =
     let o = c .before .before .before .before .before .before .before .before .before .before .before .before .before .before .before .before .before .before .before .before .before .before .before .before .before .before .before .before .before .before .before .before .before in
+    let a = o .args in
     let l = c .before .before .before .before .before .before .before .before .before .before .before .before .before .before .before .before .before .before .before .before .before .before .before .loop in
-    let i = inside (now (o .args .steps)) (l .at) (l .inv .0) (sym (c .before .before .before .before .before .before .before .before .before .before .before .before .before .before .before .before .before .before .before .before .before .read-step .ensures) ∙ c .before .before .before .before .before .before .before .before .before .before .before .before .before .before .before .before .before .before .before .reading .given .1) (c .size .ensures) in
+    let e = sym (c .before .before .before .before .before .before .before .before .before .before .before .before .before .before .before .before .before .before .before .before .before .read-step .ensures) ∙ c .before .before .before .before .before .before .before .before .before .before .before .before .before .before .before .before .before .before .before .reading .given .1 in
+    let i = inside (now (a .steps)) (l .at) (l .inv .0) e (c .before .before .before .before .before .before .before .before .before .before .before .before .before .before .before .before .before .size .ensures) in
     omega (arith, i .0, i .1)
 
 loop-again : tie.Need-loop-again Inv-loop μ-loop
@@ -146,10 +153,10 @@ loop-again c =
     let o = c .before .before .before .before .before .before .before .before .before .before .before .before .before .before .before .before .before .before .before .before .before .before .before .before .before .before .before .before .before .before .before .before .before in
     let a = o .args in
     let l = c .before .before .before .before .before .before .before .before .before .before .before .before .before .before .before .before .before .before .before .before .before .before .before .loop in
-    let b = c .before .before .before .before .before .before .before .before .before .before .before .before .before .step in
-    let w = c .before .before .before .report2 .ensures in
+    let b = c .before .before .before .before .before .before .before .before .before .before .before .before .step in
+    let w = c .before .before .report2 .ensures in
     let e = sym (c .before .before .before .before .before .before .before .before .before .before .before .before .before .before .before .before .before .before .before .before .before .read-step .ensures) ∙ c .before .before .before .before .before .before .before .before .before .before .before .before .before .before .before .before .before .before .before .reading .given .1 in
-    let i = inside (now (a .steps)) (l .at) (l .inv .0) e (c .size .ensures) in
+    let i = inside (now (a .steps)) (l .at) (l .inv .0) e (c .before .before .before .before .before .before .before .before .before .before .before .before .before .before .before .before .before .size .ensures) in
     let far : l .end ≤ length (l .out) = omega (arith, o .pre .0 .room, o .pre .0 .short, l .inv .0, l .inv .1, l .inv .2, l .inv .6, c .before .before .before .before .before .before .before .before .before .before .before .before .before .before .before .before .before .before .before .before .before .before .loop-test .taken) in (
       i .1,
       omega (arith, l .inv .1, i .0),
@@ -157,8 +164,8 @@ loop-again c =
       b .kept .0 ∙ l .inv .3,
       b .kept .1 .0 ∙ l .inv .4,
       b .kept .1 .1 .0 ∙ l .inv .5,
-      c .before .before .before .report2 .kept .0 ∙ l .inv .6,
-      playing-more (a .rules .table) (commandsOf (now (a .book))) (now (a .steps)) (now (a .out)) (a .from) (l .inv .7) far e (ap (λ (z : ℕ). l .at + z) (c .size .ensures)) (b .ensures .0) (w .0),
+      c .before .before .report2 .kept .0 ∙ l .inv .6,
+      playing-more (a .rules .table) (commandsOf (now (a .book))) (now (a .steps)) (now (a .out)) (a .from) (l .inv .7) far e (ap (λ (z : ℕ). l .at + z) (c .before .before .before .before .before .before .before .before .before .before .before .before .before .before .before .before .before .size .ensures)) (b .ensures .0) (w .0),
       b .ensures .1,
     )
 
@@ -202,9 +209,9 @@ play-on-spec =
     same-length-4
     same-length-5
     returns
+    size-requires
     step-requires
     report-requires-2
-    size-requires
     add-at
     add-number
     loop-less

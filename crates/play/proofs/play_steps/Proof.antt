@@ -2,7 +2,11 @@
 -- Rests on rounds' Keeping.
 use borrow.Author.Needs.{needs}
 use denote.Ref.{now}
-use Rattle.rounds.proofs.Keeping.{kept-start}
+use mathlib.Core.Path.{sym, subst}
+use Prim.Native.Nat.{ℕ}
+use Rattle.rounds.proofs.Keeping.{none-yet, kept-start}
+use Rattle.world.specs.Parts.{lent}
+use Rattle.play.specs.Played.{Playable}
 use Rattle.play.proofs.play_steps.Statement.{statement}
 use Rattle.play.proofs.play_steps.Tie as tie
 
@@ -12,7 +16,10 @@ slice-aggregate-play-on c = search needs
 play-on-requires : tie.Need-play-on-requires
 play-on-requires c κs =
     let o = c .before .before .before .before .before .before .before .before .before .before .before .before .before in
-    (o .pre, kept-start (o .args .rules .table) (now (o .args .rows)) (now (o .args .log)))
+    let a = o .args in (
+      subst (λ (n : ℕ). Playable (a .rules) (now (a .book)) (now (a .places)) (now (a .rows)) (now (a .steps)) (now (a .out)) (a .from) (lent (now (a .sites)) (now (a .log)) n (now (a .sent)))) (sym none-yet) (o .pre),
+      kept-start (a .rules .table) (now (a .rows)) (now (a .log)),
+    )
 
 same-length : tie.Need-same-length
 same-length c = search needs

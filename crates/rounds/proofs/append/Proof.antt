@@ -1,87 +1,72 @@
--- `append` meets its contract: by whether the site has an entry of the round.
+-- `append` meets its contract: the entry is written, taken in and counted.
 -- Assumes nothing.
 use borrow.Author.Needs.{needs}
+use mathlib.Core.Path.{refl, sym, subst}
 use denote.Ref.{now}
+use Prim.Native.Nat.{ℕ, _<_}
 use native.Mathlib.Omega.{arith}
+use lib.ListN.{length}
 use Rattle.table.proofs.Laws.{good-limits}
-use Rattle.rounds.proofs.Noting.{taken-again, once-read}
+use Rattle.entries.specs.declared.Entry.{Entry}
+use Rattle.rounds.specs.Rounds.{keptRounds}
+use Rattle.rounds.proofs.Keeping.{kept-before, new-entry, kept-appended}
 use Rattle.rounds.proofs.append.Statement.{statement}
 use Rattle.rounds.proofs.append.Tie as tie
 
-round-of-requires : tie.Need-round-of-requires
-round-of-requires c κs = search needs
+entries-requires : tie.Need-entries-requires
+entries-requires c κs = search needs
 
-site-of-requires : tie.Need-site-of-requires
-site-of-requires c κs = search needs
+write-entry-requires : tie.Need-write-entry-requires
+write-entry-requires c κs =
+    let o = c .before .before .before .before .before .before in
+    let l = good-limits (o .args .table) (o .pre .0) .sites in
+    (omega (arith, o .pre .2, c .before .entries .ensures), omega (arith, o .pre .4), omega (arith, o .pre .5))
 
-mul-load : tie.Need-mul-load
-mul-load c = search needs
-
-load-requires : tie.Need-load-requires
-load-requires c κs = search needs
-
-has-requires : tie.Need-has-requires
-has-requires c κs = search needs
-
-note-again-requires : tie.Need-note-again-requires
-note-again-requires c κs =
-    let s = c .before .before .before .before .before .before .before .before .before .before in (
-      s .pre .1 .size,
-      omega (arith, s .pre .5, c .before .before .before .before .before .before .round-of .ensures),
-      omega (arith, s .pre .4, c .before .before .before .before .before .site-of .ensures, good-limits (s .args .table) (s .pre .0)),
+enter-requires : tie.Need-enter-requires
+enter-requires c κs =
+    let o = c .before .before .before .before .before .before .before .before .before .before .before in
+    let a = o .args in
+    let l = good-limits (a .table) (o .pre .0) .sites in
+    let ek = c .before .before .before .before .before .before .entries .ensures in
+    let ew = c .before .before .before .before .write-entry .ensures in
+    let e = new-entry (a .table) (now (a .rows)) (now (a .log)) (now (a .kept)) (a .entry) (o .pre .1) (o .pre .2) ek ew
+    (record { site = omega (arith, o .pre .4); round = omega (arith, o .pre .5); nc = o .good .1 .1 .0 .1 .1 .1 .1 .0 .1 .1 .0 .1; c = o .good .1 .1 .0 .1 .1 .1 .1 .1 .0 .1 .1 .0 .1 }) in (
+      o .pre .0,
+      kept-before (a .table) (now (a .rows)) (now (a .log)) (now (a .kept)) (a .entry) (o .pre .1) (o .pre .2) ek ew,
+      omega (arith, o .pre .2, ek, c .before .before .before .before .write-entry .kept .0),
+      o .pre .3,
+      subst (λ (x : Entry). x .site < a .table .sites) (sym e) (o .pre .4),
+      subst (λ (x : Entry). x .round < keptRounds) (sym e) (o .pre .5),
     )
+
+add-after : tie.Need-add-after
+add-after c = search needs
+
+slice-write-kept : tie.Need-slice-write-kept
+slice-write-kept c = search needs
 
 same-length : tie.Need-same-length
 same-length c = search needs
 
-returns : tie.Need-returns
-returns c =
-    let s = c .before .before .before .before .before .before .before .before .before .before .before .before .before in
-    let a = s .args in
-    let er = c .before .before .before .before .before .before .before .before .before .round-of .ensures in
-    let es = c .before .before .before .before .before .before .before .before .site-of .ensures in
-    taken-again (a .table) (now (a .rows)) (now (a .log)) (a .k) (c .before .before .before .before .before .before .before .before .before .round-of .result) (now (a .kept))
-    (c .before .before .before .before .before .before .before .before .site-of .result) (s .pre .0) (s .pre .1) (omega (arith, s .pre .4, es)) (omega (arith, s .pre .5, er)) es er
-    (once-read (now (a .kept)) (c .before .before .before .before .before .before .before .before .before .round-of .result) (c .before .before .before .before .before .before .before .before .site-of .result)
-    (c .before .before .before .before .before .before .load .ensures) (c .before .before .before .before .before .has .ensures) (c .before .before .before .before .if1 .taken))
-    (c .before .before .note-again .ensures)
-
-enter-first-requires : tie.Need-enter-first-requires
-enter-first-requires c κs =
-    let s = c .before .before .before .before .before .before .before .before .before .before in
-    let a = s .args in
-    let er = c .before .before .before .before .before .before .round-of .ensures in
-    let es = c .before .before .before .before .before .site-of .ensures in (
-      s .pre .0,
-      s .pre .1,
-      s .pre .2,
-      s .pre .3,
-      omega (arith, s .pre .4, es),
-      omega (arith, s .pre .5, er),
-      es,
-      er,
-      once-read (now (a .kept)) (c .before .before .before .before .before .before .round-of .result) (c .before .before .before .before .before .site-of .result)
-          (c .before .before .before .load .ensures) (c .before .before .has .ensures) (c .before .if1 .left),
-    )
-
 same-length-2 : tie.Need-same-length-2
 same-length-2 c = search needs
 
-returns-2 : tie.Need-returns-2
-returns-2 c = search needs
+returns : tie.Need-returns
+returns c =
+    let o = c .before .before .before .before .before .before .before .before .before .before .before .before .before .before in
+    let a = o .args in
+    kept-appended (a .table) (now (a .rows)) (now (a .log)) (now (a .kept)) (a .entry) (o .pre .1) (o .pre .2) (c .before .before .before .before .before .before .before .before .before .entries .ensures) (c .before .before .before .before .before .before .before .write-entry .ensures)
+    (c .before .before .enter .ensures) refl
 
 pub append-spec : {M : Type 1} → statement M
 append-spec =
     tie.close
     (tie.spec
-    round-of-requires
-    site-of-requires
-    mul-load
-    load-requires
-    has-requires
-    note-again-requires
+    entries-requires
+    write-entry-requires
+    enter-requires
+    add-after
+    slice-write-kept
     same-length
-    returns
-    enter-first-requires
     same-length-2
-    returns-2)
+    returns)

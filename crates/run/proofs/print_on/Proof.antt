@@ -6,7 +6,7 @@ use borrow.Author.Needs.{needs}
 use denote.Ref.{now}
 use Rattle.table.proofs.Laws.{good-limits}
 use Rattle.commands.specs.Book.{commandsOf}
-use Rattle.run.proofs.Laws.{first-short, held-printable, all-parts, last-held, past-left}
+use Rattle.run.proofs.Laws.{first-short, held-printable, all-parts, past-left}
 use Rattle.run.proofs.print_on.Statement.{statement}
 use Rattle.run.proofs.print_on.Tie as tie
 
@@ -63,7 +63,7 @@ returns c =
     let a = c .before .before .before .before .before .before .before .before .before .before .before .before .before .before .before .before .before .before .before .before .before .before .before .before .before .before .before .before .before .before .before .before .before .before .before .before .before .before .before in (
       all-parts (a .args .rules .table) (commandsOf (now (a .args .book))) (now (a .args .steps)) (c .before .before .before .before .before .before .before .before .before .before .before .before .before .before .before .before .before .before .before .before .before .before .faulty-count .ensures) (a .pre .2 .count)
           (c .before .before .before .before .before .before .before .before .before .before .before .before .before .before .before .before .before .before .before .before .put-run-line .ensures) (c .before .before .before .before .before .before .before .before .before .before .before .before .before .play-steps .ensures) (c .before .before .put-site-lines .ensures .0),
-      last-held (a .args .rules .table) (commandsOf (now (a .args .book))) (now (a .args .steps)) (c .before .before .before .before .before .before .before .before .before .before .before .before .before .play-steps .ensures),
+      c .before .before .before .before .before .before .before .before .before .before .before .before .before .play-steps .ensures .world,
       past-left (a .args .rules .table) (commandsOf (now (a .args .book))) (c .before .before .before .before .before .before .before .before .before .before .before .before .before .before .before .before .before .before .before .before .before .before .before .before .before .before .before .start .ensures) (c .before .before .before .before .before .before .before .before .before .before .before .before .before .play-steps .ensures),
     )
 
