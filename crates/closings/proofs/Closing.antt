@@ -10,8 +10,6 @@ use borrow.Author.Tests.{lt-ltb, le-ltb}
 use Rattle.refusals.specs.declared.Verdict.{Verdict}
 use Rattle.refusals.specs.declared.Verdict.the-variants.{Refused}
 use Rattle.refusals.specs.declared.Refusal.the-variants.{Range, Role}
-use Rattle.sets.specs.declared.Set.{Set}
-use Rattle.sets.specs.Sets.{withinOf}
 use Rattle.table.specs.declared.SiteTable.{SiteTable}
 use Rattle.table.specs.Table.{isGood, faultyOf}
 use Rattle.register.specs.declared.Command.{Command}
@@ -27,13 +25,11 @@ use Rattle.layout.specs.Layout.{siteSize, headOf, view}
 use Rattle.layout.specs.Good.{Good}
 use Rattle.entries.specs.Entries.{entrySize, entryOf, logTo, inRangeOf}
 use Rattle.entries.proofs.Logs.{log-take}
-use Rattle.recovery.specs.declared.Sets.{Sets}
 use Rattle.recovery.specs.declared.Decision.{Decision}
-use Rattle.recovery.specs.declared.Decision.the-variants.{Undecided, Decided}
-use Rattle.recovery.specs.Decisions.{decisionOf}
-use Rattle.recovery.proofs.Within.{sets-within}
+use Rattle.recovery.specs.Decisions.{decisionOf, DecisionWithin}
+use Rattle.recovery.proofs.Within.{decision-within}
 use Rattle.ending.specs.Ending.{Told, RoundEnded}
-use Rattle.ending.proofs.Telling.{told-none, told-decided}
+use Rattle.ending.proofs.Telling.{told}
 use Rattle.rounds.specs.Rounds.{keptRounds, entriesIn, Kept}
 use Rattle.world.specs.World.{siteAt, worldOf}
 use Rattle.world.specs.Parts.{lent, AtSite}
@@ -89,9 +85,9 @@ module _ (t : SiteTable) (book : List Command) (sites : List ℕ) (small : (k : 
         let e : faultyOf t i ≡ true = sym ef ∙ h in
         refused t book (lent sites log entries sent) g (roundEnd i) Role (simp (lt-ltb i (t .sites) a, e)) small
 
-    pub end-carried : f ≡ false → {decided : Bool} {nc c : Set} → Told t book decided nc c (view t book (siteAt sites i)) (logTo log entries) → {v : Verdict} {after : List ℕ}
-        → AtSite i (λ b new. RoundEnded book decided nc c b v new) sites after → Closed t book (roundEnd i) log entries sites v after
-    end-carried h told p =
+    pub end-carried : f ≡ false → (d : Decision) → Told t book d (decision (dash t book) (view t book (siteAt sites i)) (logTo log entries)) (view t book (siteAt sites i) .round)
+        → {v : Verdict} {after : List ℕ} → AtSite i (λ b new. RoundEnded book d b v new) sites after → Closed t book (roundEnd i) log entries sites v after
+    end-carried h d told p =
         λ sent g.
         let b = lent sites log entries sent in
         let w = worldOf t book b in
@@ -140,19 +136,12 @@ module _ (t : SiteTable) (table : isGood t ≡ true) (bytes sites log : List ℕ
       (λ z. decide (dash t (commandsOf bytes)) (sym round z) (take (sym ek z) (logTo log (entriesIn kept))))
       ∙ ap (decide (dash t (commandsOf bytes)) r) (log-take log k (entriesIn kept) (read .0))
 
-  pub site-undecided : (nc c : Set) → d ≡ Undecided → Told t (commandsOf bytes) false nc c (view t (commandsOf bytes) (siteAt sites i)) (logTo log (entriesIn kept))
-  site-undecided nc c h =
-      told-none t table bytes rows log (good .bytes) k r (read .1) logged-read refl ed (view t (commandsOf bytes) (siteAt sites i)) (logTo log (entriesIn kept))
-      same (sym round) nc c h
+  pub site-told : Told t (commandsOf bytes) d (decision (dash t (commandsOf bytes)) (view t (commandsOf bytes) (siteAt sites i)) (logTo log (entriesIn kept))) (view t (commandsOf bytes) (siteAt sites i) .round)
+  site-told =
+      told t table bytes rows log (good .bytes) k r (read .1) logged-read refl ed (view t (commandsOf bytes) (siteAt sites i)) (logTo log (entriesIn kept)) same (sym round)
 
-  pub site-decided : (x : Sets) → d ≡ Decided x → Told t (commandsOf bytes) true (x .nc) (x .c) (view t (commandsOf bytes) (siteAt sites i)) (logTo log (entriesIn kept))
-  site-decided x h =
-      told-decided t table bytes rows log (good .bytes) k r (read .1) logged-read refl ed (view t (commandsOf bytes) (siteAt sites i)) (logTo log (entriesIn kept))
-      same (sym round) x h
-
-  pub sets-fit : (n : ℕ) → commands ≡ n → (x : Sets) → d ≡ Decided x → (withinOf (x .nc) n ≡ true) × (withinOf (x .c) n ≡ true)
-  sets-fit n e x h =
-      subst (λ (m : ℕ). (withinOf (x .nc) m ≡ true) × (withinOf (x .c) m ≡ true)) e (sets-within t table bytes rows log (good .bytes) k r (read .1) logged-read refl ed x h)
+  pub sets-fit : (n : ℕ) → commands ≡ n → DecisionWithin n d
+  sets-fit n e = subst (λ (m : ℕ). DecisionWithin m d) e (decision-within t table bytes rows log (good .bytes) k r (read .1) logged-read refl ed)
 
 -- The round of a site is one that is kept.
 pub round-kept : (t : SiteTable) (commands : ℕ) (sites : List ℕ) (i : ℕ) {r : ℕ} → GoodSites t commands sites → i < t .sites → r ≡ headOf (siteAt sites i) .round → r < keptRounds

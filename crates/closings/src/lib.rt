@@ -11,10 +11,8 @@ ghost use Rattle.deliver.specs.Delivering.{Noted};
 ghost use Rattle.rounds.specs.Rounds.{entriesIn};
 ghost use Rattle.closings.specs.Closings.{GoodSites, KeptLog, Closed};
 use layout::Site;
-use recovery::Decision;
 use refusals::Refusal;
 use refusals::Verdict;
-use sets::Set;
 use table::Rules;
 
 // 08: a site delivers a command fast.
@@ -74,23 +72,5 @@ pub fn round_end(
     let position = layout::position(&sites[from..to]) as usize;
     let round = layout::round(&sites[from..to]) as usize;
     let decision = rounds::decision(kept, round, position);
-    match decision {
-        Decision::Undecided => {
-            let none = Set::empty();
-            ending::round_end(
-                &mut sites[from..to],
-                book,
-                places,
-                commands,
-                false,
-                none,
-                none,
-            )
-        }
-        Decision::Decided(sets) => {
-            let nc = sets.nc;
-            let c = sets.c;
-            ending::round_end(&mut sites[from..to], book, places, commands, true, nc, c)
-        }
-    }
+    ending::round_end(&mut sites[from..to], book, places, commands, decision)
 }

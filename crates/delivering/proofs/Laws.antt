@@ -1,7 +1,7 @@
 -- What the calls that deliver answer: one law an answer.
 -- Assumes nothing.
 use mathlib.Core.Path.{_≡_, refl, sym, ap, subst, _∙_}
-use mathlib.Core.Bool.{Bool, true, false, not}
+use mathlib.Core.Bool.{Bool, true, false}
 use mathlib.Core.List.{List, _++_}
 use Prim.Native.Nat.{ℕ, _*_, _/_, _≤_, _<_}
 use native.Mathlib.Omega.{arith}
@@ -13,32 +13,27 @@ use Rattle.refusals.specs.declared.Refusal.{Refusal}
 use Rattle.refusals.specs.declared.Refusal.the-variants.{Range}
 use Rattle.refusals.specs.declared.Verdict.{Verdict}
 use Rattle.refusals.specs.Refusals.{numberOf, codeOf}
-use Rattle.sets.specs.declared.Set.{Set}
-use Rattle.sets.specs.Sets.{withinOf}
 use Rattle.table.specs.declared.Rules.{Rules}
 use Rattle.table.specs.declared.SiteTable.{SiteTable}
 use Rattle.table.specs.Table.{isGood}
 use Rattle.commands.specs.Book.{maxCommands, commandsOf}
 use Rattle.conflicts.specs.Conflicts.{conflictRows}
-use Rattle.protocol.specs.System.{granted, _else_⨾_, verdict}
+use Rattle.protocol.specs.System.{_else_⨾_, verdict}
 use Rattle.protocol.specs.Recovery as recovery
 use Rattle.protocol.specs.Site as protocol
 use Rattle.system.specs.Dash.{dash}
 use Rattle.calm.specs.Rows.{rowsSystem}
 use Rattle.entries.specs.Entries.{entrySize, entryOf, inRangeOf, goodAt, goodTo, logTo, logOf}
 use Rattle.protocol.specs.Recovery.{entries}
-use Rattle.entries.proofs.Judging.{in-range-told}
 use Rattle.entries.proofs.Logs.{log-of-take}
-use Rattle.recovery.specs.declared.Sets.{Sets}
 use Rattle.recovery.specs.declared.Decision.{Decision}
-use Rattle.recovery.specs.declared.Decision.the-variants.{Undecided, Decided}
-use Rattle.recovery.specs.Decisions.{decisionOf}
-use Rattle.recovery.proofs.Within.{sets-within}
-use Rattle.layout.specs.Layout.{siteSize, headOf, isWaiting, view}
+use Rattle.recovery.specs.Decisions.{decisionOf, DecisionWithin}
+use Rattle.recovery.proofs.Within.{decision-within}
+use Rattle.layout.specs.Layout.{siteSize, headOf, view}
 use Rattle.layout.specs.Good.{Good}
 use Rattle.deliver.specs.Delivering.{Noted}
-use Rattle.ending.specs.Ending.{RoundEnded}
-use Rattle.ending.proofs.Telling.{told-none, told-decided}
+use Rattle.ending.specs.Ending.{EndedBy, RoundEnded}
+use Rattle.ending.proofs.Telling.{told}
 use Rattle.judging.specs.Outcomes.{outcome, answered, _then_}
 use Rattle.judging.specs.declared.Judgement.{Judgement}
 use Rattle.judging.specs.declared.Judgement.the-variants as judgement
@@ -46,7 +41,7 @@ use Rattle.judging.specs.Judging.{tableOf, systemOf, spanIn, siteIn, withSite, 
 use Rattle.judging.proofs.Demands.{then-taken, then-refused, answered-refused}
 use Rattle.judging.proofs.Laws.{Judged, JudgedLog, site-judged, log-judged, site-noted, log-noted, good-taken, good-code, good-rules, refused-code}
 use Rattle.judging.proofs.Steps.{carried}
-use Rattle.delivering.specs.Delivering.{FastDelivered, Ended, fastDeliveryCall, roundEndCall}
+use Rattle.delivering.specs.Delivering.{FastDelivered, fastDeliveryCall, roundEndCall}
 
 -- ---- a fast delivery
 
@@ -137,24 +132,15 @@ module _ (t : SiteTable) (table : isGood t ≡ true) (book log b : List ℕ) {co
   read : protocol.decision (dash t (commandsOf book)) (view t (commandsOf book) b) (logOf log) ≡ recovery.decide (dash t (commandsOf book)) (headOf b .round) (logTo log (headOf b .position))
   read = ap (recovery.decide (dash t (commandsOf book)) (headOf b .round)) (log-of-take log (headOf b .position) position)
 
-  pub within-sets : (s : Sets) → d ≡ Decided s → (withinOf (s .nc) commands ≡ true) × (withinOf (s .c) commands ≡ true)
-  within-sets s h =
-      subst (λ (k : ℕ). (withinOf (s .nc) k ≡ true) × (withinOf (s .c) k ≡ true)) count
-      (sets-within t table book (conflictRows book) log small (headOf b .position) (headOf b .round) room logged refl ed s h)
+  pub within-sets : DecisionWithin commands d
+  within-sets =
+      subst (λ (k : ℕ). DecisionWithin k d) count
+      (decision-within t table book (conflictRows book) log small (headOf b .position) (headOf b .round) room logged refl ed)
 
-  module _ (good : Good (t .sites) commands b) where
-    good-book : Good (t .sites) (length (commandsOf book)) b
-    good-book = subst (λ (k : ℕ). Good (t .sites) k b) (sym count) good
-
-    pub ended-undecided : {nc c : Set} {r : Verdict} {b′ : List ℕ} → d ≡ Undecided → RoundEnded (commandsOf book) false nc c b r b′ → Ended t (commandsOf book) (logOf log) b r b′
-    ended-undecided {nc} {c} h o =
-        o t (logOf log) good-book
-        (told-none t table book (conflictRows book) log small (headOf b .position) (headOf b .round) room logged refl ed (view t (commandsOf book) b) (logOf log) read refl nc c h)
-
-    pub ended-decided : (s : Sets) {r : Verdict} {b′ : List ℕ} → d ≡ Decided s → RoundEnded (commandsOf book) true (s .nc) (s .c) b r b′ → Ended t (commandsOf book) (logOf log) b r b′
-    ended-decided s h o =
-        o t (logOf log) good-book
-        (told-decided t table book (conflictRows book) log small (headOf b .position) (headOf b .round) room logged refl ed (view t (commandsOf book) b) (logOf log) read refl s h)
+  pub ended-as-decided : Good (t .sites) commands b → {r : Verdict} {b′ : List ℕ} → RoundEnded (commandsOf book) d b r b′ → EndedBy t (commandsOf book) (logOf log) b r b′
+  ended-as-decided good o =
+      o t (logOf log) (subst (λ (k : ℕ). Good (t .sites) k b) (sym count) good)
+      (told t table book (conflictRows book) log small (headOf b .position) (headOf b .round) room logged refl ed (view t (commandsOf book) b) (logOf log) read refl)
 
 module _ (n f : ℕ) (book site log : List ℕ) {j : Judgement}
     (e : j ≡ judgedAs (verdict (forSiteAndLog n f book true site log)) (rulesOf n f book)) where
@@ -190,11 +176,11 @@ module _ (n f : ℕ) (book site log : List ℕ) {j : Judgement}
     )
 
     pub end-done : ((i : ℕ) → getD site i 0 < 256) → {r : Verdict} {b : List ℕ} {number : ℕ}
-        → Ended (x .table) (commandsOf book) (logOf log) (take siteSize site) r b → number ≡ codeOf r → outcome number (b ++ drop siteSize site) ≡ roundEndCall n f book site log
+        → EndedBy (x .table) (commandsOf book) (logOf log) (take siteSize site) r b → number ≡ codeOf r → outcome number (b ++ drop siteSize site) ≡ roundEndCall n f book site log
     unfolding roundEndCall
     end-done small {r} {b} o ek =
         carried n f book site (judged-log .0 .good) small (verdict (protocol.forRoundEnd (systemOf n f book) (siteIn n f book site) (logOf log)))
-        (protocol.finish (systemOf n f book) (protocol.tallyOr (protocol.decision (systemOf n f book) (siteIn n f book site) (logOf log))) (siteIn n f book site)) (subst (λ (y : Rules). Ended (y .table) (commandsOf book) (logOf log) (take siteSize site) r b) ruled o) ek
+        (protocol.finish (systemOf n f book) (protocol.tallyOr (protocol.decision (systemOf n f book) (siteIn n f book site) (logOf log))) (siteIn n f book site)) (subst (λ (y : Rules). EndedBy (y .table) (commandsOf book) (logOf log) (take siteSize site) r b) ruled o) ek
         ∙ (λ i. answered
         (sym (then-taken (forSiteAndLog n f book true site log) (protocol.forRoundEnd (systemOf n f book) (siteIn n f book site) (logOf log)) end-code refl) i)
         (withSite n f book (spanIn site) site

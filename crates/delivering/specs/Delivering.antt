@@ -11,7 +11,6 @@ use Rattle.table.specs.declared.SiteTable.{SiteTable}
 use Rattle.register.specs.declared.Command.{Command}
 use Rattle.commands.specs.Book.{commandsOf}
 use Rattle.protocol.specs.System.{_else_⨾_, verdict}
-use Rattle.protocol.specs.Recovery.{Log}
 use Rattle.protocol.specs.Site.{forFastDelivery, deliverFast, forRoundEnd, finish, tallyOr, decision}
 use Rattle.system.specs.Dash.{dash}
 use Rattle.entries.specs.Entries.{logOf}
@@ -24,12 +23,6 @@ use Rattle.judging.specs.Judging.{systemOf, spanIn, siteIn, withSite, forSite, 
 abbrev pub FastDelivered : SiteTable → List Command → ℕ → List ℕ → Verdict → List ℕ → Type 0
 FastDelivered t book m b r b′ =
     Carried t book (verdict (forFastDelivery (dash t book) m (view t book b))) (deliverFast (dash t book) m (view t book b)) (view t book b) b r b′
-
--- A round end was carried out on them, or refused.
-abbrev pub Ended : SiteTable → List Command → Log → List ℕ → Verdict → List ℕ → Type 0
-Ended t book log b r b′ =
-    Carried t book (verdict (forRoundEnd (dash t book) (view t book b) log))
-    (finish (dash t book) (tallyOr (decision (dash t book) (view t book b) log)) (view t book b)) (view t book b) b r b′
 
 module _ (sites faults : ℕ) (book : List ℕ) where
   -- A command is delivered fast.

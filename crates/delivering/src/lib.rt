@@ -9,14 +9,13 @@ ghost use Rattle.entries.specs.Entries.{entrySize, logOf, goodTo};
 ghost use Rattle.layout.specs.Layout.{headOf};
 ghost use Rattle.layout.specs.Good.{Good};
 ghost use Rattle.deliver.specs.Delivering.{Noted};
+ghost use Rattle.ending.specs.Ending.{EndedBy};
 ghost use Rattle.judging.specs.Outcomes.{outcome};
-ghost use Rattle.delivering.specs.Delivering.{Ended, fastDeliveryCall, roundEndCall};
+ghost use Rattle.delivering.specs.Delivering.{fastDeliveryCall, roundEndCall};
 use judging::Judgement;
 use layout::Site;
-use recovery::Decision;
 use refusals::Refusal;
 use refusals::Verdict;
-use sets::Set;
 use table::Rules;
 
 // Delivers a command fast.
@@ -55,7 +54,7 @@ fn end_round(site: &mut [u8], rules: Rules, book: &[u8], places: &[u16], log: &[
     requires { ⌜ Good (rules .table .sites) (rules .commands) (now site) × (isGood (rules .table) ≡ true) × Noted (now book) (now places) × (length (commandsOf (now book)) ≡ rules .commands)
         × (headOf (now site) .position ≤ length (now log) / entrySize)
         × (goodTo (now log) (rules .table .sites) (rules .commands) (headOf (now site) .position) ≡ true) ⌝ }
-    ensures { λ r. ⌜ Ended (rules .table) (commandsOf (now (book .entry))) (logOf (now (log .entry))) (now (site .entry)) r (now (site .exit)) ⌝ }
+    ensures { λ r. ⌜ EndedBy (rules .table) (commandsOf (now (book .entry))) (logOf (now (log .entry))) (now (site .entry)) r (now (site .exit)) ⌝ }
 {
     let table = rules.table;
     let commands = rules.commands;
@@ -64,17 +63,7 @@ fn end_round(site: &mut [u8], rules: Rules, book: &[u8], places: &[u16], log: &[
     let position = judging::position_of(&site[..]);
     let round = layout::round(&site[..]) as usize;
     let decision = recovery::decide(log, position, round, table, &rows);
-    match decision {
-        Decision::Undecided => {
-            let none = Set::empty();
-            ending::round_end(site, book, places, commands, false, none, none)
-        }
-        Decision::Decided(decided) => {
-            let nc = decided.nc;
-            let c = decided.c;
-            ending::round_end(site, book, places, commands, true, nc, c)
-        }
-    }
+    ending::round_end(site, book, places, commands, decision)
 }
 
 // Ends the round of a waiting site.

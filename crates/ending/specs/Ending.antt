@@ -1,8 +1,8 @@
 -- The end of a round: the header after it, the code's verdict, and what the step promises.
 -- Assumes nothing.
 use mathlib.Core.Path.{_≡_}
-use mathlib.Core.Bool.{Bool, true}
 use mathlib.Core.List.{List}
+use mathlib.Core.Option.{Option, none, some}
 use Prim.Native.Nat.{ℕ, _+_, _≤_}
 use lib.Dec.{leb}
 use lib.ListN.{length}
@@ -13,9 +13,12 @@ use Rattle.sets.specs.Sets.{inSet, emptyOf, unionOf, withoutOf, sizeOf}
 use Rattle.table.specs.declared.SiteTable.{SiteTable}
 use Rattle.register.specs.declared.Command.{Command}
 use Rattle.protocol.specs.System.{granted, _else_⨾_, verdict}
-use Rattle.protocol.specs.Recovery.{Log, ncSet, cSet}
+use Rattle.protocol.specs.Recovery.{Log, Tally, ncSet, cSet}
 use Rattle.protocol.specs.Site as protocol
 use Rattle.system.specs.Dash.{dash, lastRound}
+use Rattle.recovery.specs.declared.Sets.{Sets}
+use Rattle.recovery.specs.declared.Decision.{Decision}
+use Rattle.recovery.specs.declared.Decision.the-variants.{Undecided, Decided}
 use Rattle.layout.specs.declared.Phase.the-variants.{Acknowledging}
 use Rattle.layout.specs.declared.Site.{Site}
 use Rattle.layout.specs.Layout.{isWaiting, view}
@@ -26,13 +29,13 @@ use Rattle.layout.specs.Step.{Carried}
 abbrev pub dueOf : Site → Set → Set
 dueOf h x = withoutOf x (unionOf (h .delivered) (h .fast))
 
--- How many commands of two sets are due.
-abbrev pub moreOf : Site → Set → Set → ℕ
-moreOf h nc c = sizeOf (dueOf h nc) + sizeOf (dueOf h c)
+-- How many commands of the decided sets are due.
+abbrev pub moreOf : Site → Sets → ℕ
+moreOf h x = sizeOf (dueOf h (x .nc)) + sizeOf (dueOf h (x .c))
 
--- The header after a round that decided nc and c, with n deliveries recorded.
-abbrev pub ended : Site → Set → Set → ℕ → Site
-ended h nc c n =
+-- The header after a round that decided two sets, with n deliveries recorded.
+abbrev pub ended : Site → Sets → ℕ → Site
+ended h x n =
     record {
       round = h .round + 1;
       phase = Acknowledging;
@@ -40,30 +43,37 @@ ended h nc c n =
       deliveries = n;
       span = h .span;
       received = h .received;
-      delivered = unionOf (h .delivered) (unionOf nc c);
+      delivered = unionOf (h .delivered) (unionOf (x .nc) (x .c));
       pending = emptyOf;
       fast = emptyOf;
     }
 
--- The verdict, where the round end would deliver so many more.
-unfoldable pub judgedEnd : Site → ℕ → Bool → ℕ → Verdict
-judgedEnd h commands decided more =
-    verdict (isWaiting (h .phase) else Disabled ⨾ decided else Disabled ⨾ leb (h .deliveries + more) commands else Full ⨾ granted)
+-- The verdict, where the round is decided.
+unfoldable pub judgedEnd : Site → ℕ → Sets → Verdict
+judgedEnd h commands x = verdict (isWaiting (h .phase) else Disabled ⨾ leb (h .deliveries + moreOf h x) commands else Full ⨾ granted)
 
 module _ (t : SiteTable) (book : List Command) where
-  -- What is told of the decision of the site's round by the entries that it has read.
-  pub record Told (decided : Bool) (nc c : Set) (s : protocol.Site (dash t book)) (log : Log) : Type 0 where
-    pub is : decided ≡ protocol.isSome (protocol.decision (dash t book) s log)
-    -- the two sets, where it is decided
-    pub inNc : decided ≡ true → (m : ℕ) → inSet nc m ≡ ncSet (dash t book) (protocol.tallyOr (protocol.decision (dash t book) s log)) m
-    pub inC : decided ≡ true → (m : ℕ) → inSet c m ≡ cSet (dash t book) (protocol.tallyOr (protocol.decision (dash t book) s log)) m
-    -- the last round has no entries
-    pub round : decided ≡ true → s .round ≤ lastRound
+  -- The sets are those of the protocol's decision of a round; the last round has no entries.
+  pub record ToldSets (x : Sets) (d : Tally) (round : ℕ) : Type 0 where
+    pub nc : inSet (x .nc) ≡ ncSet (dash t book) d
+    pub c : inSet (x .c) ≡ cSet (dash t book) d
+    pub last : round ≤ lastRound
 
--- The round end at every site table, and every log that decides so.
-abbrev pub RoundEnded : List Command → Bool → Set → Set → List ℕ → Verdict → List ℕ → Type 0
-RoundEnded book decided nc c b r b′ =
-    (t : SiteTable) (log : Log) → Good (t .sites) (length book) b → Told t book decided nc c (view t book b) log
-    → Carried t book (verdict (protocol.forRoundEnd (dash t book) (view t book b) log))
-    (protocol.finish (dash t book) (protocol.tallyOr (protocol.decision (dash t book) (view t book b) log)) (view t book b))
-    (view t book b) b r b′
+  -- What is told of the protocol's decision of a round.
+  abbrev pub Told : Decision → Option Tally → ℕ → Type 0
+  Told Undecided none round = Unit {0}
+  Told Undecided (some d) round = ⊥
+  Told (Decided x) none round = ⊥
+  Told (Decided x) (some d) round = ToldSets x d round
+
+-- A round end by a log was carried out on the bytes of a site, or refused.
+abbrev pub EndedBy : SiteTable → List Command → Log → List ℕ → Verdict → List ℕ → Type 0
+EndedBy t book log b r b′ =
+    Carried t book (verdict (protocol.forRoundEnd (dash t book) (view t book b) log))
+    (protocol.finish (dash t book) (protocol.tallyOr (protocol.decision (dash t book) (view t book b) log)) (view t book b)) (view t book b) b r b′
+
+-- It was, at every site table and by every log of which the decision tells.
+abbrev pub RoundEnded : List Command → Decision → List ℕ → Verdict → List ℕ → Type 0
+RoundEnded book d b r b′ =
+    (t : SiteTable) (log : Log) → Good (t .sites) (length book) b
+    → Told t book d (protocol.decision (dash t book) (view t book b) log) (view t book b .round) → EndedBy t book log b r b′

@@ -26,10 +26,8 @@ use Rattle.protocol.specs.StandingLaws.{Logged, logged-split, Backed, decided-b
 use Rattle.system.specs.Dash.{dash, lastRound}
 use Rattle.entries.specs.Entries.{entrySize, entryOf, viewEntry, logTo, inRangeOf}
 use Rattle.entries.proofs.Judging.{in-range-told}
-use Rattle.recovery.specs.declared.Sets.{Sets}
 use Rattle.recovery.specs.declared.Decision.{Decision}
-use Rattle.recovery.specs.declared.Decision.the-variants.{Undecided, Decided}
-use Rattle.recovery.specs.Decisions.{setsOf, decisionOf}
+use Rattle.recovery.specs.Decisions.{setsOf, decisionOf, DecisionWithin}
 use Rattle.recovery.proofs.Decided.{decision-dash}
 use Rattle.recovery.proofs.Members.{members-nc, members-c}
 
@@ -145,30 +143,13 @@ module _ (t : SiteTable) (table : isGood t ≡ true) (bytes rows : List ℕ) (b 
   -- ---- what the answer tells
 
   module _ (er : rows ≡ conflictRows bytes) {a : Decision} (ea : a ≡ decisionOf (rowsSystem t rows) (decide (rowsSystem t rows) r (logTo b k))) where
-    answer : a ≡ decisionOf (dash t book) (decide (dash t book) r (logTo b k))
-    answer =
+    pub answer-is : a ≡ decisionOf (dash t book) (decide (dash t book) r (logTo b k))
+    answer-is =
         ea ∙ ap (λ (x : List ℕ). decisionOf (rowsSystem t x) (decide (rowsSystem t x) r (logTo b k))) er ∙ decision-dash t bytes r (logTo b k)
 
-    pub undecided : a ≡ Undecided → decide (dash t book) r (logTo b k) ≡ none
-    undecided h = go (decide (dash t book) r (logTo b k)) (sym h ∙ answer)
+    pub decision-within : DecisionWithin (length book) a
+    decision-within = subst (DecisionWithin (length book)) (sym answer-is) (go (decide (dash t book) r (logTo b k)) refl)
       where
-        go : (o : Option Tally) → Undecided ≡ decisionOf (dash t book) o → o ≡ none
-        go none q = refl
-        go (some d) q = absurd (let z : _≡_ {A = ℕ} 0 1 = cc in omega arith)
-
-    pub record Answered (s : Sets) : Type 0 where
-      pub tally : Tally
-      pub decides : decide (dash t book) r (logTo b k) ≡ some tally
-      pub sets : s ≡ setsOf (dash t book) tally
-
-    pub decided : (s : Sets) → a ≡ Decided s → Answered s
-    decided s h = go (decide (dash t book) r (logTo b k)) refl (sym h ∙ answer)
-      where
-        go : (o : Option Tally) → decide (dash t book) r (logTo b k) ≡ o → Decided s ≡ decisionOf (dash t book) o → Answered s
-        go none p q = absurd (let z : _≡_ {A = ℕ} 0 1 = cc in omega arith)
-        go (some d) p q = record { tally = d; decides = p; sets = (let z : s ≡ setsOf (dash t book) d = cc in z) }
-
-    pub sets-within : (s : Sets) → a ≡ Decided s → (withinOf (s .nc) (length book) ≡ true) × (withinOf (s .c) (length book) ≡ true)
-    sets-within s h =
-        let w = decided s h in
-        (ap (λ (x : Sets). withinOf (x .nc) (length book)) (w .sets) ∙ nc-within (w .tally) (w .decides), ap (λ (x : Sets). withinOf (x .c) (length book)) (w .sets) ∙ c-within (w .tally) (w .decides))
+        go : (o : Option Tally) → decide (dash t book) r (logTo b k) ≡ o → DecisionWithin (length book) (decisionOf (dash t book) o)
+        go none p = tt
+        go (some d) p = (nc-within d p, c-within d p)

@@ -1,13 +1,14 @@
 -- The decision of a round as words: what the protocol's decision is to a site, and how commands are counted, set by set.
 -- Assumes nothing.
-use mathlib.Core.Bool.{Bool, _&&_, _||_}
+use mathlib.Core.Path.{_≡_}
+use mathlib.Core.Bool.{Bool, true, _&&_, _||_}
 use mathlib.Core.List.{List}
 use mathlib.Core.Option.{Option, none, some}
 use Prim.Native.Nat.{ℕ, zero, suc}
 use lib.Dec.{eqb, leb}
 use Rattle.theory.specs.Sets.{pick, any, count}
 use Rattle.sets.specs.declared.Set.{Set}
-use Rattle.sets.specs.Sets.{capacity, inSet, setOf, emptyOf, unionOf, commonOf, withoutOf}
+use Rattle.sets.specs.Sets.{capacity, inSet, setOf, emptyOf, unionOf, commonOf, withoutOf, withinOf}
 use Rattle.table.specs.declared.SiteTable.{SiteTable}
 use Rattle.table.specs.Table.{majorityOf}
 use Rattle.protocol.specs.System.{System}
@@ -27,6 +28,11 @@ setsOf S t = record { nc = setOf capacity (ncSet S t); c = setOf capacity (cSet 
 abbrev pub decisionOf : System → Option Tally → Decision
 decisionOf S none = Undecided
 decisionOf S (some t) = Decided (setsOf S t)
+
+-- The sets of a decision, where there is one, are within so many commands.
+abbrev pub DecisionWithin : ℕ → Decision → Type 0
+DecisionWithin commands Undecided = Unit {0}
+DecisionWithin commands (Decided x) = (withinOf (x .nc) commands ≡ true) × (withinOf (x .c) commands ≡ true)
 
 -- An entry of the round and of a source in a set.
 abbrev pub countsIn : ℕ → Set → Entry → Bool

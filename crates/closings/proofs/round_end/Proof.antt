@@ -2,19 +2,15 @@
 -- Assumes nothing.
 use borrow.Author.Needs.{needs}
 use denote.Ref.{now}
-use Rattle.rounds.specs.Rounds.{entriesIn}
-use mathlib.Core.Path.{ap, _∙_}
-use mathlib.Core.Bool.{true, false}
+use mathlib.Core.Path.{_∙_}
 use native.Mathlib.Omega.{arith}
 use Prim.Native.Nat.{_+_, _*_, _-_, _<_}
-use Rattle.sets.specs.declared.Set.{Set}
-use Rattle.sets.specs.Sets.{withinOf}
 use Rattle.commands.specs.Book.{commandsOf}
 use Rattle.layout.specs.Layout.{siteSize}
-use Rattle.layout.proofs.Tables.{within-empty}
 use Rattle.ending.specs.Ending.{RoundEnded}
+use Rattle.rounds.specs.Rounds.{entriesIn}
 use Rattle.world.proofs.Sites.{at-site, head-at}
-use Rattle.closings.proofs.Closing.{good-part, sites-room, round-kept, end-no-site, end-role, end-carried, site-undecided, site-decided, sets-fit}
+use Rattle.closings.proofs.Closing.{good-part, sites-room, round-kept, end-no-site, end-role, end-carried, site-told, sets-fit}
 use Rattle.closings.proofs.round_end.Statement.{statement}
 use Rattle.closings.proofs.round_end.Tie as tie
 
@@ -74,12 +70,6 @@ decision-requires c κs =
     let a = o .args in
     (o .pre .1 .1 .words .size, round-kept (a .rules .table) (a .rules .commands) (now (a .sites)) (a .site) (o .pre .0) (omega arith) (c .round .ensures ∙ (λ z. head-at (now (a .sites)) (a .site) ((a .site * siteSize + siteSize) - a .site * siteSize) (omega arith) z .round)))
 
-enum-told : tie.Need-enum-told
-enum-told c = search needs
-
-empty-requires : tie.Need-empty-requires
-empty-requires c κs = search needs
-
 sub-round-end : tie.Need-sub-round-end
 sub-round-end c = search needs
 
@@ -91,41 +81,15 @@ part-round-end-end c = search needs
 
 round-end-requires : tie.Need-round-end-requires
 round-end-requires c κs =
-    let o = c .before .before .before .before .before .before .before .before .before .before .before .before .before .before .before .before .before .before .before .before in
+    let o = c .before .before .before .before .before .before .before .before .before .before .before .before .before .before .before .before .before in
     let a = o .args in
-    let none = ap (λ (x : Set). withinOf x (a .rules .commands)) (c .before .empty .ensures) ∙ within-empty (a .rules .commands) in (
-      (a .rules .table .sites, good-part (a .rules .table) (a .rules .commands) (now (a .sites)) (a .site) ((a .site * siteSize + siteSize) - a .site * siteSize) (o .pre .0) (omega (arith, c .before .before .before .before .before .before .before .before .before .before .before .before .before .if1 .left)) (omega arith)),
-      o .pre .3,
-      o .pre .4,
-      none,
-      none,
-    )
-
-enum-known-decision : tie.Need-enum-known-decision
-enum-known-decision c = search needs
-
-sub-round-end-2 : tie.Need-sub-round-end-2
-sub-round-end-2 c = search needs
-
-part-round-end-start-2 : tie.Need-part-round-end-start-2
-part-round-end-start-2 c = search needs
-
-part-round-end-end-2 : tie.Need-part-round-end-end-2
-part-round-end-end-2 c = search needs
-
-round-end-requires-2 : tie.Need-round-end-requires-2
-round-end-requires-2 c κs =
-    let o = c .before .before .before .before .before .before .before .before .before .before .before .before .before .before .before .before .before .before .before .before .before .before in
-    let a = o .args in
-    let i : a .site < a .rules .table .sites = omega (arith, c .before .before .before .before .before .before .before .before .before .before .before .before .before .before .before .if1 .left) in
+    let i : a .site < a .rules .table .sites = omega (arith, c .before .before .before .before .before .before .before .before .before .before .if1 .left) in
     let k = (a .site * siteSize + siteSize) - a .site * siteSize in
-    let h = head-at (now (a .sites)) (a .site) k (omega arith) in
-    let w = sets-fit (a .rules .table) (o .pre .2) (now (a .book)) (now (a .sites)) (o .pre .1 .0) (o .pre .1 .1) (a .site) i (c .before .before .before .before .before .before .before .before .before .before .position .ensures ∙ (λ z. h z .position)) (c .before .before .before .before .before .before .before .round .ensures ∙ (λ z. h z .round)) (c .before .before .before .before .before .before .decision .ensures) (a .rules .commands) (o .pre .4) _ (c .before .before .before .before .decision2 .given .1) in (
+    let h = head-at (now (a .sites)) (a .site) k (omega arith) in (
       (a .rules .table .sites, good-part (a .rules .table) (a .rules .commands) (now (a .sites)) (a .site) k (o .pre .0) i (omega arith)),
       o .pre .3,
       o .pre .4,
-      w .0,
-      w .1,
+      sets-fit (a .rules .table) (o .pre .2) (now (a .book)) (now (a .sites)) (o .pre .1 .0) (o .pre .1 .1) (a .site) i (c .before .before .before .before .before .position .ensures ∙ (λ z. h z .position)) (c .before .before .round .ensures ∙ (λ z. h z .round)) (c .before .decision .ensures) (a .rules .commands) (o .pre .4),
     )
 
 same-length : tie.Need-same-length
@@ -133,34 +97,17 @@ same-length c = search needs
 
 returns-3 : tie.Need-returns-3
 returns-3 c =
-    let o = c .before .before .before .before .before .before .before .before .before .before .before .before .before .before .before .before .before .before .before .before .before .before .before in
+    let o = c .before .before .before .before .before .before .before .before .before .before .before .before .before .before .before .before .before .before .before .before in
     let a = o .args in
-    let i : a .site < a .rules .table .sites = omega (arith, c .before .before .before .before .before .before .before .before .before .before .before .before .before .before .before .before .if1 .left) in
+    let i : a .site < a .rules .table .sites = omega (arith, c .before .before .before .before .before .before .before .before .before .before .before .before .before .if1 .left) in
     let k = (a .site * siteSize + siteSize) - a .site * siteSize in
     let h = head-at (now (a .sites)) (a .site) k (omega arith) in
+    let d = c .before .before .before .before .decision in
     let r = c .before .before .round-end in
     λ log g.
-    end-carried (a .rules .table) (commandsOf (now (a .book))) (now (a .sites)) (λ n. c .before .before .before .before .before .before .before .before .before .before .before .before .before .before .before .before .before .before .before .before .before .before .slice-known .given n .fits) (a .site) log (entriesIn (now (a .kept))) i (c .before .before .before .before .before .before .before .before .before .before .before .before .before .before .before .is-faulty .ensures) (c .before .before .before .before .before .before .before .before .before .before .before .before .before .before .if2 .left)
-    (site-undecided (a .rules .table) (o .pre .2) (now (a .book)) (now (a .sites)) log g (a .site) i (c .before .before .before .before .before .before .before .before .before .before .before .position .ensures ∙ (λ z. h z .position)) (c .before .before .before .before .before .before .before .before .round .ensures ∙ (λ z. h z .round)) (c .before .before .before .before .before .before .before .decision .ensures) _ _ (c .before .before .before .before .before .enum-told .given .1))
-    (at-site (λ b after. RoundEnded (commandsOf (now (a .book))) false (c .before .before .before .before .empty .result) (c .before .before .before .before .empty .result) b (r .result) after) (now (a .sites)) (a .site) k _ (omega arith)
-    (sites-room (a .rules .table) (a .rules .commands) (now (a .sites)) (a .site) (o .pre .0) i) (r .kept .0) (r .ensures))
-
-same-length-2 : tie.Need-same-length-2
-same-length-2 c = search needs
-
-returns-4 : tie.Need-returns-4
-returns-4 c =
-    let o = c .before .before .before .before .before .before .before .before .before .before .before .before .before .before .before .before .before .before .before .before .before .before .before .before .before in
-    let a = o .args in
-    let i : a .site < a .rules .table .sites = omega (arith, c .before .before .before .before .before .before .before .before .before .before .before .before .before .before .before .before .before .before .if1 .left) in
-    let k = (a .site * siteSize + siteSize) - a .site * siteSize in
-    let h = head-at (now (a .sites)) (a .site) k (omega arith) in
-    let r = c .before .before .round-end2 in
-    let x = c .before .before .before .before .before .before .before .decision2 .given .0 .0 in
-    λ log g.
-    end-carried (a .rules .table) (commandsOf (now (a .book))) (now (a .sites)) (λ n. c .before .before .before .before .before .before .before .before .before .before .before .before .before .before .before .before .before .before .before .before .before .before .before .before .slice-known .given n .fits) (a .site) log (entriesIn (now (a .kept))) i (c .before .before .before .before .before .before .before .before .before .before .before .before .before .before .before .before .before .is-faulty .ensures) (c .before .before .before .before .before .before .before .before .before .before .before .before .before .before .before .before .if2 .left)
-    (site-decided (a .rules .table) (o .pre .2) (now (a .book)) (now (a .sites)) log g (a .site) i (c .before .before .before .before .before .before .before .before .before .before .before .before .before .position .ensures ∙ (λ z. h z .position)) (c .before .before .before .before .before .before .before .before .before .before .round .ensures ∙ (λ z. h z .round)) (c .before .before .before .before .before .before .before .before .before .decision .ensures) _ (c .before .before .before .before .before .before .before .decision2 .given .1))
-    (at-site (λ b after. RoundEnded (commandsOf (now (a .book))) true (x .nc) (x .c) b (r .result) after) (now (a .sites)) (a .site) k _ (omega arith)
+    end-carried (a .rules .table) (commandsOf (now (a .book))) (now (a .sites)) (λ n. c .before .before .before .before .before .before .before .before .before .before .before .before .before .before .before .before .before .before .before .slice-known .given n .fits) (a .site) log (entriesIn (now (a .kept))) i (c .before .before .before .before .before .before .before .before .before .before .before .before .is-faulty .ensures) (c .before .before .before .before .before .before .before .before .before .before .before .if2 .left) (d .result)
+    (site-told (a .rules .table) (o .pre .2) (now (a .book)) (now (a .sites)) log g (a .site) i (c .before .before .before .before .before .before .before .before .position .ensures ∙ (λ z. h z .position)) (c .before .before .before .before .before .round .ensures ∙ (λ z. h z .round)) (d .ensures))
+    (at-site (λ b after. RoundEnded (commandsOf (now (a .book))) (d .result) b (r .result) after) (now (a .sites)) (a .site) k _ (omega arith)
     (sites-room (a .rules .table) (a .rules .commands) (now (a .sites)) (a .site) (o .pre .0) i) (r .kept .0) (r .ensures))
 
 pub round-end-spec : {M : Type 1} → statement M
@@ -183,18 +130,9 @@ round-end-spec =
     round-requires
     cast-round
     decision-requires
-    enum-told
-    empty-requires
     sub-round-end
     part-round-end-start
     part-round-end-end
     round-end-requires
-    enum-known-decision
-    sub-round-end-2
-    part-round-end-start-2
-    part-round-end-end-2
-    round-end-requires-2
     same-length
-    returns-3
-    same-length-2
-    returns-4)
+    returns-3)

@@ -2,7 +2,7 @@
 -- Rests on Verdicts.
 use Prim.Native.Nat.{_+_}
 use borrow.Author.Tests.{not-true, not-false}
-use Rattle.ending.proofs.Verdicts.{end-acknowledging, end-undecided, end-full, end-met}
+use Rattle.ending.proofs.Verdicts.{end-acknowledging, end-full, end-met}
 use Rattle.ending.proofs.Closing.{size-small}
 use borrow.Author.Needs.{needs}
 use native.Mathlib.Omega.{arith}
@@ -13,10 +13,7 @@ is-waiting-requires : tie.Need-is-waiting-requires
 is-waiting-requires c κs = search needs
 
 returns : tie.Need-returns
-returns c = end-acknowledging _ _ _ (c .before .before .before .args .nc) (c .before .before .before .args .c) (c .before .is-waiting .ensures) (not-true _ (c .if1 .taken))
-
-returns-2 : tie.Need-returns-2
-returns-2 c = end-undecided _ _ _ (c .before .before .before .before .args .nc) (c .before .before .before .before .args .c) (c .before .before .is-waiting .ensures) (not-false _ (c .before .if1 .left)) (not-true _ (c .if2 .taken))
+returns c = end-acknowledging _ _ (c .before .before .before .args .sets) (c .before .is-waiting .ensures) (not-true _ (c .if1 .taken))
 
 due-requires : tie.Need-due-requires
 due-requires c κs = search needs
@@ -42,17 +39,19 @@ count-requires c κs = search needs
 cast-recorded : tie.Need-cast-recorded
 cast-recorded c = search needs
 
-add-if3 : tie.Need-add-if3
-add-if3 c =
+add-if2 : tie.Need-add-if2
+add-if2 c =
     let p = size-small (c .before .before .before .before .due .result) (c .before .before .before .size .ensures) in
     let q = size-small (c .before .before .due2 .result) (c .before .size2 .ensures) in
     record { fits = omega arith }
 
-returns-3 : tie.Need-returns-3
-returns-3 c = end-full _ _ _ (c .before .before .before .before .before .before .before .before .before .before .args .nc) (c .before .before .before .before .before .before .before .before .before .before .args .c) (c .before .before .before .before .before .before .before .before .is-waiting .ensures) (not-false _ (c .before .before .before .before .before .before .before .if1 .left)) (not-false _ (c .before .before .before .before .before .before .if2 .left)) (c .before .before .before .before .before .due .ensures) (c .before .before .before .due2 .ensures) (λ i. c .before .before .before .before .size .ensures i + c .before .before .size2 .ensures i) (c .before .count .ensures) (c .if3 .taken)
+returns-2 : tie.Need-returns-2
+returns-2 c =
+    end-full _ _ (c .before .before .before .before .before .before .before .before .before .args .sets) (c .before .before .before .before .before .before .before .is-waiting .ensures) (not-false _ (c .before .before .before .before .before .before .if1 .left)) (c .before .before .before .before .before .due .ensures) (c .before .before .before .due2 .ensures) (λ i. c .before .before .before .before .size .ensures i + c .before .before .size2 .ensures i) (c .before .count .ensures) (c .if2 .taken)
 
-returns-4 : tie.Need-returns-4
-returns-4 c = end-met _ _ _ (c .before .before .before .before .before .before .before .before .before .before .args .nc) (c .before .before .before .before .before .before .before .before .before .before .args .c) (c .before .before .before .before .before .before .before .before .is-waiting .ensures) (not-false _ (c .before .before .before .before .before .before .before .if1 .left)) (not-false _ (c .before .before .before .before .before .before .if2 .left)) (c .before .before .before .before .before .due .ensures) (c .before .before .before .due2 .ensures) (λ i. c .before .before .before .before .size .ensures i + c .before .before .size2 .ensures i) (c .before .count .ensures) (c .if3 .left)
+returns-3 : tie.Need-returns-3
+returns-3 c =
+    end-met _ _ (c .before .before .before .before .before .before .before .before .before .args .sets) (c .before .before .before .before .before .before .before .is-waiting .ensures) (not-false _ (c .before .before .before .before .before .before .if1 .left)) (c .before .before .before .before .before .due .ensures) (c .before .before .before .due2 .ensures) (λ i. c .before .before .before .before .size .ensures i + c .before .before .size2 .ensures i) (c .before .count .ensures) (c .if2 .left)
 
 pub judge-spec : {M : Type 1} → statement M
 judge-spec =
@@ -60,7 +59,6 @@ judge-spec =
     (tie.spec
     is-waiting-requires
     returns
-    returns-2
     due-requires
     size-requires
     due-requires-2
@@ -68,6 +66,6 @@ judge-spec =
     add-more
     count-requires
     cast-recorded
-    add-if3
-    returns-3
-    returns-4)
+    add-if2
+    returns-2
+    returns-3)

@@ -45,7 +45,7 @@ same-length c = search needs
 returns : tie.Need-returns
 returns c =
     let s = c .before .before .before .before .before .before .before .before .before .before .before .before .before .before .before .before .before .before .before .before .before .before .before .before .before .before .before .before .before .before .before in
-    next-is (now (s .args .site)) (s .args .nc) (s .args .c) (s .args .deliveries) (s .pre .2) (c .before .before .before .before .before .before .before .before .before .before .before .before .before .before .before .before .before .before .before .before .before .before .before .before .before .before .before .before .round .ensures) (c .before .before .before .before .before .before .before .before .before .before .before .before .before .before .before .before .before .before .before .before .before .before .before .before .before .before .delivered .ensures)
+    next-is (now (s .args .site)) (s .args .sets) (s .args .deliveries) (s .pre .2) (c .before .before .before .before .before .before .before .before .before .before .before .before .before .before .before .before .before .before .before .before .before .before .before .before .before .before .before .before .round .ensures) (c .before .before .before .before .before .before .before .before .before .before .before .before .before .before .before .before .before .before .before .before .before .before .before .before .before .before .delivered .ensures)
     (c .before .before .before .before .before .before .before .before .before .before .before .before .before .before .before .before .before .before .before .before .before .before .before .before .set-round .ensures) (c .before .before .before .before .before .before .before .before .before .before .before .before .before .before .before .before .before .before .before .before .set-count .ensures) (c .before .before .before .before .before .before .before .before .before .before .before .before .before .before .before .before .union .ensures) (c .before .before .before .before .before .before .before .before .before .before .before .before .before .before .before .union2 .ensures) (c .before .before .before .before .before .before .before .before .before .before .before .before .before .before .set-delivered .ensures)
     (c .before .before .before .before .before .before .before .before .before .before .set-pending .ensures) (c .before .before .before .before .before .before .set-fast .ensures) (c .before .before .acknowledge .ensures)
 
