@@ -20,7 +20,7 @@ pub fn fast_delivery(
     sites: &mut [u8],
     rules: Rules,
     book: &[u8],
-    places: &[u16],
+    places: &[u64],
     site: u8,
     command: u8,
 ) -> Verdict
@@ -50,7 +50,7 @@ pub fn round_end(
     kept: &[u64],
     rules: Rules,
     book: &[u8],
-    places: &[u16],
+    places: &[u64],
     site: u8,
 ) -> Verdict
     requires { ⌜ GoodSites (rules .table) (rules .commands) (now sites) × ((log : List ℕ) × KeptLog (rules .table) (now book) (now sites) log (now kept))

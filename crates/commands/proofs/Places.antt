@@ -57,14 +57,14 @@ module _ (s p : List ℕ) (k : ℕ) (h : k < length (commandsOf s)) (e : take (l
   there : readCommand (drop (getD (placesFrom 0 (rest s 0 0)) k 0) s) ≡ Whole (getD (rest s 0 0) k (Read 0))
   there = placed k s 0 0 (omega arith) (omega (arith, ap length (rest-all s)))
 
-  pub place-read : {at : ℕ} → at ≡ getD p k 0 → readCommand (drop at s) ≡ Whole (commandOf s k)
+  pub place-read : readCommand (drop (getD p k 0) s) ≡ Whole (commandOf s k)
   unfolding commandOf
-  place-read q =
-      ap (λ (n : ℕ). readCommand (drop n s)) (q ∙ place-is) ∙ there ∙ ap (λ (cs : List Command). Whole (getD cs k (Read 0))) (rest-all s)
+  place-read =
+      ap (λ (n : ℕ). readCommand (drop n s)) place-is ∙ there ∙ ap (λ (cs : List Command). Whole (getD cs k (Read 0))) (rest-all s)
 
   -- A noted place is inside the book.
-  pub place-inside : {at : ℕ} → at ≡ getD p k 0 → at ≤ length s
-  place-inside {at} q = elim (decLe at (length s)) [ yes l ↦ l | no n ↦ absurd (omega (arith, front _ (place-read q) .size, length-drop at s, size-small (commandOf s k))) ]
+  pub place-inside : getD p k 0 ≤ length s
+  place-inside = elim (decLe (getD p k 0) (length s)) [ yes l ↦ l | no n ↦ absurd (omega (arith, front _ place-read .size, length-drop (getD p k 0) s, size-small (commandOf s k))) ]
 
 -- Places that were noted in enough room are the places of the book.
 pub index-noted : (s p : List ℕ) {q : List ℕ} → length (commandsOf s) ≤ length p → q ≡ sets p 0 (placesOf s) → take (length (commandsOf s)) q ≡ placesOf s

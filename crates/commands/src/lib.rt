@@ -86,7 +86,7 @@ pub fn read_command(bytes: &[u8]) -> Reading
 }
 
 // How many commands a book has, Unreadable where it is refused. The places of the commands that are read are noted.
-pub fn note(book: &[u8], places: &mut [u16]) -> Measured
+pub fn note(book: &[u8], places: &mut [u64]) -> Measured
     requires { ⌜ maxCommands ≤ length (now places) ⌝ }
     ensures { λ r. ⌜ (r ≡ measureBook (now (book .entry))) × (now (places .exit) ≡ sets (now (places .entry)) 0 (notedPlaces (now (book .entry)))) ⌝ }
 {
@@ -101,7 +101,7 @@ pub fn note(book: &[u8], places: &mut [u16]) -> Measured
         let Reading::Whole(command) = reading else {
             return Measured::Unreadable;
         };
-        places[k] = at as u16;
+        places[k] = at as u64;
         at += size(command);
         k += 1;
     }
@@ -112,7 +112,7 @@ pub fn note(book: &[u8], places: &mut [u16]) -> Measured
 fn count(book: &[u8]) -> usize
     ensures { λ r. ⌜ r ≡ length (commandsOf (now (book .entry))) ⌝ }
 {
-    let mut places = [0u16; MAX_COMMANDS];
+    let mut places = [0u64; MAX_COMMANDS];
     let measured = note(book, &mut places);
     match measured {
         Measured::Commands(n) => n,
@@ -120,18 +120,12 @@ fn count(book: &[u8]) -> usize
     }
 }
 
-fn wide(x: u16) -> usize
-    ensures { λ r. ⌜ r ≡ x ⌝ }
-{
-    x as usize
-}
-
 // The k-th command, from the noted places.
-pub fn indexed(book: &[u8], places: &[u16], k: usize) -> Command
+pub fn indexed(book: &[u8], places: &[u64], k: usize) -> Command
     requires { ⌜ (k < length (commandsOf (now book))) × (take (length (commandsOf (now book))) (now places) ≡ placesOf (now book)) ⌝ }
     ensures { λ r. ⌜ r ≡ commandOf (now (book .entry)) k ⌝ }
 {
-    let at = wide(places[k]);
+    let at = places[k] as usize;
     let reading = read_command(&book[at..]);
     let Reading::Whole(command) = reading else {
         return Command::Read { bike: 0 };

@@ -46,7 +46,7 @@ fn join(sets: &mut [u64], command: Command, k: usize)
 }
 
 // All n commands join the sets of their bikes.
-fn gather(book: &[u8], places: &[u16], n: usize, sets: &mut [u64])
+fn gather(book: &[u8], places: &[u64], n: usize, sets: &mut [u64])
     requires { ⌜ (n ≡ length (commandsOf (now book))) × (take (length (commandsOf (now book))) (now places) ≡ placesOf (now book))
         × Gathered (now book) 0 (now sets) ⌝ }
     ensures { λ _. ⌜ Gathered (now (book .entry)) n (now (sets .exit)) ⌝ }
@@ -79,7 +79,7 @@ fn opposed(sets: &[u64], command: Command) -> Set
 }
 
 // The commands that conflict with the m-th: those that it is opposed to, but itself.
-fn row(book: &[u8], places: &[u16], m: usize, sets: &[u64]) -> Set
+fn row(book: &[u8], places: &[u64], m: usize, sets: &[u64]) -> Set
     requires { ⌜ (m < length (commandsOf (now book))) × (take (length (commandsOf (now book))) (now places) ≡ placesOf (now book))
         × Gathered (now book) (length (commandsOf (now book))) (now sets) ⌝ }
     ensures { λ r. ⌜ r ≡ conflictRow (now (book .entry)) m ⌝ }
@@ -90,7 +90,7 @@ fn row(book: &[u8], places: &[u16], m: usize, sets: &[u64]) -> Set
 }
 
 // The rows of the n commands. All rows are empty before, and those past the commands stay so.
-fn fill_rows(book: &[u8], places: &[u16], n: usize, sets: &[u64], rows: &mut [u64])
+fn fill_rows(book: &[u8], places: &[u64], n: usize, sets: &[u64], rows: &mut [u64])
     requires { ⌜ (now rows ≡ replicate maxCommands 0) × (n ≡ length (commandsOf (now book)))
         × (take (length (commandsOf (now book))) (now places) ≡ placesOf (now book)) × Gathered (now book) n (now sets) ⌝ }
     ensures { λ _. ⌜ now (rows .exit) ≡ conflictRows (now (book .entry)) ⌝ }
@@ -103,7 +103,7 @@ fn fill_rows(book: &[u8], places: &[u16], n: usize, sets: &[u64], rows: &mut [u6
 }
 
 // The rows of all command numbers, from the noted places of the n commands. All rows are empty before.
-pub fn conflict_rows(book: &[u8], places: &[u16], n: usize, rows: &mut [u64])
+pub fn conflict_rows(book: &[u8], places: &[u64], n: usize, rows: &mut [u64])
     requires { ⌜ (now rows ≡ replicate maxCommands 0) × (n ≡ length (commandsOf (now book))) × (take (length (commandsOf (now book))) (now places) ≡ placesOf (now book)) ⌝ }
     ensures { λ _. ⌜ now (rows .exit) ≡ conflictRows (now (book .entry)) ⌝ }
 {

@@ -28,7 +28,7 @@ pub fn fast_delivery(
 ) -> u32
     ensures { λ r. ⌜ outcome r (now (site .exit)) ≡ fastDeliveryCall sites faults (now (book .entry)) (now (site .entry)) command ⌝ }
 {
-    let mut places = [0u16; commands::MAX_COMMANDS];
+    let mut places = [0u64; commands::MAX_COMMANDS];
     let judged = judging::judge_site(true, sites, faults, book, &site[..], &mut places);
     let Judgement::Good(rules) = judged else {
         return judging::number(judged);
@@ -50,7 +50,7 @@ pub fn fast_delivery(
 }
 
 // The round ends as the entries that the site has read decide it, or the step is refused.
-fn end_round(site: &mut [u8], rules: Rules, book: &[u8], places: &[u16], log: &[u8]) -> Verdict
+fn end_round(site: &mut [u8], rules: Rules, book: &[u8], places: &[u64], log: &[u8]) -> Verdict
     requires { ⌜ Good (rules .table .sites) (rules .commands) (now site) × (isGood (rules .table) ≡ true) × Noted (now book) (now places) × (length (commandsOf (now book)) ≡ rules .commands)
         × (headOf (now site) .position ≤ length (now log) / entrySize)
         × (goodTo (now log) (rules .table .sites) (rules .commands) (headOf (now site) .position) ≡ true) ⌝ }
@@ -70,7 +70,7 @@ fn end_round(site: &mut [u8], rules: Rules, book: &[u8], places: &[u16], log: &[
 pub fn round_end(sites: usize, faults: usize, book: &[u8], site: &mut [u8], log: &[u8]) -> u32
     ensures { λ r. ⌜ outcome r (now (site .exit)) ≡ roundEndCall sites faults (now (book .entry)) (now (site .entry)) (now (log .entry)) ⌝ }
 {
-    let mut places = [0u16; commands::MAX_COMMANDS];
+    let mut places = [0u64; commands::MAX_COMMANDS];
     let judged = judging::judge_site_and_log(
         true,
         sites,

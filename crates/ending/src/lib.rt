@@ -59,7 +59,7 @@ fn next_round(site: &mut [u8], sets: Sets, deliveries: u16)
 pub fn round_end(
     site: &mut [u8],
     book: &[u8],
-    places: &[u16],
+    places: &[u64],
     commands: usize,
     decision: Decision,
 ) -> Verdict

@@ -33,7 +33,7 @@ pub fn receive_command(
 ) -> u32
     ensures { λ r. ⌜ outcome r (now (site .exit)) ≡ receiveCommandCall sites faults (now (book .entry)) (now (site .entry)) command ⌝ }
 {
-    let mut places = [0u16; commands::MAX_COMMANDS];
+    let mut places = [0u64; commands::MAX_COMMANDS];
     let judged = judging::judge_site(true, sites, faults, book, &site[..], &mut places);
     let Judgement::Good(rules) = judged else {
         return judging::number(judged);
@@ -57,7 +57,7 @@ pub fn receive_acknowledgment(
 ) -> u32
     ensures { λ r. ⌜ outcome r (now (site .exit)) ≡ receiveAcknowledgmentCall sites faults (now (book .entry)) (now (site .entry)) sender round set ⌝ }
 {
-    let mut places = [0u16; commands::MAX_COMMANDS];
+    let mut places = [0u64; commands::MAX_COMMANDS];
     let judged = judging::judge_site(true, sites, faults, book, &site[..], &mut places);
     let Judgement::Good(rules) = judged else {
         return judging::number(judged);
@@ -75,7 +75,7 @@ pub fn receive_acknowledgment(
 pub fn receive_check(sites: usize, faults: usize, book: &[u8], site: &mut [u8], set: u64) -> u32
     ensures { λ r. ⌜ outcome r (now (site .exit)) ≡ receiveCheckCall sites faults (now (book .entry)) (now (site .entry)) set ⌝ }
 {
-    let mut places = [0u16; commands::MAX_COMMANDS];
+    let mut places = [0u64; commands::MAX_COMMANDS];
     let judged = judging::judge_site(true, sites, faults, book, &site[..], &mut places);
     let Judgement::Good(rules) = judged else {
         return judging::number(judged);
@@ -115,7 +115,7 @@ fn next_is_third(log: &[u8], position: usize) -> bool
 pub fn log_read(sites: usize, faults: usize, book: &[u8], site: &mut [u8], log: &[u8]) -> u32
     ensures { λ r. ⌜ outcome r (now (site .exit)) ≡ logReadCall sites faults (now (book .entry)) (now (site .entry)) (now (log .entry)) ⌝ }
 {
-    let mut places = [0u16; commands::MAX_COMMANDS];
+    let mut places = [0u64; commands::MAX_COMMANDS];
     let judged = judging::judge_site_and_log(
         true,
         sites,

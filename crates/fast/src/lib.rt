@@ -75,7 +75,7 @@ pub fn fast_delivery(
     site: &mut [u8],
     table: SiteTable,
     book: &[u8],
-    places: &[u16],
+    places: &[u64],
     commands: usize,
     m: usize,
 ) -> Verdict

@@ -61,7 +61,7 @@ fn book_end(run: &[u8]) -> usize
 }
 
 // A run is judged: refusals 9, 2 and 1, in this order. Where size and header are taken, the places of its commands are noted.
-pub fn judge_run(run: &[u8], places: &mut [u16]) -> Opened
+pub fn judge_run(run: &[u8], places: &mut [u64]) -> Opened
     requires { ⌜ maxCommands ≤ length (now places) ⌝ }
     ensures { λ r. ⌜ (r ≡ judgeRun (now (run .entry))) × (now (places .exit) ≡ placesAfter (now (run .entry)) (now (places .entry))) ⌝ }
 {

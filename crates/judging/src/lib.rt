@@ -41,7 +41,7 @@ pub fn judge_table(sites: usize, faults: usize, mask: u16) -> u32
 pub fn judge_book(book: &[u8]) -> u32
     ensures { λ r. ⌜ r ≡ codeOf (verdict (forBook (now (book .entry)))) ⌝ }
 {
-    let mut places = [0u16; commands::MAX_COMMANDS];
+    let mut places = [0u64; commands::MAX_COMMANDS];
     let measured = commands::note(book, &mut places);
     match measured {
         Measured::Commands(_) => 0,
@@ -55,7 +55,7 @@ fn judge_rules(
     sites: usize,
     faults: usize,
     book: &[u8],
-    places: &mut [u16],
+    places: &mut [u64],
 ) -> Judgement
     requires { ⌜ maxCommands ≤ length (now places) ⌝ }
     ensures { λ r. ⌜ (r ≡ judgedAs (verdict (forRules sites faults (now (book .entry)) sized)) (rulesOf sites faults (now (book .entry))))
@@ -82,7 +82,7 @@ pub fn judge_site(
     faults: usize,
     book: &[u8],
     site: &[u8],
-    places: &mut [u16],
+    places: &mut [u64],
 ) -> Judgement
     requires { ⌜ maxCommands ≤ length (now places) ⌝ }
     ensures { λ r. ⌜ (r ≡ judgedAs (verdict (forSite sites faults (now (book .entry)) enough (now (site .entry)))) (rulesOf sites faults (now (book .entry))))
@@ -107,7 +107,7 @@ pub fn judge_site_and_log(
     book: &[u8],
     site: &[u8],
     log: &[u8],
-    places: &mut [u16],
+    places: &mut [u64],
 ) -> Judgement
     requires { ⌜ maxCommands ≤ length (now places) ⌝ }
     ensures { λ r. ⌜ (r ≡ judgedAs (verdict (forSiteAndLog sites faults (now (book .entry)) enough (now (site .entry)) (now (log .entry)))) (rulesOf sites faults (now (book .entry))))

@@ -40,7 +40,7 @@ pub fn status(sites: usize, faults: usize, book: &[u8], site: &[u8], out: &mut [
     ensures { λ r. ⌜ outcome r (now (out .exit)) ≡ statusCall sites faults (now (book .entry)) (now (site .entry)) (now (out .entry)) ⌝ }
 {
     let enough = out.len() >= STATUS_BYTES;
-    let mut places = [0u16; commands::MAX_COMMANDS];
+    let mut places = [0u64; commands::MAX_COMMANDS];
     let judged = judging::judge_site(enough, sites, faults, book, site, &mut places);
     if let Judgement::Refused(_) = judged {
         return judging::number(judged);
@@ -71,7 +71,7 @@ pub fn bike(
     ensures { λ r. ⌜ outcome r (now (out .exit)) ≡ bikeCall sites faults (now (book .entry)) (now (site .entry)) bike (now (out .entry)) ⌝ }
 {
     let enough = out.len() >= Bike::SIZE;
-    let mut places = [0u16; commands::MAX_COMMANDS];
+    let mut places = [0u64; commands::MAX_COMMANDS];
     let judged = judging::judge_site(enough, sites, faults, book, site, &mut places);
     if let Judgement::Refused(_) = judged {
         return judging::number(judged);
@@ -116,7 +116,7 @@ pub fn delivery(
     ensures { λ r. ⌜ outcome r (now (out .exit)) ≡ deliveryCall sites faults (now (book .entry)) (now (site .entry)) k (now (out .entry)) ⌝ }
 {
     let enough = out.len() >= Site::DELIVERY;
-    let mut places = [0u16; commands::MAX_COMMANDS];
+    let mut places = [0u64; commands::MAX_COMMANDS];
     let judged = judging::judge_site(enough, sites, faults, book, site, &mut places);
     if let Judgement::Refused(_) = judged {
         return judging::number(judged);

@@ -32,7 +32,7 @@ fn print_on(
     sent: &mut [u8],
     rules: Rules,
     book: &[u8],
-    places: &[u16],
+    places: &[u64],
     rows: &[u64],
     steps: &[u8],
     out: &mut [u8],
@@ -68,7 +68,7 @@ fn print_in(
     sent: &mut [u8],
     rules: Rules,
     book: &[u8],
-    places: &[u16],
+    places: &[u64],
     rows: &[u64],
     steps: &[u8],
     out: &mut [u8],
@@ -100,7 +100,7 @@ fn print_noted(
     sent: &mut [u8],
     rules: Rules,
     book: &[u8],
-    places: &[u16],
+    places: &[u64],
     steps: &[u8],
     out: &mut [u8],
 ) -> usize
@@ -133,7 +133,7 @@ pub fn run(input: &[u8], sites: &mut [u8], log: &mut [u8], sent: &mut [u8], out:
     if !has_room(sites.len(), log.len(), sent.len(), out.len()) {
         return 0;
     }
-    let mut places = [0u16; 64];
+    let mut places = [0u64; 64];
     let opened = header::judge_run(input, &mut places);
     match opened {
         Opened::Good(run) => {

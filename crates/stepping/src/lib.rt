@@ -58,7 +58,7 @@ pub fn step(
     kept: &mut [u64],
     rules: Rules,
     book: &[u8],
-    places: &[u16],
+    places: &[u64],
     rows: &[u64],
     step: Step,
 ) -> Verdict

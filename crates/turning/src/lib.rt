@@ -115,7 +115,7 @@ pub fn turn(
     ensures { λ r. ⌜ outcome r (buffers (now (site .exit)) (now (out .exit))) ≡ turnCall sites faults (now (book .entry)) (now (site .entry)) (now (log .entry)) own (now (out .entry)) ⌝ }
 {
     let enough = out.len() >= TURN_BYTES;
-    let mut places = [0u16; commands::MAX_COMMANDS];
+    let mut places = [0u64; commands::MAX_COMMANDS];
     let judged = judging::judge_site_and_log(
         enough,
         sites,

@@ -6,24 +6,20 @@ use mathlib.Core.Path.{sym, _∙_}
 use native.Mathlib.Omega.{arith}
 use Rattle.commands.proofs.Walk.{few-commands, read-at, whole-is, not-whole}
 use Rattle.commands.proofs.Places.{place-noted, place-read, place-inside}
-use borrow.Author.Needs.{needs}
 use Rattle.commands.proofs.indexed.Statement.{statement}
 use Rattle.commands.proofs.indexed.Tie as tie
 
-mul-wide : tie.Need-mul-wide
-mul-wide c = omega (arith, few-commands (now (c .before .before .args .book)))
+mul-at : tie.Need-mul-at
+mul-at c = omega (arith, few-commands (now (c .before .before .args .book)))
 
-shared-slice-read-wide : tie.Need-shared-slice-read-wide
-shared-slice-read-wide c = let s = c .before .before .before in place-noted (now (s .args .book)) (now (s .args .places)) (s .args .k) (s .pre .0) (s .pre .1)
-
-wide-requires : tie.Need-wide-requires
-wide-requires c κs = search needs
+shared-slice-read-at : tie.Need-shared-slice-read-at
+shared-slice-read-at c = let s = c .before .before .before in place-noted (now (s .args .book)) (now (s .args .places)) (s .args .k) (s .pre .0) (s .pre .1)
 
 sub-read-command : tie.Need-sub-read-command
-sub-read-command c = let s = c .before .before .before .before in place-inside (now (s .args .book)) (now (s .args .places)) (s .args .k) (s .pre .0) (s .pre .1) (c .wide .ensures)
+sub-read-command c = let s = c .before .before .before in place-inside (now (s .args .book)) (now (s .args .places)) (s .args .k) (s .pre .0) (s .pre .1)
 
 part-read-command-start : tie.Need-part-read-command-start
-part-read-command-start c = let s = c .before .before .before .before in place-inside (now (s .args .book)) (now (s .args .places)) (s .args .k) (s .pre .0) (s .pre .1) (c .wide .ensures)
+part-read-command-start c = let s = c .before .before .before in place-inside (now (s .args .book)) (now (s .args .places)) (s .args .k) (s .pre .0) (s .pre .1)
 
 part-read-command-end : tie.Need-part-read-command-end
 part-read-command-end c = search needs
@@ -39,21 +35,20 @@ enum-told c = search needs
 
 returns : tie.Need-returns
 returns c =
-    let s = c .before .before .before .before .before .before .before .before in
-    absurd (not-whole (sym (read-at (now (s .args .book)) (c .before .before .before .before .wide .result) (c .before .before .read-command .ensures) (c .enum-told .given .1)) ∙ place-read (now (s .args .book)) (now (s .args .places)) (s .args .k) (s .pre .0) (s .pre .1) (c .before .before .before .before .wide .ensures)))
+    let s = c .before .before .before .before .before .before .before in
+    absurd (not-whole (sym (read-at (now (s .args .book)) _ (c .before .before .read-command .ensures) (c .enum-told .given .1)) ∙ place-read (now (s .args .book)) (now (s .args .places)) (s .args .k) (s .pre .0) (s .pre .1)))
 
 returns-2 : tie.Need-returns-2
 returns-2 c =
-    let s = c .before .before .before .before .before .before .before .before .before in
-    whole-is (sym (read-at (now (s .args .book)) (c .before .before .before .before .before .wide .result) (c .before .before .before .read-command .ensures) (c .before .reading .given .1)) ∙ place-read (now (s .args .book)) (now (s .args .places)) (s .args .k) (s .pre .0) (s .pre .1) (c .before .before .before .before .before .wide .ensures))
+    let s = c .before .before .before .before .before .before .before .before in
+    whole-is (sym (read-at (now (s .args .book)) _ (c .before .before .before .read-command .ensures) (c .before .reading .given .1)) ∙ place-read (now (s .args .book)) (now (s .args .places)) (s .args .k) (s .pre .0) (s .pre .1))
 
 pub indexed-spec : {M : Type 1} → statement M
 indexed-spec =
     tie.close
     (tie.spec
-    mul-wide
-    shared-slice-read-wide
-    wide-requires
+    mul-at
+    shared-slice-read-at
     sub-read-command
     part-read-command-start
     part-read-command-end

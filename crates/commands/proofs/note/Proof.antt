@@ -55,9 +55,6 @@ returns-2 c =
     let l = c .before .before .before .before .before .before .loop in
     walk-bad _ _ _ (l .k) (l .at) (l .inv .5) (omega arith) (read-at _ (l .at) (c .before .before .read-command .ensures) (c .enum-told .given .1))
 
-cast-places : tie.Need-cast-places Inv-loop μ-loop
-cast-places c = omega arith
-
 mul-places : tie.Need-mul-places Inv-loop μ-loop
 mul-places c = search needs
 
@@ -116,7 +113,6 @@ note-spec =
     enum-told
     same-length-2
     returns-2
-    cast-places
     mul-places
     slice-write-places
     size-requires
