@@ -5,9 +5,8 @@ ghost use mathlib.Core.List.{List};
 ghost use Prim.Native.Nat.{ℕ};
 ghost use lib.ListN.{length};
 ghost use Rattle.table.specs.Table.{isGood};
-ghost use Rattle.commands.specs.Book.{commandsOf};
+ghost use Rattle.commands.specs.Book.{commandsOf, Placed};
 ghost use Rattle.protocol.specs.World as protocol;
-ghost use Rattle.deliver.specs.Delivering.{Noted};
 ghost use Rattle.rounds.specs.Rounds.{entriesIn};
 ghost use Rattle.closings.specs.Closings.{GoodSites, KeptLog, Closed};
 use layout::Site;
@@ -24,7 +23,7 @@ pub fn fast_delivery(
     site: u8,
     command: u8,
 ) -> Verdict
-    requires { ⌜ GoodSites (rules .table) (rules .commands) (now sites) × (isGood (rules .table) ≡ true) × Noted (now book) (now places) × (length (commandsOf (now book)) ≡ rules .commands) ⌝ }
+    requires { ⌜ GoodSites (rules .table) (rules .commands) (now sites) × (isGood (rules .table) ≡ true) × Placed (now book) (now places) × (length (commandsOf (now book)) ≡ rules .commands) ⌝ }
     ensures { λ v. ⌜ ((log : List ℕ) (entries : ℕ) → Closed (rules .table) (commandsOf (now (book .entry))) (protocol.fastDelivery site command) log entries (now (sites .entry)) v (now (sites .exit))) ⌝ }
 {
     let table = rules.table;
@@ -54,7 +53,7 @@ pub fn round_end(
     site: u8,
 ) -> Verdict
     requires { ⌜ GoodSites (rules .table) (rules .commands) (now sites) × ((log : List ℕ) × KeptLog (rules .table) (now book) (now sites) log (now kept))
-        × (isGood (rules .table) ≡ true) × Noted (now book) (now places) × (length (commandsOf (now book)) ≡ rules .commands) ⌝ }
+        × (isGood (rules .table) ≡ true) × Placed (now book) (now places) × (length (commandsOf (now book)) ≡ rules .commands) ⌝ }
     ensures { λ v. ⌜ ((log : List ℕ) → KeptLog (rules .table) (now (book .entry)) (now (sites .entry)) log (now (kept .entry))
         → Closed (rules .table) (commandsOf (now (book .entry))) (protocol.roundEnd site) log (entriesIn (now (kept .entry))) (now (sites .entry)) v (now (sites .exit))) ⌝ }
 {

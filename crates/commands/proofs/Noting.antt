@@ -12,7 +12,7 @@ use Rattle.register.specs.declared.Command.{Command}
 use Rattle.commands.specs.declared.Reading.{Reading}
 use Rattle.commands.specs.declared.Reading.the-variants.{Whole, Bad}
 use Rattle.commands.specs.declared.Measured.the-variants.{Commands, Unreadable}
-use Rattle.commands.specs.Book.{maxCommands, sizeOf, readCommand, also, andThen, readUpTo, orNone, commandsOf, countFrom, measureBook, placesFrom, placesOf, readOn, readable, notedPlaces}
+use Rattle.commands.specs.Book.{maxCommands, sizeOf, readCommand, also, andThen, readUpTo, orNone, commandsOf, countFrom, measureBook, placesFrom, placesOf, Placed, readOn, readable, notedPlaces}
 use Rattle.commands.proofs.Walk.{few-commands, measure-end, measure-full, measure-bad, measure-more}
 use Rattle.commands.proofs.Laws.{front}
 use Rattle.commands.proofs.Places.{index-noted}
@@ -93,7 +93,7 @@ counted-some none e = absurd (let z : _≡_ {A = ℕ} 0 1 = cc in omega arith)
 counted-some (some cs) e = refl
 
 -- The places that are noted of a book that is taken.
-pub note-noted : (s p : List ℕ) {q : List ℕ} {n : ℕ} → maxCommands ≤ length p → measureBook s ≡ Commands n → q ≡ sets p 0 (notedPlaces s) → take (length (commandsOf s)) q ≡ placesOf s
+pub note-noted : (s p : List ℕ) {q : List ℕ} {n : ℕ} → maxCommands ≤ length p → measureBook s ≡ Commands n → q ≡ sets p 0 (notedPlaces s) → Placed s q
 unfolding notedPlaces placesOf measureBook commandsOf
 note-noted s p h e w =
     index-noted s p (omega (arith, few-commands s))

@@ -11,7 +11,7 @@ use Rattle.register.specs.Register.{Valid}
 use Rattle.register.specs.declared.Command.{Command}
 use Rattle.register.specs.declared.Command.the-variants.{Read}
 use Rattle.commands.specs.declared.Reading.the-variants.{Whole}
-use Rattle.commands.specs.Book.{sizeOf, readCommand, commandsOf, commandOf, placesFrom, placesOf}
+use Rattle.commands.specs.Book.{sizeOf, readCommand, commandsOf, commandOf, placesFrom, placesOf, Placed}
 use Rattle.commands.proofs.Laws.{front}
 use Rattle.commands.proofs.Walk.{rest, rest-all, next, size-small}
 
@@ -42,7 +42,7 @@ length-places at [] = refl
 length-places at (c ∷ cs) = ap suc (length-places (at + sizeOf c) cs)
 
 -- What the noted places tell of the k-th command.
-module _ (s p : List ℕ) (k : ℕ) (h : k < length (commandsOf s)) (e : take (length (commandsOf s)) p ≡ placesOf s) where
+module _ (s p : List ℕ) (k : ℕ) (h : k < length (commandsOf s)) (e : Placed s p) where
   pub place-noted : k < length p
   unfolding placesOf
   place-noted =
@@ -67,7 +67,7 @@ module _ (s p : List ℕ) (k : ℕ) (h : k < length (commandsOf s)) (e : take (l
   place-inside = elim (decLe (getD p k 0) (length s)) [ yes l ↦ l | no n ↦ absurd (omega (arith, front _ place-read .size, length-drop (getD p k 0) s, size-small (commandOf s k))) ]
 
 -- Places that were noted in enough room are the places of the book.
-pub index-noted : (s p : List ℕ) {q : List ℕ} → length (commandsOf s) ≤ length p → q ≡ sets p 0 (placesOf s) → take (length (commandsOf s)) q ≡ placesOf s
+pub index-noted : (s p : List ℕ) {q : List ℕ} → length (commandsOf s) ≤ length p → q ≡ sets p 0 (placesOf s) → Placed s q
 unfolding placesOf
 index-noted s p h e =
     let l = length-places 0 (commandsOf s) in

@@ -1,11 +1,12 @@
 -- Commands in bytes: how they are read, judged and written. Document 01 calls this the book.
 -- Assumes nothing.
+use mathlib.Core.Path.{_≡_}
 use mathlib.Core.Bool.{Bool, true, false}
 use mathlib.Core.List.{List, [], _∷_, _++_}
 use mathlib.Core.Option.{Option, none, some}
 use Prim.Native.Nat.{ℕ, zero, suc, _+_, _^_, _≤_, _<_}
 use lib.Dec.{leb, ltb}
-use lib.ListN.{length, getD, drop}
+use lib.ListN.{length, getD, take, drop}
 use mir.Syntax.{w16}
 use mir.Val.{SFits}
 use Rattle.wire.specs.Wire.{readLe, bytes}
@@ -110,6 +111,10 @@ placesFrom at (c ∷ cs) = at ∷ placesFrom (at + sizeOf c) cs
 -- The place in bytes of each command of a book.
 unfoldable pub placesOf : List ℕ → List ℕ
 placesOf s = placesFrom 0 (commandsOf s)
+
+-- The first of some words are the places of a book's commands.
+abbrev pub Placed : List ℕ → List ℕ → Type 0
+Placed book places = take (length (commandsOf book)) places ≡ placesOf book
 
 -- A command that was read and those after it; none where the reading is bad.
 abbrev pub readOn : Reading → (Command → List Command) → List Command

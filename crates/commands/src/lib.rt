@@ -2,10 +2,10 @@
 ghost use mathlib.Core.Path.{_≡_};
 ghost use Prim.Native.Nat.{_+_, _≤_, _<_};
 ghost use mathlib.Core.List.{_∷_, []};
-ghost use lib.ListN.{length, take};
+ghost use lib.ListN.{length};
 ghost use lib.Seq.{sets};
 ghost use Rattle.wire.specs.Wire.{splice};
-ghost use Rattle.commands.specs.Book.{maxCommands, sizeOf, readCommand, measureBook, commandsOf, commandOf, placesOf, notedPlaces, encodeCommand, encodeBook};
+ghost use Rattle.commands.specs.Book.{maxCommands, sizeOf, readCommand, measureBook, commandsOf, commandOf, Placed, notedPlaces, encodeCommand, encodeBook};
 use register::Bike;
 use register::Command;
 
@@ -122,7 +122,7 @@ fn count(book: &[u8]) -> usize
 
 // The k-th command, from the noted places.
 pub fn indexed(book: &[u8], places: &[u64], k: usize) -> Command
-    requires { ⌜ (k < length (commandsOf (now book))) × (take (length (commandsOf (now book))) (now places) ≡ placesOf (now book)) ⌝ }
+    requires { ⌜ (k < length (commandsOf (now book))) × Placed (now book) (now places) ⌝ }
     ensures { λ r. ⌜ r ≡ commandOf (now (book .entry)) k ⌝ }
 {
     let at = places[k] as usize;

@@ -1,10 +1,10 @@
 // Which commands of a book conflict: for each command the set of those that conflict with it.
 ghost use mathlib.Core.Path.{_≡_};
 ghost use Prim.Native.Nat.{_*_, _<_};
-ghost use lib.ListN.{length, take, replicate};
+ghost use lib.ListN.{length, replicate};
 ghost use Rattle.sets.specs.Sets.{capacity};
 ghost use Rattle.register.specs.Register.{bikes, bikeOf};
-ghost use Rattle.commands.specs.Book.{maxCommands, commandsOf, placesOf};
+ghost use Rattle.commands.specs.Book.{maxCommands, commandsOf, Placed};
 ghost use Rattle.conflicts.specs.Conflicts.{conflictRow, conflictRows, bikeSets, withNoted, Joined, Gathered, opposedOf};
 use register::Bike;
 use register::Command;
@@ -47,7 +47,7 @@ fn join(sets: &mut [u64], command: Command, k: usize)
 
 // All n commands join the sets of their bikes.
 fn gather(book: &[u8], places: &[u64], n: usize, sets: &mut [u64])
-    requires { ⌜ (n ≡ length (commandsOf (now book))) × (take (length (commandsOf (now book))) (now places) ≡ placesOf (now book))
+    requires { ⌜ (n ≡ length (commandsOf (now book))) × Placed (now book) (now places)
         × Gathered (now book) 0 (now sets) ⌝ }
     ensures { λ _. ⌜ Gathered (now (book .entry)) n (now (sets .exit)) ⌝ }
 {
@@ -80,7 +80,7 @@ fn opposed(sets: &[u64], command: Command) -> Set
 
 // The commands that conflict with the m-th: those that it is opposed to, but itself.
 fn row(book: &[u8], places: &[u64], m: usize, sets: &[u64]) -> Set
-    requires { ⌜ (m < length (commandsOf (now book))) × (take (length (commandsOf (now book))) (now places) ≡ placesOf (now book))
+    requires { ⌜ (m < length (commandsOf (now book))) × Placed (now book) (now places)
         × Gathered (now book) (length (commandsOf (now book))) (now sets) ⌝ }
     ensures { λ r. ⌜ r ≡ conflictRow (now (book .entry)) m ⌝ }
 {
@@ -92,7 +92,7 @@ fn row(book: &[u8], places: &[u64], m: usize, sets: &[u64]) -> Set
 // The rows of the n commands. All rows are empty before, and those past the commands stay so.
 fn fill_rows(book: &[u8], places: &[u64], n: usize, sets: &[u64], rows: &mut [u64])
     requires { ⌜ (now rows ≡ replicate maxCommands 0) × (n ≡ length (commandsOf (now book)))
-        × (take (length (commandsOf (now book))) (now places) ≡ placesOf (now book)) × Gathered (now book) n (now sets) ⌝ }
+        × Placed (now book) (now places) × Gathered (now book) n (now sets) ⌝ }
     ensures { λ _. ⌜ now (rows .exit) ≡ conflictRows (now (book .entry)) ⌝ }
 {
     let mut m: usize = 0;
@@ -104,7 +104,7 @@ fn fill_rows(book: &[u8], places: &[u64], n: usize, sets: &[u64], rows: &mut [u6
 
 // The rows of all command numbers, from the noted places of the n commands. All rows are empty before.
 pub fn conflict_rows(book: &[u8], places: &[u64], n: usize, rows: &mut [u64])
-    requires { ⌜ (now rows ≡ replicate maxCommands 0) × (n ≡ length (commandsOf (now book))) × (take (length (commandsOf (now book))) (now places) ≡ placesOf (now book)) ⌝ }
+    requires { ⌜ (now rows ≡ replicate maxCommands 0) × (n ≡ length (commandsOf (now book))) × Placed (now book) (now places) ⌝ }
     ensures { λ _. ⌜ now (rows .exit) ≡ conflictRows (now (book .entry)) ⌝ }
 {
     let mut sets = [0u64; SETS * Bike::COUNT];

@@ -11,15 +11,10 @@ use Rattle.table.specs.declared.SiteTable.{SiteTable}
 use Rattle.register.specs.declared.Command.{Command}
 use Rattle.register.specs.Register.{Within}
 use Rattle.register.specs.Lent.{registerOf}
-use Rattle.commands.specs.Book.{commandsOf, placesOf}
 use Rattle.protocol.specs.Site as protocol
 use Rattle.system.specs.Dash.{dash}
 use Rattle.layout.specs.Layout.{siteSize, heardPlace, registerPlace, ledgerOf}
 use Rattle.layout.specs.Good.{GoodTables}
-
--- The places of a book's commands are noted.
-abbrev pub Noted : List ℕ → List ℕ → Type 0
-Noted book places = take (length (commandsOf book)) places ≡ placesOf book
 
 -- The commands l were delivered in their order, after k others.
 pub record Delivered (book : List Command) (k : ℕ) (l : List ℕ) (b b′ : List ℕ) : Type 0 where

@@ -7,15 +7,15 @@ ghost use lib.ListN.{length};
 ghost use Rattle.sets.specs.Sets.{capacity, withinOf};
 ghost use Rattle.register.specs.Register.{Within};
 ghost use Rattle.register.specs.Lent.{registerOf};
-ghost use Rattle.commands.specs.Book.{commandsOf};
+ghost use Rattle.commands.specs.Book.{commandsOf, Placed};
 ghost use Rattle.layout.specs.Layout.{siteSize, registerPlace};
-ghost use Rattle.deliver.specs.Delivering.{Noted, Delivered, inOrder};
+ghost use Rattle.deliver.specs.Delivering.{Delivered, inOrder};
 use layout::Site;
 use sets::Set;
 
 // A command is delivered, as the k-th of the site's deliveries.
 pub fn deliver(site: &mut [u8], book: &[u8], places: &[u64], k: usize, m: usize)
-    requires { ⌜ (length (now site) ≡ siteSize) × Within (registerOf (now site) registerPlace) × Noted (now book) (now places)
+    requires { ⌜ (length (now site) ≡ siteSize) × Within (registerOf (now site) registerPlace) × Placed (now book) (now places)
         × (m < length (commandsOf (now book))) × (k < capacity) ⌝ }
     ensures { λ _. ⌜ Delivered (commandsOf (now (book .entry))) k (m ∷ []) (now (site .entry)) (now (site .exit)) ⌝ }
 {
@@ -26,7 +26,7 @@ pub fn deliver(site: &mut [u8], book: &[u8], places: &[u64], k: usize, m: usize)
 
 // The commands of a set are delivered in number order, after k others. The answer is the number of deliveries then.
 pub fn deliver_all(site: &mut [u8], book: &[u8], places: &[u64], k: usize, set: Set) -> usize
-    requires { ⌜ (length (now site) ≡ siteSize) × Within (registerOf (now site) registerPlace) × Noted (now book) (now places)
+    requires { ⌜ (length (now site) ≡ siteSize) × Within (registerOf (now site) registerPlace) × Placed (now book) (now places)
         × (withinOf set (length (commandsOf (now book))) ≡ true) × (k + length (inOrder set) ≤ capacity) ⌝ }
     ensures { λ r. ⌜ (r ≡ k + length (inOrder set)) × Delivered (commandsOf (now (book .entry))) k (inOrder set) (now (site .entry)) (now (site .exit)) ⌝ }
 {

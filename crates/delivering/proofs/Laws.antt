@@ -16,7 +16,7 @@ use Rattle.refusals.specs.Refusals.{numberOf, codeOf}
 use Rattle.table.specs.declared.Rules.{Rules}
 use Rattle.table.specs.declared.SiteTable.{SiteTable}
 use Rattle.table.specs.Table.{isGood}
-use Rattle.commands.specs.Book.{maxCommands, commandsOf}
+use Rattle.commands.specs.Book.{maxCommands, commandsOf, Placed}
 use Rattle.conflicts.specs.Conflicts.{conflictRows}
 use Rattle.protocol.specs.System.{_else_⨾_, verdict}
 use Rattle.protocol.specs.Recovery as recovery
@@ -31,7 +31,6 @@ use Rattle.recovery.specs.Decisions.{decisionOf, DecisionWithin}
 use Rattle.recovery.proofs.Within.{decision-within}
 use Rattle.layout.specs.Layout.{siteSize, headOf, view}
 use Rattle.layout.specs.Good.{Good}
-use Rattle.deliver.specs.Delivering.{Noted}
 use Rattle.ending.specs.Ending.{EndedBy, RoundEnded}
 use Rattle.ending.proofs.Telling.{told}
 use Rattle.judging.specs.Outcomes.{outcome, answered, _then_}
@@ -83,7 +82,7 @@ module _ (n f : ℕ) (book site : List ℕ) (m : ℕ) {j : Judgement}
     tabled = good-rules n f book (verdict (forSite n f book true site)) e h .0
 
     pub fast-ready : m < x .commands → (places : List ℕ) {after : List ℕ} → maxCommands ≤ length places → after ≡ placesAfter n f book (leb siteSize (length site)) places
-        → Good (x .table .sites) (x .commands) (take siteSize site) × (isGood (x .table) ≡ true) × Noted book after × (length (commandsOf book) ≡ x .commands) × (m < x .commands)
+        → Good (x .table .sites) (x .commands) (take siteSize site) × (isGood (x .table) ≡ true) × Placed book after × (length (commandsOf book) ≡ x .commands) × (m < x .commands)
     fast-ready l places room en = (
       subst (λ (t : SiteTable). Good (t .sites) (x .commands) (take siteSize site)) (sym tabled) (subst (λ (k : ℕ). Good n k (take siteSize site)) (sym counted) (judged .good)),
       subst (λ (t : SiteTable). isGood t ≡ true) (sym tabled) (judged .table),
@@ -164,7 +163,7 @@ module _ (n f : ℕ) (book site log : List ℕ) {j : Judgement}
     ruled = good-taken (verdict (forSiteAndLog n f book true site log)) (rulesOf n f book) e h .1
 
     pub end-ready : (places : List ℕ) {after : List ℕ} → maxCommands ≤ length places → after ≡ placesAfter n f book (leb siteSize (length site)) places
-        → Good (x .table .sites) (x .commands) (take siteSize site) × (isGood (x .table) ≡ true) × Noted book after × (length (commandsOf book) ≡ x .commands)
+        → Good (x .table .sites) (x .commands) (take siteSize site) × (isGood (x .table) ≡ true) × Placed book after × (length (commandsOf book) ≡ x .commands)
         × (headOf (take siteSize site) .position ≤ length log / entrySize) × (goodTo log (x .table .sites) (x .commands) (headOf (take siteSize site) .position) ≡ true)
     end-ready places room en = (
       subst (λ (y : Rules). Good (y .table .sites) (y .commands) (take siteSize site)) (sym ruled) (judged-log .0 .good),

@@ -4,11 +4,10 @@ ghost use mathlib.Core.Bool.{true};
 ghost use Prim.Native.Nat.{_/_, _≤_};
 ghost use lib.ListN.{length};
 ghost use Rattle.table.specs.Table.{isGood};
-ghost use Rattle.commands.specs.Book.{commandsOf};
+ghost use Rattle.commands.specs.Book.{commandsOf, Placed};
 ghost use Rattle.entries.specs.Entries.{entrySize, logOf, goodTo};
 ghost use Rattle.layout.specs.Layout.{headOf};
 ghost use Rattle.layout.specs.Good.{Good};
-ghost use Rattle.deliver.specs.Delivering.{Noted};
 ghost use Rattle.ending.specs.Ending.{EndedBy};
 ghost use Rattle.judging.specs.Outcomes.{outcome};
 ghost use Rattle.delivering.specs.Delivering.{fastDeliveryCall, roundEndCall};
@@ -51,7 +50,7 @@ pub fn fast_delivery(
 
 // The round ends as the entries that the site has read decide it, or the step is refused.
 fn end_round(site: &mut [u8], rules: Rules, book: &[u8], places: &[u64], log: &[u8]) -> Verdict
-    requires { ⌜ Good (rules .table .sites) (rules .commands) (now site) × (isGood (rules .table) ≡ true) × Noted (now book) (now places) × (length (commandsOf (now book)) ≡ rules .commands)
+    requires { ⌜ Good (rules .table .sites) (rules .commands) (now site) × (isGood (rules .table) ≡ true) × Placed (now book) (now places) × (length (commandsOf (now book)) ≡ rules .commands)
         × (headOf (now site) .position ≤ length (now log) / entrySize)
         × (goodTo (now log) (rules .table .sites) (rules .commands) (headOf (now site) .position) ≡ true) ⌝ }
     ensures { λ r. ⌜ EndedBy (rules .table) (commandsOf (now (book .entry))) (logOf (now (log .entry))) (now (site .entry)) r (now (site .exit)) ⌝ }

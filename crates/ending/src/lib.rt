@@ -3,11 +3,10 @@ ghost use mathlib.Core.Path.{_≡_};
 ghost use Prim.Native.Nat.{ℕ, _+_, _≤_};
 ghost use lib.ListN.{length};
 ghost use Rattle.wire.specs.Wire.{splice};
-ghost use Rattle.commands.specs.Book.{commandsOf};
+ghost use Rattle.commands.specs.Book.{commandsOf, Placed};
 ghost use Rattle.recovery.specs.Decisions.{DecisionWithin};
 ghost use Rattle.layout.specs.Layout.{siteSize, siteRounds, headOf, headBytes, Headed};
 ghost use Rattle.layout.specs.Good.{Good};
-ghost use Rattle.deliver.specs.Delivering.{Noted};
 ghost use Rattle.ending.specs.Ending.{dueOf, ended, judgedEnd, RoundEnded};
 use recovery::Decision;
 use recovery::Sets;
@@ -63,7 +62,7 @@ pub fn round_end(
     commands: usize,
     decision: Decision,
 ) -> Verdict
-    requires { ⌜ ((sites : ℕ) × Good sites commands (now site)) × Noted (now book) (now places)
+    requires { ⌜ ((sites : ℕ) × Good sites commands (now site)) × Placed (now book) (now places)
         × (length (commandsOf (now book)) ≡ commands) × DecisionWithin commands decision ⌝ }
     ensures { λ r. ⌜ RoundEnded (commandsOf (now (book .entry))) decision (now (site .entry)) r (now (site .exit)) ⌝ }
 {

@@ -9,14 +9,13 @@ ghost use Rattle.theory.specs.Sets.{one, count};
 ghost use Rattle.sets.specs.Sets.{capacity};
 ghost use Rattle.table.specs.Table.{maxSites, isGood};
 ghost use Rattle.register.specs.declared.Command.{Command};
-ghost use Rattle.commands.specs.Book.{commandsOf};
+ghost use Rattle.commands.specs.Book.{commandsOf, Placed};
 ghost use Rattle.protocol.specs.System.{verdict};
 ghost use Rattle.protocol.specs.Site as protocol;
 ghost use Rattle.system.specs.Dash.{dash};
 ghost use Rattle.layout.specs.Layout.{siteSize, siteRounds, heardOf, view};
 ghost use Rattle.layout.specs.Good.{Good};
 ghost use Rattle.layout.specs.Step.{Carried};
-ghost use Rattle.deliver.specs.Delivering.{Noted};
 use refusals::Refusal;
 use refusals::Verdict;
 use table::SiteTable;
@@ -79,7 +78,7 @@ pub fn fast_delivery(
     commands: usize,
     m: usize,
 ) -> Verdict
-    requires { ⌜ Good (table .sites) commands (now site) × (isGood table ≡ true) × Noted (now book) (now places)
+    requires { ⌜ Good (table .sites) commands (now site) × (isGood table ≡ true) × Placed (now book) (now places)
         × (length (commandsOf (now book)) ≡ commands) × (m < commands) ⌝ }
     ensures { λ r. ⌜ Carried table (commandsOf (now (book .entry)))
         (verdict (protocol.forFastDelivery (dash table (commandsOf (now (book .entry)))) m (view table (commandsOf (now (book .entry))) (now (site .entry)))))

@@ -19,7 +19,7 @@ use Rattle.table.specs.declared.Judged.the-variants as judged
 use Rattle.table.specs.Table.{isGood, judgeTable}
 use Rattle.table.proofs.Laws.{judged-good}
 use Rattle.register.specs.declared.Command.{Command}
-use Rattle.commands.specs.Book.{maxCommands, readUpTo, verdictOf, judgeBook, commandsOf, measureBook, placesOf, notedPlaces}
+use Rattle.commands.specs.Book.{maxCommands, readUpTo, verdictOf, judgeBook, commandsOf, measureBook, Placed, notedPlaces}
 use Rattle.commands.specs.declared.Measured.the-variants.{Commands, Unreadable}
 use Rattle.commands.proofs.Walk.{is-counted, not-counted, taken-counted}
 use Rattle.commands.proofs.Noting.{note-noted}
@@ -225,7 +225,7 @@ module _ (run : List ℕ) where
   judged-refused e = opened-refused (verdict (forRun run)) (saidBy run) e
 
   -- The places of a run that is taken.
-  pub places-noted : (p : List ℕ) {q : List ℕ} → verdict (forRun run) ≡ Taken → maxCommands ≤ length p → q ≡ placesAfter run p → take (length (commandsOf (bookOf run))) q ≡ placesOf (bookOf run)
+  pub places-noted : (p : List ℕ) {q : List ℕ} → verdict (forRun run) ≡ Taken → maxCommands ≤ length p → q ≡ placesAfter run p → Placed (bookOf run) q
   unfolding placesAfter
   places-noted p h room e =
       let f = header-first (leb (length run) maxRun) (leb headerSize (length run)) (isGood (tableOf run)) (leb (headerSize + bookSize run) (length run)) (judgeBook (bookOf run)) h in

@@ -25,7 +25,7 @@ use Rattle.table.specs.Table.{maxSites, goodTable, judgeTable}
 use Rattle.table.proofs.Laws.{limits}
 use Rattle.commands.specs.declared.Measured.{Measured}
 use Rattle.commands.specs.declared.Measured.the-variants.{Commands, Unreadable}
-use Rattle.commands.specs.Book.{maxCommands, commandsOf, placesOf, judgeBook, measureBook, notedPlaces}
+use Rattle.commands.specs.Book.{maxCommands, commandsOf, Placed, judgeBook, measureBook, notedPlaces}
 use Rattle.commands.proofs.Noting.{note-noted}
 use Rattle.commands.proofs.Walk.{is-counted, not-counted}
 use Rattle.protocol.specs.System.{Demands, granted, _else_⨾_, verdict}
@@ -307,14 +307,14 @@ counted s e = go (measureBook s) refl
 
 module _ (n f : ℕ) (book : List ℕ) (enough : Bool) (site places : List ℕ) {after : List ℕ} (room : maxCommands ≤ length places)
     (e : after ≡ placesAfter n f book (enough && leb siteSize (length site)) places) where
-  noted : (enough && leb siteSize (length site)) ≡ true → Judged n f book site → take (length (commandsOf book)) after ≡ placesOf book
+  noted : (enough && leb siteSize (length site)) ≡ true → Judged n f book site → Placed book after
   noted h j =
       let m = counted book (j .listed) in
       note-noted book places room (m .1)
       (e ∙ (λ i. pick (isTaken (verdict (h i else Size ⨾ j .table i else Table ⨾ granted))) (sets places 0 (notedPlaces book)) places))
 
-  pub site-noted : {k : ℕ} → k ≡ codeOf (verdict (forSite n f book enough site)) → k ≡ 0 → take (length (commandsOf book)) after ≡ placesOf book
+  pub site-noted : {k : ℕ} → k ≡ codeOf (verdict (forSite n f book enough site)) → k ≡ 0 → Placed book after
   site-noted q z = noted (met (forSite n f book enough site) q z .0) (site-judged n f book enough site q z .1)
 
-  pub log-noted : (log : List ℕ) {k : ℕ} → k ≡ codeOf (verdict (forSiteAndLog n f book enough site log)) → k ≡ 0 → take (length (commandsOf book)) after ≡ placesOf book
+  pub log-noted : (log : List ℕ) {k : ℕ} → k ≡ codeOf (verdict (forSiteAndLog n f book enough site log)) → k ≡ 0 → Placed book after
   log-noted log q z = noted (met (forSiteAndLog n f book enough site log) q z .0) (log-judged n f book enough site log q z .1)

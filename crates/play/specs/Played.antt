@@ -9,7 +9,7 @@ use Rattle.table.specs.declared.SiteTable.{SiteTable}
 use Rattle.table.specs.declared.Rules.{Rules}
 use Rattle.table.specs.Table.{maxSites, isGood}
 use Rattle.register.specs.declared.Command.{Command}
-use Rattle.commands.specs.Book.{commandsOf}
+use Rattle.commands.specs.Book.{commandsOf, Placed}
 use Rattle.conflicts.specs.Conflicts.{conflictRows}
 use Rattle.protocol.specs.World.{World, start}
 use Rattle.system.specs.Dash.{dash, lastRound}
@@ -17,7 +17,6 @@ use Rattle.print.specs.Print.{Wrote}
 use Rattle.steps.specs.declared.Reading.{Reading}
 use Rattle.steps.specs.Steps.{stepsOf}
 use Rattle.runs.specs.Run.{maxRun, stepLines, worldAfter}
-use Rattle.deliver.specs.Delivering.{Noted}
 use Rattle.entries.specs.Entries.{entrySize}
 use Rattle.world.specs.World.{Buffers, PastRows, HoldsWorld}
 use Rattle.world.specs.Parts.{lent}
@@ -39,7 +38,7 @@ pub record Playable (rules : Rules) (book places rows steps out : List ℕ) (fro
   pub good : isGood (rules .table) ≡ true
   pub short : length steps < maxRun
   pub log : logRoom * entrySize ≤ length (b .log)
-  pub noted : Noted book places
+  pub noted : Placed book places
   pub conflicts : rows ≡ conflictRows book
   pub counted : length (commandsOf book) ≡ rules .commands
   pub room : from + linesRoom ≤ length out

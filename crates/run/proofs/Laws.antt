@@ -19,7 +19,7 @@ use Rattle.table.specs.declared.SiteTable.{SiteTable}
 use Rattle.table.specs.Table.{isGood, faultyCountOf}
 use Rattle.table.proofs.Laws.{good-limits, good-few}
 use Rattle.register.specs.declared.Command.{Command}
-use Rattle.commands.specs.Book.{maxCommands, commandsOf, placesOf}
+use Rattle.commands.specs.Book.{maxCommands, commandsOf, Placed}
 use Rattle.commands.proofs.Walk.{few-commands}
 use Rattle.protocol.specs.System.{verdict}
 use Rattle.protocol.specs.World.{World, start}
@@ -130,11 +130,11 @@ module _ (run : List ℕ) where
 
 -- The part that is the book of a run that is taken: its commands are counted, and their places noted.
 pub noted-part : (run p : List ℕ) {b q : List ℕ} {n : Run} → b ≡ bookOf run → opened.Good n ≡ judgeRun run → q ≡ placesAfter run p → maxCommands ≤ length p
-    → (n .rules .commands ≡ length (commandsOf b)) × (take (length (commandsOf b)) q ≡ placesOf b)
+    → (n .rules .commands ≡ length (commandsOf b)) × Placed b q
 noted-part run p {b} {q} e o w h =
     let j = judged-taken run o in (
       ap (λ (r : Run). r .rules .commands) (j .1) ∙ ap (λ (l : List ℕ). length (commandsOf l)) (sym e),
-      subst (λ (l : List ℕ). take (length (commandsOf l)) q ≡ placesOf l) (sym e) (places-noted run p (j .0) h w),
+      subst (λ (l : List ℕ). Placed l q) (sym e) (places-noted run p (j .0) h w),
     )
 
 -- ---- what the call answers

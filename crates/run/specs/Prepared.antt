@@ -4,10 +4,10 @@ use mathlib.Core.Path.{_≡_}
 use mathlib.Core.Bool.{true}
 use mathlib.Core.List.{List}
 use Prim.Native.Nat.{ℕ, _*_, _≤_, _<_}
-use lib.ListN.{length, take}
+use lib.ListN.{length}
 use Rattle.table.specs.declared.SiteTable.{SiteTable}
 use Rattle.table.specs.Table.{isGood}
-use Rattle.commands.specs.Book.{commandsOf, placesOf}
+use Rattle.commands.specs.Book.{commandsOf, Placed}
 use Rattle.conflicts.specs.Conflicts.{conflictRows}
 use Rattle.runs.specs.Run.{maxRun}
 use Rattle.layout.specs.Layout.{siteSize}
@@ -35,5 +35,5 @@ pub record Sized (t : SiteTable) (w : Working) : Type 0 where
 -- The places of a book's n commands, and which of them conflict.
 pub record Noted (book p r : List ℕ) (n : ℕ) : Type 0 where
   pub count : n ≡ length (commandsOf book)
-  pub places : take (length (commandsOf book)) p ≡ placesOf book
+  pub places : Placed book p
   pub rows : r ≡ conflictRows book

@@ -1,7 +1,7 @@
 // A run in bytes, played on lent working memory, and what it prints into a lent buffer.
 ghost use mathlib.Core.Path.{_≡_};
-ghost use lib.ListN.{length, take};
-ghost use Rattle.commands.specs.Book.{commandsOf, placesOf};
+ghost use lib.ListN.{length};
+ghost use Rattle.commands.specs.Book.{commandsOf, Placed};
 ghost use Rattle.print.specs.Print.{Wrote};
 ghost use Rattle.steps.specs.Steps.{stepsOf};
 ghost use Rattle.runs.specs.Run.{played};
@@ -105,7 +105,7 @@ fn print_noted(
     out: &mut [u8],
 ) -> usize
     requires { ⌜ Playable (rules .table) (now steps) (now out) × Roomy (working (now sites) (now log) (now sent))
-        × (rules .commands ≡ length (commandsOf (now book))) × (take (length (commandsOf (now book))) (now places) ≡ placesOf (now book)) ⌝ }
+        × (rules .commands ≡ length (commandsOf (now book))) × Placed (now book) (now places) ⌝ }
     ensures { λ r. ⌜ Wrote (now (out .exit)) r (now (out .entry)) 0 (played (rules .table) (commandsOf (now (book .entry))) (stepsOf (now (steps .entry))))
         × Worked (rules .table) (commandsOf (now (book .entry))) (stepsOf (now (steps .entry)))
         (working (now (sites .entry)) (now (log .entry)) (now (sent .entry))) (working (now (sites .exit)) (now (log .exit)) (now (sent .exit))) ⌝ }

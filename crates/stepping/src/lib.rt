@@ -5,10 +5,9 @@ ghost use Prim.Native.Nat.{_*_, _≤_};
 ghost use lib.ListN.{length};
 ghost use Rattle.sets.specs.Sets.{capacity};
 ghost use Rattle.table.specs.Table.{isGood};
-ghost use Rattle.commands.specs.Book.{commandsOf};
+ghost use Rattle.commands.specs.Book.{commandsOf, Placed};
 ghost use Rattle.steps.specs.Meaning.{meaning};
 ghost use Rattle.layout.specs.Layout.{siteSize};
-ghost use Rattle.deliver.specs.Delivering.{Noted};
 ghost use Rattle.rounds.specs.Rounds.{entriesIn, Kept};
 ghost use Rattle.sent.specs.Sent.{GoodSent};
 ghost use Rattle.world.specs.World.{Outcome};
@@ -62,7 +61,7 @@ pub fn step(
     rows: &[u64],
     step: Step,
 ) -> Verdict
-    requires { ⌜ Ready (rules .table) (now book) (now rows) (lent (now sites) (now log) (entriesIn (now kept)) (now sent)) (meaning step) × Noted (now book) (now places)
+    requires { ⌜ Ready (rules .table) (now book) (now rows) (lent (now sites) (now log) (entriesIn (now kept)) (now sent)) (meaning step) × Placed (now book) (now places)
         × (length (commandsOf (now book)) ≡ rules .commands) × Kept (rules .table) (now rows) (now log) (now kept) ⌝ }
     ensures { λ v. ⌜ Outcome (rules .table) (commandsOf (now (book .entry))) (meaning step) (lent (now (sites .entry)) (now (log .entry)) (entriesIn (now (kept .entry))) (now (sent .entry)))
         v (lent (now (sites .exit)) (now (log .exit)) (entriesIn (now (kept .exit))) (now (sent .exit)))

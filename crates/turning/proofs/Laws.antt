@@ -25,7 +25,7 @@ use Rattle.sets.proofs.Laws.{in-without}
 use Rattle.table.specs.declared.SiteTable.{SiteTable}
 use Rattle.table.specs.declared.Rules.{Rules}
 use Rattle.register.specs.declared.Command.{Command}
-use Rattle.commands.specs.Book.{maxCommands, commandsOf, placesOf}
+use Rattle.commands.specs.Book.{maxCommands, commandsOf, Placed}
 use Rattle.conflicts.specs.Conflicts.{conflictRows}
 use Rattle.protocol.specs.System as protocols
 use Rattle.protocol.specs.System.{_else_⨾_, verdict}
@@ -139,7 +139,7 @@ module _ (n f : ℕ) (book site log : List ℕ) (own : ℕ) (o : List ℕ) {j : 
     turn-counted = good-rules n f book (verdict (forSiteAndLog n f book (leb turnSize (length o)) site log)) e h .1
 
     pub turn-noted : (places : List ℕ) {after : List ℕ} → maxCommands ≤ length places
-        → after ≡ placesAfter n f book (leb turnSize (length o) && leb siteSize (length site)) places → take (length (commandsOf book)) after ≡ placesOf book
+        → after ≡ placesAfter n f book (leb turnSize (length o) && leb siteSize (length site)) places → Placed book after
     turn-noted places room e = log-noted n f book (leb turnSize (length o)) site places room e log code refl
 
     pub turn-room : turnSize ≤ length o
