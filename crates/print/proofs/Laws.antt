@@ -3,8 +3,8 @@
 use mathlib.Core.Bool.{true, false}
 use mathlib.Core.Path.{_≡_, refl, sym, ap, subst, _∙_}
 use mathlib.Core.List.{List, [], _∷_, _++_, append-assoc}
-use Prim.Native.Nat.{ℕ, zero, suc, _+_, _-_, _/_, _%_, _^_, _≤_, _<_}
-use native.Mathlib.Nat.{pow-suc, div-lt-iff-lt-mul}
+use Prim.Native.Nat.{ℕ, zero, suc, _+_, _-_, _*_, _/_, _%_, _^_, _≤_, _<_}
+use native.Mathlib.Nat.{pow-suc, pow-le-pow-right, div-lt-iff-lt-mul, le-div-iff-mul-le}
 use native.Mathlib.Decide.{decLt}
 use native.Mathlib.Numerals.{add-one}
 use native.Mathlib.Omega.{arith}
@@ -53,6 +53,35 @@ width-short (suc k) x h =
       | yes l ↦ omega (arith, width-more x l, width-short k (x / 10) (div-lt-iff-lt-mul {k = 10} (omega arith) .1 (rw pow-suc at h)))
       | no l ↦ omega (arith, width-one x (omega arith))
     ]
+
+powers : (i j : ℕ) → i ≤ j → 10 ^ i ≤ 10 ^ j
+powers i j = pow-le-pow-right (omega arith)
+
+pub width-some : (x : ℕ) → 1 ≤ width x
+width-some x =
+    elim (decLt 9 x) [
+      | yes l ↦ omega (arith, width-more x l)
+      | no l ↦ omega (arith, width-one x (omega arith))
+    ]
+
+-- A number that reaches 10 ^ n has more than n digits.
+pub width-past : (n x : ℕ) → 10 ^ n ≤ x → n < width x
+width-past zero x h = width-some x
+width-past (suc n) x h =
+    let g : 10 ^ n ≤ x / 10 = le-div-iff-mul-le {k = 10} (omega arith) .1 (rw pow-suc at h) in
+    let p = powers 0 n (omega arith) in
+    omega (arith, width-more x (omega (arith, p, g)), width-past n (x / 10) g)
+
+-- One below it, for an n above 0, has at most n.
+pub width-within : (n x : ℕ) → 1 ≤ n → x < 10 ^ n → width x ≤ n
+width-within zero x l h = absurd (omega arith)
+width-within (suc n) x l h = width-short n x h
+
+-- The next power of ten, of which 10 ^ 19 is the last that fits a word.
+pub next-power : (n : ℕ) {p : ℕ} → p ≡ 10 ^ n → n < 19 → (p * 10 ≡ 10 ^ (n + 1)) × (p * 10 ≤ 10 ^ 19)
+next-power n {p} e l =
+    let q : p * 10 ≡ 10 ^ suc n = ap (λ (m : ℕ). m * 10) e ∙ sym (pow-suc 10 n) in
+    (q ∙ ap (λ (m : ℕ). 10 ^ m) (sym (add-one n)), subst (λ (m : ℕ). m ≤ 10 ^ 19) (sym q) (powers (suc n) 19 (omega arith)))
 
 pub length-digits : (n x : ℕ) → length (digits n x) ≡ n
 unfolding digits

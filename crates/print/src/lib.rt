@@ -4,15 +4,21 @@ ghost use Prim.Native.Nat.{_+_, _≤_};
 ghost use lib.ListN.{length};
 ghost use Rattle.print.specs.Print.{digits, width, decimal, signedDecimal, Wrote};
 
-// How many digits a number has.
+// The digits of the greatest number.
+const MOST_DIGITS: usize = 20;
+
+// How many digits a number has: one, and one more for each power of ten from 10 on that it reaches.
 fn digit_count(x: usize) -> usize
     ensures { λ r. ⌜ r ≡ width x ⌝ }
 {
-    let mut left = x;
+    let mut power: usize = 10;
     let mut n: usize = 1;
-    while left > 9 {
-        left = left / 10;
+    while power <= x {
         n += 1;
+        if n == MOST_DIGITS {
+            return n;
+        }
+        power *= 10;
     }
     n
 }
