@@ -19,7 +19,7 @@ use refusals::Verdict;
 use site::Turn;
 use table::Rules;
 
-// Site i, of these bytes, takes its turn, by the rows of conflicts and what is kept of the log. Conflicts are looked for only where the turn is enabled.
+// Site i, of these bytes, takes its turn, by the rows of conflicts and what is kept of the log.
 fn turn_by(site: &mut [u8], kept: &[u64], rows: &[u64], i: usize) -> Turn
     requires { ⌜ (length (now site) ≡ siteSize) × (length (now kept) ≡ keptWords) × (length (now rows) ≡ capacity) × (i < maxSites) × (headOf (now site) .round < keptRounds) ⌝ }
     ensures { λ r. ⌜ TurnedBy (now (rows .entry)) (now (kept .entry)) i r (now (site .entry)) (now (site .exit)) ⌝ }
