@@ -4,9 +4,8 @@ use mathlib.Core.Path.{_≡_, refl, sym, ap, _∙_, subst}
 use mathlib.Core.Bool.{Bool, true, false, _&&_, _||_, not}
 use mathlib.Core.List.{List}
 use mathlib.Core.Option.{Option, none, some}
-use Prim.Native.Nat.{ℕ, zero, suc, _/_, _≤_, _<_}
+use Prim.Native.Nat.{ℕ, zero, suc, _≤_, _<_}
 use native.Mathlib.Omega.{arith}
-use lib.ListN.{length, take}
 use lib.Dec.{leb}
 use Rattle.theory.specs.Sets.{pick}
 use Rattle.theory.specs.Counting.{not-true, not-false}
@@ -18,20 +17,17 @@ use Rattle.table.specs.Table.{isGood, majorityOf}
 use Rattle.table.proofs.Laws.{good-limits}
 use Rattle.commands.specs.Book.{commandsOf}
 use Rattle.conflicts.specs.Conflicts.{conflictRows}
-use Rattle.protocol.specs.Recovery as recovery
 use Rattle.protocol.specs.Recovery.{valid, isValid, ncOf, cOf, Tally, Log, decide, ncSet, proposed}
 use Rattle.system.specs.Dash.{dash}
 use Rattle.calm.specs.Rows.{rowsSystem}
 use Rattle.calm.proofs.Same.{decide-rows}
-use Rattle.entries.specs.Entries.{entrySize, entryOf, logTo, logOf}
-use Rattle.entries.proofs.Logs.{log-of-take}
+use Rattle.entries.specs.Entries.{entryOf, logTo}
 use Rattle.standing.specs.declared.Standing.{Standing}
 use Rattle.standing.specs.Standings.{standingOf}
 use Rattle.standing.proofs.Tallies.{tallyTo}
 use Rattle.standing.proofs.Steps.{decided-after}
 use Rattle.standing.proofs.Agreement.{Marks, Agrees, agrees}
 use Rattle.recovery.specs.declared.Sets.{Sets}
-use Rattle.recovery.specs.declared.Decision.{Decision}
 use Rattle.recovery.specs.declared.Decision.the-variants.{Undecided, Decided}
 use Rattle.recovery.specs.declared.Levels.{Levels}
 use Rattle.recovery.specs.Decisions.{setsOf, decisionOf, ncCount, inAny, atLeast, levelsOf, levelOf, foundSets}
@@ -133,12 +129,3 @@ pub decision-dash : (t : SiteTable) (s : List ℕ) (r : ℕ) (l : Log)
     ≡ decisionOf (dash t (commandsOf s)) (decide (dash t (commandsOf s)) r l)
 decision-dash t s r l =
     same-decision t s (decide (rowsSystem t (conflictRows s)) r l) ∙ ap (decisionOf (dash t (commandsOf s))) (decide-rows s t r l)
-
--- So it is what a site asks for: the decision by the entries that it has read.
-pub decision-log : (t : SiteTable) (s rows : List ℕ) (r : ℕ) (b : List ℕ) (k : ℕ) {d : Decision} → rows ≡ conflictRows s → k ≤ length b / entrySize
-    → d ≡ decisionOf (rowsSystem t rows) (decide (rowsSystem t rows) r (logTo b k))
-    → d ≡ decisionOf (dash t (commandsOf s)) (decide (dash t (commandsOf s)) r (take k (logOf b)))
-decision-log t s rows r b k er h ed =
-    ed ∙ ap (λ (x : List ℕ). decisionOf (rowsSystem t x) (decide (rowsSystem t x) r (logTo b k))) er
-    ∙ decision-dash t s r (logTo b k)
-    ∙ ap (λ (l : Log). decisionOf (dash t (commandsOf s)) (decide (dash t (commandsOf s)) r l)) (sym (log-of-take b k h))
