@@ -9,8 +9,8 @@ use native.Mathlib.Omega.{arith}
 use lib.Dec.{eqb}
 use borrow.Author.Tests.{eq-eqb, ne-eqb}
 use Rattle.theory.specs.Sets as theory
-use Rattle.theory.specs.Sets.{one, all}
-use Rattle.theory.specs.Counting.{left, right, not-true, not-false, never, all-at, all-of}
+use Rattle.theory.specs.Sets.{one}
+use Rattle.theory.specs.Counting.{left, right, not-true, not-false, never, and-false, and-true, refuted, apart-at, apart-of}
 use Rattle.sets.specs.declared.Set.{Set}
 use Rattle.sets.specs.Sets.{capacity, inSet, emptyOf, withOf, withoutOf, commonOf, loadSet, isEmptyOf, sizeOf, firstOf, restOf}
 use Rattle.sets.proofs.Laws.{in-empty, in-with, in-without, in-common, empty-at, first-in}
@@ -25,18 +25,10 @@ pub in-less : (s : Set) (m j : ℕ) → inSet (withoutOf s (withOf emptyOf m)) j
 in-less s m j = in-without s (withOf emptyOf m) j ∙ ap (λ (b : Bool). inSet s j && not b) (in-alone m j)
 
 pub less-same : (s : Set) (m : ℕ) → inSet (withoutOf s (withOf emptyOf m)) m ≡ false
-less-same s m = in-less s m m ∙ ap (λ (b : Bool). inSet s m && not b) (eq-eqb m m refl) ∙ none (inSet s m)
-  where
-    none : (b : Bool) → (b && false) ≡ false
-    none true = refl
-    none false = refl
+less-same s m = in-less s m m ∙ ap (λ (b : Bool). inSet s m && not b) (eq-eqb m m refl) ∙ and-false (inSet s m)
 
 pub less-other : (s : Set) (m j : ℕ) → (j ≡ m → ⊥) → inSet (withoutOf s (withOf emptyOf m)) j ≡ inSet s j
-less-other s m j n = in-less s m j ∙ ap (λ (b : Bool). inSet s j && not b) (ne-eqb j m n) ∙ whole (inSet s j)
-  where
-    whole : (b : Bool) → (b && true) ≡ b
-    whole true = refl
-    whole false = refl
+less-other s m j n = in-less s m j ∙ ap (λ (b : Bool). inSet s j && not b) (ne-eqb j m n) ∙ and-true (inSet s j)
 
 -- A member taken away leaves one fewer.
 pub less-size : (s : Set) (m : ℕ) → m < capacity → inSet s m ≡ true → sizeOf s ≡ sizeOf (withoutOf s (withOf emptyOf m)) + 1
@@ -51,27 +43,11 @@ rest-told s hm hx = hx ∙ ap (λ (m : ℕ). withoutOf s (withOf emptyOf m)) (sy
 module _ (rows : List ℕ) (x y : theory.Set) where
   -- Where one set is free beside another, two of their members do not conflict.
   pub between-pair : freeBetween rows x y ≡ true → (a b : ℕ) → a < capacity → b < capacity → x a ≡ true → y b ≡ true → conflictBy rows a b ≡ false
-  between-pair h a b la lb ha hb =
-      let row = all-at capacity (λ a. all capacity (λ b. not (x a && (y b && conflictBy rows a b)))) h a la in
-      let cell = all-at capacity (λ b. not (x a && (y b && conflictBy rows a b))) row b lb in
-      go (x a) (y b) (conflictBy rows a b) ha hb cell
-    where
-      go : (p q c : Bool) → p ≡ true → q ≡ true → not (p && (q && c)) ≡ true → c ≡ false
-      go true true c hp hq h = not-true c h
-      go true false c hp hq h = absurd (never false hq refl)
-      go false q c hp hq h = absurd (never false hp refl)
+  between-pair = apart-at capacity x y (conflictBy rows)
 
   -- And sets of which no two members conflict are free beside each other.
   pub between-of : ((a b : ℕ) → a < capacity → b < capacity → x a ≡ true → y b ≡ true → conflictBy rows a b ≡ false) → freeBetween rows x y ≡ true
-  between-of h =
-      all-of capacity (λ a. all capacity (λ b. not (x a && (y b && conflictBy rows a b))))
-      (λ a la. all-of capacity (λ b. not (x a && (y b && conflictBy rows a b)))
-      (λ b lb. go (x a) (y b) (conflictBy rows a b) (h a b la lb)))
-    where
-      go : (p q c : Bool) → (p ≡ true → q ≡ true → c ≡ false) → not (p && (q && c)) ≡ true
-      go true true c i = ap not (i refl refl)
-      go true false c i = refl
-      go false q c i = refl
+  between-of = apart-of capacity x y (conflictBy rows)
 
 module _ (rows : List ℕ) (new set : Set) where
   -- Members that are no longer left to look at have none of the other set in their rows.
@@ -93,18 +69,14 @@ module _ (rows : List ℕ) (new set : Set) where
   pub looked-all : (s : Set) → isEmptyOf s ≡ true → Looked s → freeBetween rows (inSet new) (inSet set) ≡ true
   looked-all s e h =
       between-of rows (inSet new) (inSet set)
-      (λ a b la lb ha hb. go (conflictBy rows a b)
-      (sym (ap (λ (x : Bool). conflictBy rows a b && x) hb)
+      (λ a b la lb ha hb. sym (and-true (conflictBy rows a b))
+      ∙ sym (ap (λ (x : Bool). conflictBy rows a b && x) hb)
       ∙ sym (in-common (loadSet rows a) set b)
-      ∙ empty-at (commonOf (loadSet rows a) set) (h .clear a la ha (empty-at s e a la)) b lb))
-    where
-      go : (c : Bool) → (c && true) ≡ false → c ≡ false
-      go true k = k
-      go false k = refl
+      ∙ empty-at (commonOf (loadSet rows a) set) (h .clear a la ha (empty-at s e a la)) b lb)
 
   pub looked-bad : (m : ℕ) → m < capacity → inSet new m ≡ true → isEmptyOf (commonOf (loadSet rows m) set) ≡ false
       → freeBetween rows (inSet new) (inSet set) ≡ false
-  looked-bad m l i e = go (freeBetween rows (inSet new) (inSet set)) found
+  looked-bad m l i e = refuted (freeBetween rows (inSet new) (inSet set)) found
     where
       found : freeBetween rows (inSet new) (inSet set) ≡ true → ⊥
       found h =
@@ -113,10 +85,6 @@ module _ (rows : List ℕ) (new set : Set) where
           let k = sym (in-common (loadSet rows m) set (firstOf x)) ∙ w .1 in
           never (conflictBy rows m (firstOf x)) (left (conflictBy rows m (firstOf x)) (inSet set (firstOf x)) k)
           (between-pair rows (inSet new) (inSet set) h m (firstOf x) l (w .0) i (right (conflictBy rows m (firstOf x)) (inSet set (firstOf x)) k))
-
-      go : (b : Bool) → (b ≡ true → ⊥) → b ≡ false
-      go true k = absurd (k refl)
-      go false k = refl
 
   -- One turn of the loop: the member that is looked at, and what is left after it.
   pub member-in : (s : Set) {m : ℕ} {e : Bool} → e ≡ isEmptyOf s → not e ≡ true → m ≡ firstOf s → (m < capacity) × (inSet s m ≡ true)

@@ -10,7 +10,7 @@ use lib.Dec.{eqb, ltb}
 use lib.IntN.{ℤ}
 use lib.ListN.{length, replicate, length-set, length-replicate, getD-replicate}
 use Rattle.theory.specs.Sets.{pick}
-use Rattle.theory.specs.Counting.{never}
+use Rattle.theory.specs.Counting.{never, and-false}
 use Rattle.sets.specs.declared.Set.{Set}
 use Rattle.sets.specs.Sets.{capacity, inSet, emptyOf, setOf, withOf, withoutOf, loadSet, storeSet}
 use Rattle.sets.proofs.Laws.{in-empty, in-with, in-without, in-setOf, build-none, build-yes, build-no, load-stored, load-other, word-ext, word-lt, set-ext, with-fits, without-fits}
@@ -20,7 +20,7 @@ use Rattle.register.specs.Register.{bikes, bikeOf, isAdd, isRead, alike}
 use Rattle.commands.specs.Book.{commandsOf, commandOf}
 use Rattle.commands.proofs.Places.{commands-valid}
 use Rattle.conflicts.specs.Conflicts.{conflictIn, conflictRow, bikeSets, isFor, isOn, opposedOf, withNoted, Joined, Gathered}
-use Rattle.conflicts.proofs.Laws.{no-more, and-false, conflict-in-sym, in-row}
+use Rattle.conflicts.proofs.Laws.{no-more, conflict-in-sym, in-row}
 
 -- Two places are the same where bike and slot are.
 place-same : (a b u v : ℕ) → u < bikeSets → v < bikeSets → eqb (bikeSets * a + u) (bikeSets * b + v) ≡ (eqb a b && eqb u v)

@@ -1,27 +1,23 @@
 -- Laws of the rows of conflicts: what is in a row, that rows are symmetric and irreflexive, and how the code builds them.
 -- Assumes nothing.
-use mathlib.Core.Bool.{Bool, true, false, not, _&&_}
+use mathlib.Core.Bool.{Bool, true, false, _&&_}
 use mathlib.Core.Path.{_≡_, refl, sym, ap, _∙_}
-use mathlib.Core.List.{List, [], _∷_, _++_}
+use mathlib.Core.List.{List, _∷_, _++_}
 use Prim.Native.Nat.{ℕ, zero, suc, _+_, _-_, _≤_, _<_}
 use native.Mathlib.Numerals.{add-one}
 use native.Mathlib.Omega.{arith}
-use borrow.Author.Tests.{lt-ltb, le-ltb, ne-eqb}
+use borrow.Author.Tests.{lt-ltb, le-ltb}
 use lib.Dec.{ltb}
 use lib.ListN.{length, getD, drop, replicate, length-replicate}
 use lib.Seq.{sets, sets-eq}
+use Rattle.theory.specs.Counting.{and-false}
 use Rattle.sets.specs.declared.Set.{Set}
 use Rattle.sets.specs.Sets.{capacity, inSet, emptyOf, setOf, loadSet, storeSet}
 use Rattle.sets.proofs.Laws.{in-setOf, build-none, build-no}
-use Rattle.register.specs.declared.Command.{Command}
-use Rattle.register.specs.Register.{conflict, conflictAt}
+use Rattle.register.specs.Register.{conflictAt}
 use Rattle.register.specs.Exchange.{conflict-at-sym, conflict-at-same}
 use Rattle.commands.specs.Book.{maxCommands, commandsOf, commandOf}
 use Rattle.conflicts.specs.Conflicts.{conflictIn, conflictRow, rowsFrom, conflictRows}
-
-pub and-false : (x : Bool) → x && false ≡ false
-and-false true = refl
-and-false false = refl
 
 swap : (x y a b : Bool) → a ≡ b → x && (y && a) ≡ y && (x && b)
 swap true true a b e = e

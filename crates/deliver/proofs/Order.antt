@@ -1,6 +1,6 @@
 -- The commands of a set in number order: the least first, and then those of the rest.
 -- Assumes nothing.
-use mathlib.Core.Path.{_≡_, refl, sym, ap, _∙_}
+use mathlib.Core.Path.{_≡_, sym, ap, _∙_}
 use mathlib.Core.Bool.{Bool, true, false, _&&_, not}
 use mathlib.Core.List.{List, [], _∷_, _++_, append-nil}
 use mathlib.Core.Logic.{_⊎_, inl, inr}
@@ -10,7 +10,7 @@ use lib.Dec.{eqb}
 use lib.ListN.{length}
 use borrow.Author.Tests.{eq-eqb, ne-eqb}
 use Rattle.theory.specs.Sets.{pick, members}
-use Rattle.theory.specs.Counting.{known, last-or-below, lt-or-le, and-false}
+use Rattle.theory.specs.Counting.{known, last-or-below, lt-or-le, and-false, and-true}
 use Rattle.theory.specs.Members.{members-none, members-ext}
 use Rattle.sets.specs.declared.Set.{Set}
 use Rattle.sets.specs.Sets.{inSet, emptyOf, withOf, isEmptyOf, firstOf, restOf, withinOf}
@@ -25,10 +25,6 @@ unfolding members
 members-first zero p m l h b = absurd (omega arith)
 members-first (suc n) p m l h b = go (last-or-below m n l) (λ k. members-first n p m k h b)
   where
-    and-true : (a : Bool) → (a && true) ≡ a
-    and-true true = refl
-    and-true false = refl
-
     go : (m ≡ n) ⊎ (m < n) → (m < n → members n p ≡ m ∷ members n (λ j. p j && not (eqb j m)))
         → members n p ++ pick (p n) (n ∷ []) [] ≡ m ∷ (members n (λ j. p j && not (eqb j m)) ++ pick (p n && not (eqb n m)) (n ∷ []) [])
     go (inl e) r =

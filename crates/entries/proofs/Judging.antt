@@ -1,7 +1,7 @@
 -- How entries are counted and judged, and what the judgment says in the protocol's terms.
 -- Assumes nothing.
 use mathlib.Core.Path.{_≡_, refl, sym, ap, _∙_}
-use mathlib.Core.Bool.{Bool, true, false, _&&_}
+use mathlib.Core.Bool.{Bool, true, _&&_}
 use mathlib.Core.List.{List}
 use Prim.Native.Nat.{ℕ, zero, suc, _+_, _/_, _≤_, _<_}
 use native.Mathlib.Omega.{arith}
@@ -10,11 +10,10 @@ use lib.ListN.{length, take}
 use borrow.Author.Tests.{ltb-true, leb-true, eq-eqb, ne-eqb}
 use Rattle.theory.specs.Sets.{one, all}
 use Rattle.theory.specs.Lists.{nth}
-use Rattle.theory.specs.Counting.{both, left, right, all-ext}
+use Rattle.theory.specs.Counting.{both, left, right, all-ext, and-false, one-le}
 use Rattle.sets.specs.Sets.{withinOf}
 use Rattle.table.specs.declared.SiteTable.{SiteTable}
 use Rattle.register.specs.declared.Command.{Command}
-use Rattle.protocol.specs.Recovery as recovery
 use Rattle.protocol.specs.Recovery.{entries}
 use Rattle.protocol.specs.StandingLaws.{entries-more}
 use Rattle.protocol.specs.Site.{entryInRange, nextInRange, noThird}
@@ -39,19 +38,15 @@ module _ (b : List ℕ) (j r : ℕ) where
   pub entries-end : (i k : ℕ) {n : ℕ} → i ≡ k → n ≡ entries j r (logTo b i) → n ≡ entries j r (logTo b k)
   entries-end i k q e = e ∙ ap (λ (x : ℕ). entries j r (logTo b x)) q
 
-  pub one-le : (i : ℕ) → oneOf b i j r ≤ 1
-  one-le i = go (eqb (entryOf b i .site) j && eqb (entryOf b i .round) r)
-    where
-      go : (t : Bool) → one t ≤ 1
-      go true = omega arith
-      go false = omega arith
+  pub one-of-le : (i : ℕ) → oneOf b i j r ≤ 1
+  one-of-le i = one-le (eqb (entryOf b i .site) j && eqb (entryOf b i .round) r)
 
   pub entries-le : (i : ℕ) → entries j r (logTo b i) ≤ i
   entries-le zero = omega (arith, entries-none)
   entries-le (suc i) =
       let q : suc i ≡ i + 1 = omega arith in
       let e = ap (λ (x : ℕ). entries j r (logTo b x)) q ∙ entries-next i in
-      omega (arith, entries-le i, one-le i)
+      omega (arith, entries-le i, one-of-le i)
 
   pub one-yes : (i : ℕ) {x y : ℕ} → x ≡ entryOf b i .round → y ≡ entryOf b i .site → x ≡ r → y ≡ j → 1 ≡ oneOf b i j r
   one-yes i ex ey hx hy =
@@ -62,11 +57,7 @@ module _ (b : List ℕ) (j r : ℕ) where
 
   pub one-no-round : (i : ℕ) {x : ℕ} → x ≡ entryOf b i .round → (x ≡ r → ⊥) → 0 ≡ oneOf b i j r
   one-no-round i ex n =
-      sym (ap (λ (t : Bool). one (eqb (entryOf b i .site) j && t)) (ne-eqb (entryOf b i .round) r (λ q. n (ex ∙ q))) ∙ go (eqb (entryOf b i .site) j))
-    where
-      go : (t : Bool) → one (t && false) ≡ 0
-      go true = refl
-      go false = refl
+      sym (ap (λ (t : Bool). one (eqb (entryOf b i .site) j && t)) (ne-eqb (entryOf b i .round) r (λ q. n (ex ∙ q))) ∙ ap one (and-false (eqb (entryOf b i .site) j)))
 
 -- ---- ranges
 

@@ -3,12 +3,12 @@
 use mathlib.Core.Path.{_≡_, refl, ap}
 use mathlib.Core.Bool.{Bool, true, false, _&&_}
 use mathlib.Core.List.{List, [], _∷_, _++_}
-use Prim.Native.Nat.{ℕ, zero, suc, _+_, _*_, _-_, _≤_}
+use Prim.Native.Nat.{ℕ, zero, suc, _+_, _*_, _≤_}
 use native.Mathlib.Omega.{arith}
 use lib.Dec.{leb, ltb}
 use borrow.Author.Tests.{ltb-true, leb-true}
 use Rattle.theory.specs.Sets.{pick}
-use Rattle.theory.specs.Counting.{left, right}
+use Rattle.theory.specs.Counting.{left, right, under-test}
 use Rattle.wire.specs.Wire.{readLe}
 use Rattle.wire.proofs.Agree.{Agree, agree-part}
 use Rattle.signed.specs.Signed.{signed32}
@@ -17,11 +17,6 @@ use Rattle.table.specs.Table.{maxSites}
 use Rattle.register.specs.Register.{bikes, bike}
 use Rattle.register.specs.Lent.{bikeSize, bikeIn, registerOf}
 use Rattle.layout.specs.Layout.{heardPlace, registerPlace, deliveriesPlace, inTable, rowAt, cell, slot, heardIn, deliveriesOf}
-
--- Where a test holds, what stands under it may be compared.
-under-test : (t : Bool) (p q : Bool) → (t ≡ true → p ≡ q) → (t && p) ≡ (t && q)
-under-test true p q h = h refl
-under-test false p q h = refl
 
 -- A place of a table of k rows.
 pub cell-inside : (k j r : ℕ) → inTable k j r ≡ true → (heardPlace ≤ cell j r) × (cell j r + 8 ≤ rowAt k)

@@ -1,16 +1,16 @@
 -- Laws of the decision of a round: it stays, it rests on exactly nChk valid sources, NC is free of conflicts,
 -- NC and C are disjoint and hold every command of the valid sets. Rests on StandingLaws and the quorum lemma.
-use mathlib.Core.Path.{_≡_, refl, sym, _∙_, ap, subst}
+use mathlib.Core.Path.{_≡_, refl, sym, _∙_, ap}
 use mathlib.Core.Bool.{Bool, true, false, _&&_, _||_, not}
-use mathlib.Core.List.{List, [], _∷_, _++_}
-use mathlib.Core.Logic.{_⊎_, inl, inr, ⊎-elim}
-use mathlib.Core.Option.{Option, none, some}
-use Prim.Native.Nat.{ℕ, zero, suc, _+_, _*_, _≤_, _<_}
+use mathlib.Core.List.{[], _∷_, _++_}
+use mathlib.Core.Logic.{⊎-elim}
+use mathlib.Core.Option.{some}
+use Prim.Native.Nat.{ℕ, _*_, _≤_, _<_}
 use native.Mathlib.Omega.{arith}
-use lib.Dec.{eqb, leb}
+use lib.Dec.{eqb}
 use borrow.Author.Tests.{eqb-true, leb-true}
-use Rattle.theory.specs.Sets.{Set, _∪_, _∖_, pick, one, all, any, count}
-use Rattle.theory.specs.Counting.{both, left, right, true-or, or-true, either, not-true, never, all-at, all-of, any-at, count-mono, count-some, count-sum}
+use Rattle.theory.specs.Sets.{Set, _∪_, pick, count}
+use Rattle.theory.specs.Counting.{left, right, true-or, either, never, any-at, count-mono, count-some, count-sum, apart-at, apart-of}
 use Rattle.protocol.specs.System.{System, free}
 use Rattle.protocol.specs.Recovery.{Log, Standing, absent, valid, excluded, isValid, ncOf, cOf, Tally, nobody, add, validCount, decideFrom, decide, ncSet, proposed, cSet}
 use Rattle.protocol.specs.StandingLaws.{same-some, none-some, Backed, decided-backed}
@@ -21,29 +21,13 @@ module _ (S : System) where
   -- Two members of a set that is free of conflicts do not conflict.
   pub free-pair : (x : Set) → free S x ≡ true → (a b : ℕ) → a < commands → b < commands → x a ≡ true → x b ≡ true
       → machine .conflict a b ≡ false
-  free-pair x h a b la lb ha hb =
-      let row = all-at commands (λ a. all commands (λ b. not (x a && (x b && machine .conflict a b)))) h a la in
-      let cell = all-at commands (λ b. not (x a && (x b && machine .conflict a b))) row b lb in
-      go (x a) (x b) (machine .conflict a b) ha hb cell
-    where
-      go : (p q c : Bool) → p ≡ true → q ≡ true → not (p && (q && c)) ≡ true → c ≡ false
-      go true true c hp hq h = not-true c h
-      go true false c hp hq h = absurd (never false hq refl)
-      go false q c hp hq h = absurd (never false hp refl)
+  free-pair x h = apart-at commands x x (machine .conflict) h
 
   -- And a set whose members do not conflict is free.
   pub free-of : (x : Set)
       → ((a b : ℕ) → a < commands → b < commands → x a ≡ true → x b ≡ true → machine .conflict a b ≡ false)
       → free S x ≡ true
-  free-of x h =
-      all-of commands (λ a. all commands (λ b. not (x a && (x b && machine .conflict a b))))
-      (λ a la. all-of commands (λ b. not (x a && (x b && machine .conflict a b)))
-      (λ b lb. go (x a) (x b) (machine .conflict a b) (h a b la lb)))
-    where
-      go : (p q c : Bool) → (p ≡ true → q ≡ true → c ≡ false) → not (p && (q && c)) ≡ true
-      go true true c i = ap not (i refl refl)
-      go true false c i = refl
-      go false q c i = refl
+  free-of x h = apart-of commands x x (machine .conflict) h
 
   -- What a log decides, every longer log decides the same.
   pub decide-from-grows : (r : ℕ) (t : Tally) (l more : Log) (d : Tally) → decideFrom S r t l ≡ some d → decideFrom S r t (l ++ more) ≡ some d

@@ -11,7 +11,7 @@ use lib.Dec.{leb}
 use lib.ListN.{length, getD}
 use borrow.Author.Tests.{le-leb, lt-leb, eq-eqb, ne-eqb}
 use Rattle.theory.specs.Sets.{pick, one, any}
-use Rattle.theory.specs.Counting.{lt-or-le, not-true, not-false, count-none, count-more, any-empty}
+use Rattle.theory.specs.Counting.{lt-or-le, not-true, not-false, count-none, count-more, any-empty, and-false, or-false}
 use Rattle.sets.specs.declared.Set.{Set}
 use Rattle.sets.specs.Sets.{capacity, inSet, setOf, emptyOf, unionOf, commonOf}
 use Rattle.sets.proofs.Laws.{word-lt, word-ext, in-empty, in-union, in-common, in-setOf, set-ext, union-fits, common-fits}
@@ -93,11 +93,7 @@ level-up j n b = go (lt-or-le n (suc j)) (lt-or-le n j) b
     go (inl h) (inr l) true =
         (λ i. lt-leb (suc j) n h i || (le-leb j n l i && true)) ∙ sym (le-leb (suc j) (n + 1) (omega arith))
     go (inl h) w false =
-        ap (λ (x : Bool). x || (leb j n && false)) (lt-leb (suc j) n h) ∙ none (leb j n) ∙ sym (lt-leb (suc j) (n + 0) (omega arith))
-      where
-        none : (x : Bool) → (x && false) ≡ false
-        none true = refl
-        none false = refl
+        ap (λ (x : Bool). x || (leb j n && false)) (lt-leb (suc j) n h) ∙ and-false (leb j n) ∙ sym (lt-leb (suc j) (n + 0) (omega arith))
 
 -- One level with an NC set more.
 level-more : (j : ℕ) (n : ℕ → ℕ) (nc : Set) → nc .bits < 2 ^ 64
@@ -177,12 +173,8 @@ module _ (b : List ℕ) (r : ℕ) (valid : Set) where
     unfolding levelsOf
     levels-passed e =
         same-levels (level 1) (level 2) (level 3) (level 4) (level 5) (level 6)
-        (set-of-ext (inAny b r valid k) (λ m. inAny b r valid k m || false) (λ m l. or-none (inAny b r valid k m)) ∙ proposed-next false e)
+        (set-of-ext (inAny b r valid k) (λ m. inAny b r valid k m || false) (λ m l. sym (or-false (inAny b r valid k m))) ∙ proposed-next false e)
       where
-        or-none : (x : Bool) → x ≡ (x || false)
-        or-none true = refl
-        or-none false = refl
-
         level : (j : ℕ) → atLeast b r valid k j ≡ atLeast b r valid (k + 1) j
         level j =
             set-of-ext (λ m. leb j (ncCount b r valid k m)) (λ m. leb j (ncCount b r valid k m + 0))

@@ -10,8 +10,7 @@ use native.Mathlib.Omega.{arith}
 use lib.Dec.{leb}
 use lib.ListN.{length, getD}
 use borrow.Author.Tests.{lt-leb}
-use Rattle.theory.specs.Sets.{one, count}
-use Rattle.theory.specs.Counting.{lt-or-le, any-of-none}
+use Rattle.theory.specs.Counting.{lt-or-le, any-of-none, count-of-none}
 use Rattle.sets.specs.Sets.{capacity, inSet, setOf}
 use Rattle.sets.proofs.Laws.{in-above, in-setOf, in-setOf-above}
 use Rattle.protocol.specs.System.{System}
@@ -28,11 +27,6 @@ members-of p h = λ i m. point m (lt-or-le m capacity) i
     point : (m : ℕ) → (m < capacity) ⊎ (capacity ≤ m) → inSet (setOf capacity p) m ≡ p m
     point m (inl l) = in-setOf capacity p m l
     point m (inr l) = in-setOf-above capacity p m l ∙ sym (h m l)
-
-none-counted : (n : ℕ) (p : ℕ → Bool) → ((j : ℕ) → p j ≡ false) → count n p ≡ 0
-unfolding count
-none-counted zero p h = refl
-none-counted (suc n) p h = omega (arith, none-counted n p h, ap one (h n))
 
 module _ (b : List ℕ) (small : (i : ℕ) → getD b i 0 < 256) where
   logged-bounded : (k : ℕ) → k * entrySize ≤ length b → (e : Entry) → Logged e (logTo b k) → (m : ℕ) → capacity ≤ m
@@ -64,7 +58,7 @@ module _ (b : List ℕ) (small : (i : ℕ) → getD b i 0 < 256) where
     pub members-nc : 1 ≤ S .majority → inSet (setsOf S d .nc) ≡ ncSet S d
     members-nc g =
         members-of (ncSet S d)
-        (λ m l. ap (leb (S .majority)) (none-counted (S .sites) (λ j. ncOf (d j) m) (λ j. valid-bounded j m l .0)) ∙ lt-leb (S .majority) 0 g)
+        (λ m l. ap (leb (S .majority)) (count-of-none (S .sites) (λ j. ncOf (d j) m) (λ j _. valid-bounded j m l .0)) ∙ lt-leb (S .majority) 0 g)
 
     -- and C its CSet.
     pub members-c : inSet (setsOf S d .c) ≡ cSet S d

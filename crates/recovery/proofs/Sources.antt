@@ -9,7 +9,7 @@ use native.Mathlib.Omega.{arith}
 use lib.Dec.{eqb}
 use borrow.Author.Tests.{eq-eqb, ne-eqb, eqb-true}
 use Rattle.theory.specs.Sets.{pick, one, any, count}
-use Rattle.theory.specs.Counting.{both, left, right, never, lt-or-le, count-ext, any-ext}
+use Rattle.theory.specs.Counting.{both, left, right, never, lt-or-le, count-ext, any-ext, and-false, or-false, count-of-none, any-of-none}
 use Rattle.sets.specs.declared.Set.{Set}
 use Rattle.sets.specs.Sets.{inSet}
 use Rattle.table.specs.declared.SiteTable.{SiteTable}
@@ -62,17 +62,12 @@ module _ (t : SiteTable) (rows : List ℕ) (r : ℕ) (b : List ℕ) (n : ℕ) (s
     sourced-same : (p j : ℕ) → countsIn r sources (entryOf b p) ≡ false → sourced p j ≡ sourced (suc p) j
     sourced-same p j h = go (eqb (entryOf b p .site) j && eqb (entryOf b p .round) r) refl
       where
-        last : (x y : Bool) → x ≡ true → (x && y) ≡ false → y ≡ false
-        last true y a c = c
-        last false true a c = sym a
-        last false false a c = refl
-
         go : (x : Bool) → (eqb (entryOf b p .site) j && eqb (entryOf b p .round) r) ≡ x → sourced p j ≡ sourced (suc p) j
         go false q = ap (λ (x : recovery.Standing). inSet sources j && g x) (sym (tally-other (rowsSystem t rows) r b p j q))
         go true q =
             let z : inSet sources j ≡ false =
             ap (inSet sources) (sym (eqb-true (entryOf b p .site) j (left (eqb (entryOf b p .site) j) (eqb (entryOf b p .round) r) q)))
-            ∙ last (eqb (entryOf b p .round) r) (inSet sources (entryOf b p .site)) (right (eqb (entryOf b p .site) j) (eqb (entryOf b p .round) r) q) h in
+            ∙ sym (ap (λ (x : Bool). x && inSet sources (entryOf b p .site)) (right (eqb (entryOf b p .site) j) (eqb (entryOf b p .round) r) q)) ∙ h in
             ap (λ (x : Bool). x && g (tallyTo (rowsSystem t rows) r b p j)) z
             ∙ ap (λ (x : Bool). x && g (tallyTo (rowsSystem t rows) r b (suc p) j)) (sym z)
 
@@ -105,25 +100,11 @@ module _ (t : SiteTable) (rows : List ℕ) (r : ℕ) (b : List ℕ) (n : ℕ) (s
 
     nothing : (j : ℕ) → sourced 0 j ≡ false
     unfolding tallyTo
-    nothing j = ap (λ (x : Bool). inSet sources j && x) none-absent ∙ none (inSet sources j)
-      where
-        none : (x : Bool) → (x && false) ≡ false
-        none true = refl
-        none false = refl
-
-    none-counted : (m : ℕ) (f : ℕ → Bool) → ((j : ℕ) → f j ≡ false) → 0 ≡ count m f
-    unfolding count
-    none-counted zero f h = refl
-    none-counted (suc m) f h = omega (arith, none-counted m f h, ap one (h m))
-
-    none-any : (m : ℕ) (f : ℕ → Bool) → ((j : ℕ) → f j ≡ false) → false ≡ any m f
-    unfolding any
-    none-any zero f h = refl
-    none-any (suc m) f h = λ i. none-any m f h i || sym (h m) i
+    nothing j = ap (λ (x : Bool). inSet sources j && x) none-absent ∙ and-false (inSet sources j)
 
     pub count-sources : (p : ℕ) → p ≤ n → count p here ≡ count (t .sites) (sourced p)
     unfolding count
-    count-sources zero l = none-counted (t .sites) (sourced 0) nothing
+    count-sources zero l = sym (count-of-none (t .sites) (sourced 0) (λ j k. nothing j))
     count-sources (suc p) l = go (countsIn r sources (entryOf b p)) refl (count-sources p (omega arith))
       where
         go : (x : Bool) → countsIn r sources (entryOf b p) ≡ x → count p here ≡ count (t .sites) (sourced p)
@@ -139,13 +120,9 @@ module _ (t : SiteTable) (rows : List ℕ) (r : ℕ) (b : List ℕ) (n : ℕ) (s
 
     pub any-sources : (p : ℕ) → p ≤ n → any p here ≡ any (t .sites) (sourced p)
     unfolding any
-    any-sources zero l = none-any (t .sites) (sourced 0) nothing
+    any-sources zero l = sym (any-of-none (t .sites) (sourced 0) (λ j k. nothing j))
     any-sources (suc p) l = go (countsIn r sources (entryOf b p)) refl (any-sources p (omega arith))
       where
-        or-none : (x : Bool) → (x || false) ≡ x
-        or-none true = refl
-        or-none false = refl
-
         go : (x : Bool) → countsIn r sources (entryOf b p) ≡ x → any p here ≡ any (t .sites) (sourced p)
             → (any p here || here p) ≡ any (t .sites) (sourced (suc p))
         go true e ih =
@@ -154,7 +131,7 @@ module _ (t : SiteTable) (rows : List ℕ) (r : ℕ) (b : List ℕ) (n : ℕ) (s
             ∙ sym (any-change (t .sites) (sourced p) (sourced (suc p)) (entryOf b p .site) (w .site) (w .others) (w .before))
         go false e ih =
             ap (λ (x : Bool). any p here || (x && g (valid (inSet (entryOf b p .nc)) (inSet (entryOf b p .c))))) e
-            ∙ or-none (any p here) ∙ ih
+            ∙ or-false (any p here) ∙ ih
             ∙ any-ext (t .sites) (sourced p) (sourced (suc p)) (λ j k. sourced-same p j e)
 
     -- After n entries every source that has something is a valid one.

@@ -1,18 +1,18 @@
 -- A decision by a log whose entries are in range: its sets are within the book, and its round is one that the log takes.
 -- Assumes nothing.
 use mathlib.Core.Path.{_≡_, refl, sym, ap, subst, _∙_}
-use mathlib.Core.Bool.{Bool, true, false, _&&_, _||_, not}
+use mathlib.Core.Bool.{Bool, true, false, _||_, not}
 use mathlib.Core.List.{List}
-use mathlib.Core.Logic.{_⊎_, inl, inr, ⊎-elim}
+use mathlib.Core.Logic.{⊎-elim}
 use mathlib.Core.Option.{Option, none, some}
 use Prim.Native.Nat.{ℕ, zero, suc, _*_, _≤_, _<_}
 use native.Mathlib.Omega.{arith}
-use lib.Dec.{leb, ltb}
 use lib.ListN.{length, getD}
-use borrow.Author.Tests.{leb-true, lt-ltb, ltb-true}
+use borrow.Author.Tests.{leb-true}
 use Rattle.theory.specs.Sets.{any, count}
-use Rattle.theory.specs.Counting.{left, right, either, known, never, all-at, all-of, any-some, count-some}
-use Rattle.sets.specs.Sets.{capacity, inSet, withinOf}
+use Rattle.theory.specs.Counting.{left, either, never, any-some, count-some}
+use Rattle.sets.specs.Sets.{capacity, withinOf}
+use Rattle.sets.proofs.Laws.{within-at, within-of}
 use Rattle.table.specs.declared.SiteTable.{SiteTable}
 use Rattle.table.specs.Table.{isGood, majorityOf}
 use Rattle.table.proofs.Laws.{good-limits}
@@ -37,33 +37,12 @@ record InRange (commands : ℕ) (e : Entry) : Type 0 where
   pub nc : (m : ℕ) → m < capacity → e .nc m ≡ true → m < commands
   pub c : (m : ℕ) → m < capacity → e .c m ≡ true → m < commands
 
--- A command of a set within the book is in the book.
-member-within : (x : ℕ → Bool) (commands m : ℕ) → (not (x m) || ltb m commands) ≡ true → x m ≡ true → ltb m commands ≡ true
-member-within x commands m h k = go (x m) (ltb m commands) h k
-  where
-    go : (y z : Bool) → (not y || z) ≡ true → y ≡ true → z ≡ true
-    go true z h k = h
-    go false z h k = absurd (never false k refl)
-
 module _ (t : SiteTable) (commands : ℕ) (b : List ℕ) where
   in-range : (p : ℕ) → inRangeOf (t .sites) commands (entryOf b p) ≡ true → InRange commands (viewEntry (entryOf b p))
   in-range p h =
       let e = entryOf b p in
       let r = in-range-told (t .sites) commands e h in
-      let head = ltb (e .site) (t .sites) && leb 1 (e .round) && leb (e .round) lastRound in
-      let one = left (head && withinOf (e .nc) commands) (withinOf (e .c) commands) h in
-      record {
-        round = r .round;
-        nc =
-            λ m l k.
-            ltb-true m commands
-            (member-within (inSet (e .nc)) commands m (all-at capacity (λ n. not (inSet (e .nc) n) || ltb n commands) (right head (withinOf (e .nc) commands) one) m l) k);
-        c =
-            λ m l k.
-            ltb-true m commands
-            (member-within (inSet (e .c)) commands m
-            (all-at capacity (λ n. not (inSet (e .c) n) || ltb n commands) (right (head && withinOf (e .nc) commands) (withinOf (e .c) commands) h) m l) k);
-      }
+      record { round = r .round; nc = within-at (e .nc) commands (r .nc); c = within-at (e .c) commands (r .c) }
 
   -- An entry that is logged is in range, where all entries are.
   logged-range : (k : ℕ) → ((p : ℕ) → p < k → inRangeOf (t .sites) commands (entryOf b p) ≡ true) → (e : Entry) → Logged e (logTo b k) → InRange commands e
@@ -114,31 +93,20 @@ module _ (t : SiteTable) (table : isGood t ≡ true) (bytes rows : List ℕ) (b 
 
     nc-within : withinOf (setsOf (dash t book) d .nc) (length book) ≡ true
     nc-within =
-        all-of capacity (λ m. not (inSet (setsOf (dash t book) d .nc) m) || ltb m (length book))
-        (λ m l. go m l (known (inSet (setsOf (dash t book) d .nc) m)))
-      where
-        go : (m : ℕ) → m < capacity → (inSet (setsOf (dash t book) d .nc) m ≡ true) ⊎ (inSet (setsOf (dash t book) d .nc) m ≡ false)
-            → (not (inSet (setsOf (dash t book) d .nc) m) || ltb m (length book)) ≡ true
-        go m l (inr h) = ap (λ (x : Bool). not x || ltb m (length book)) h
-        go m l (inl h) =
-            let q = leb-true (majorityOf t) (count (t .sites) (λ j. ncOf (d j) m)) (sym (λ i. members-nc b small (dash t book) r k room d e majority i m) ∙ h) in
-            let one = majority in
-            let w = count-some (t .sites) (λ j. ncOf (d j) m) (omega arith) in
-            ap (λ (x : Bool). not x || ltb m (length book)) h
-            ∙ lt-ltb m (length book) (said (w .0) m l (ap (λ (x : Bool). x || cOf (d (w .0)) m) (w .2)))
+        within-of (setsOf (dash t book) d .nc) (length book)
+        (λ m l h.
+        let q = leb-true (majorityOf t) (count (t .sites) (λ j. ncOf (d j) m)) (sym (λ i. members-nc b small (dash t book) r k room d e majority i m) ∙ h) in
+        let one = majority in
+        let w = count-some (t .sites) (λ j. ncOf (d j) m) (omega arith) in
+        said (w .0) m l (ap (λ (x : Bool). x || cOf (d (w .0)) m) (w .2)))
 
     c-within : withinOf (setsOf (dash t book) d .c) (length book) ≡ true
     c-within =
-        all-of capacity (λ m. not (inSet (setsOf (dash t book) d .c) m) || ltb m (length book))
-        (λ m l. go m l (known (inSet (setsOf (dash t book) d .c) m)))
-      where
-        go : (m : ℕ) → m < capacity → (inSet (setsOf (dash t book) d .c) m ≡ true) ⊎ (inSet (setsOf (dash t book) d .c) m ≡ false)
-            → (not (inSet (setsOf (dash t book) d .c) m) || ltb m (length book)) ≡ true
-        go m l (inr h) = ap (λ (x : Bool). not x || ltb m (length book)) h
-        go m l (inl h) =
-            let q = left (any (t .sites) (λ j. ncOf (d j) m || cOf (d j) m)) (not (ncSet (dash t book) d m)) (sym (λ i. members-c b small (dash t book) r k room d e i m) ∙ h) in
-            let w = any-some (t .sites) (λ j. ncOf (d j) m || cOf (d j) m) q in
-            ap (λ (x : Bool). not x || ltb m (length book)) h ∙ lt-ltb m (length book) (said (w .0) m l (w .2))
+        within-of (setsOf (dash t book) d .c) (length book)
+        (λ m l h.
+        let q = left (any (t .sites) (λ j. ncOf (d j) m || cOf (d j) m)) (not (ncSet (dash t book) d m)) (sym (λ i. members-c b small (dash t book) r k room d e i m) ∙ h) in
+        let w = any-some (t .sites) (λ j. ncOf (d j) m || cOf (d j) m) q in
+        said (w .0) m l (w .2))
 
   -- ---- what the answer tells
 

@@ -48,14 +48,15 @@ cell-same j r i s h l e =
     let v = table-told i s l in
     (omega arith, omega arith)
 
+-- Where a test holds, what it picks may be compared.
+pick-under : {A : Type 0} (t : Bool) (a b d : A) → (t ≡ true → a ≡ b) → pick t a d ≡ pick t b d
+pick-under true a b d h = h refl
+pick-under false a b d h = refl
+
 -- Two views by cells that are the same in every cell.
 pub same-view : {A : Type 0} (f g : ℕ → A) (d : A) → ((k : ℕ) → k < cells → f k ≡ g k)
     → (j r : ℕ) → pick (inTable j r) (f (cellOf j r)) d ≡ pick (inTable j r) (g (cellOf j r)) d
-same-view {A} f g d h j r = go (inTable j r) (λ e. h (cellOf j r) (cell-inside j r e))
-  where
-    go : (t : Bool) → (t ≡ true → f (cellOf j r) ≡ g (cellOf j r)) → pick t (f (cellOf j r)) d ≡ pick t (g (cellOf j r)) d
-    go true l = l refl
-    go false l = refl
+same-view f g d h j r = pick-under (inTable j r) (f (cellOf j r)) (g (cellOf j r)) d (λ e. h (cellOf j r) (cell-inside j r e))
 
 -- Two views by cells that differ in the cell of i and s only.
 pub other-view : {A : Type 0} (f g : ℕ → A) (d : A) (new : A → A) (i s : ℕ) → inTable i s ≡ true
@@ -74,13 +75,9 @@ other-view {A} f g d new i s t here there j r = ⊎-elim same other (known (eqb 
         (λ k. pick (u k) (f (cellOf j r)) d) ∙ ap f c ∙ here ∙ ap (λ (x : ℕ). new (g x)) (sym c)
         ∙ sym (λ k. pick (e k) (new (pick (u k) (g (cellOf j r)) d)) (pick (u k) (g (cellOf j r)) d))
 
-    go : (u : Bool) → (u ≡ true → f (cellOf j r) ≡ g (cellOf j r)) → pick u (f (cellOf j r)) d ≡ pick u (g (cellOf j r)) d
-    go true l = l refl
-    go false l = refl
-
     other : (eqb j i && eqb r s) ≡ false → pick (inTable j r) (f (cellOf j r)) d ≡ pick (eqb j i && eqb r s) (new (pick (inTable j r) (g (cellOf j r)) d)) (pick (inTable j r) (g (cellOf j r)) d)
     other e =
-        go (inTable j r)
+        pick-under (inTable j r) (f (cellOf j r)) (g (cellOf j r)) d
         (λ u.
         there (cellOf j r) (cell-inside j r u)
         (λ c.

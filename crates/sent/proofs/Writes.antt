@@ -1,7 +1,7 @@
 -- What was sent after each write: the bytes are good, and the views differ in one cell, or say that nothing was sent.
 -- Assumes nothing.
 use mathlib.Core.Path.{_≡_, refl, sym, ap, subst, _∙_}
-use mathlib.Core.Bool.{Bool, true, false}
+use mathlib.Core.Bool.{true}
 use mathlib.Core.Logic.{_⊎_, inl, inr, ⊎-elim}
 use mathlib.Core.List.{List, [], _∷_, _++_}
 use mathlib.Core.Option.{none, some}
@@ -11,7 +11,7 @@ use native.Mathlib.Decide.{ℕ-discrete}
 use lib.Dec.{eqb}
 use lib.ListN.{length, replicate, length-replicate}
 use Rattle.theory.specs.Sets.{pick}
-use Rattle.theory.specs.Counting.{lt-or-le}
+use Rattle.theory.specs.Counting.{lt-or-le, pick-same}
 use Rattle.wire.specs.Wire.{readLe, bytes, splice}
 use Rattle.wire.proofs.Laws.{length-splice}
 use Rattle.wire.proofs.Agree.{Agree}
@@ -163,10 +163,6 @@ cleared-at : (b : List ℕ) → length b ≡ sentSize → (at : ℕ) → countsO
 unfolding cleared
 cleared-at b size at h l = read-zeros 1 b countsOffset (2 * cells) at (omega arith) h (omega arith)
 
-both-same : {A : Type 0} (t : Bool) (d : A) → pick t d d ≡ d
-both-same true d = refl
-both-same false d = refl
-
 -- Nothing is sent once all counts and flags are cleared.
 pub cleared-holds : (b : List ℕ) {b′ : List ℕ} → length b ≡ sentSize → b′ ≡ splice b countsOffset (replicate (2 * cells) 0) → Holds b′ (cleared b) (λ j r. []) (λ j r. none)
 unfolding cleared acksOf checksOf acksIn checkIn setsFrom
@@ -178,12 +174,12 @@ cleared-holds b h e =
       bytes = refl;
       acks =
           λ i j r.
-          (same-view (acksIn new) (λ m. []) [] (λ m l. ap (λ (n : ℕ). setsFrom n (setPlace m 0) new) (at (countPlace m) (omega arith) (omega arith))) j r ∙ both-same (inTable j r) []) i;
+          (same-view (acksIn new) (λ m. []) [] (λ m l. ap (λ (n : ℕ). setsFrom n (setPlace m 0) new) (at (countPlace m) (omega arith) (omega arith))) j r ∙ pick-same (inTable j r) []) i;
       checks =
           λ i j r.
           (same-view (checkIn new) (λ m. none) none
           (λ m l. ap (λ (n : ℕ). pick (eqb n 1) (some (inSet (readSet new (checkPlace m)))) none) (at (flagPlace m) (omega arith) (omega arith))) j r
-          ∙ both-same (inTable j r) none) i;
+          ∙ pick-same (inTable j r) none) i;
       good =
           record {
             size = length-splice b countsOffset (replicate (2 * cells) 0) (omega (arith, length-replicate {A = ℕ} (2 * cells) 0)) ∙ h;

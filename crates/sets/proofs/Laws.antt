@@ -18,7 +18,7 @@ use lib.Bits.{or-lt, and-lt, xor-lt}
 use lib.Count.{ones, ones-step, trailingZeros, under}
 use borrow.Author.Tests.{lt-ltb, ltb-true, eq-eqb, ne-eqb}
 use Rattle.theory.specs.Sets.{pick, one, any, count}
-use Rattle.theory.specs.Counting.{either, not-true, not-false, never, lt-or-le}
+use Rattle.theory.specs.Counting.{either, not-true, not-false, never, lt-or-le, one-le}
 use Rattle.theory.specs.Counting.{all-at, all-of, any-some, any-none, count-none, count-first, count-ext}
 use Rattle.sets.specs.Sets.{has, word, least, inSet, setOf, emptyOf, withOf, unionOf, withoutOf, commonOf}
 use Rattle.sets.specs.Sets.{isEmptyOf, withinOf, sizeOf, firstOf}
@@ -248,10 +248,6 @@ word-first (suc k) p = go (p (suc k)) (word-first k p)
     go true h = omega (arith, pow-suc 2 k)
     go false h = omega arith
 
-one-lt : (b : Bool) → one b < 2
-one-lt true = lit< tt
-one-lt false = lit< tt
-
 one-back : (b : Bool) → eqb (one b) 1 ≡ b
 one-back true = refl
 one-back false = refl
@@ -260,10 +256,10 @@ one-back false = refl
 pub has-word : (k : ℕ) (p : ℕ → Bool) (m : ℕ) → m < k → has (word k p) m ≡ p m
 has-word zero p m h = absurd (omega arith)
 has-word (suc k) p zero h =
-    let e : word (suc k) p % 2 ≡ one (p 0) = omega (arith, word-first k p, one-lt (p 0)) in
+    let e : word (suc k) p % 2 ≡ one (p 0) = omega (arith, word-first k p, one-le (p 0)) in
     has-zero (word (suc k) p) ∙ ap (λ (x : ℕ). eqb x 1) e ∙ one-back (p 0)
 has-word (suc k) p (suc m) h =
-    let e : word (suc k) p / 2 ≡ word k (λ j. p (suc j)) = omega (arith, word-first k p, one-lt (p 0)) in
+    let e : word (suc k) p / 2 ≡ word k (λ j. p (suc j)) = omega (arith, word-first k p, one-le (p 0)) in
     has-suc (word (suc k) p) m ∙ ap (λ (x : ℕ). has x m) e ∙ has-word k (λ j. p (suc j)) m (omega arith)
 
 pub has-word-above : (k : ℕ) (p : ℕ → Bool) (m : ℕ) → k ≤ m → has (word k p) m ≡ false

@@ -10,7 +10,7 @@ use lib.Bits.{bitAnd, and-lt}
 use lib.Pow.{pow-pos}
 use borrow.Author.Tests.{eqb-false}
 use Rattle.theory.specs.Sets.{pick}
-use Rattle.theory.specs.Counting.{never}
+use Rattle.theory.specs.Counting.{never, under-test}
 use Rattle.sets.specs.declared.Set.{Set}
 use Rattle.sets.specs.Sets.{has, least, inSet, emptyOf, withOf, isEmptyOf, firstOf, restOf}
 use Rattle.sets.proofs.Laws.{has-zero, has-suc, has-and, half-lt, least-ext, in-empty, in-with, in-without}
@@ -53,8 +53,4 @@ pub rest-word : (s : Set) → s .bits < 2 ^ 64 → isEmptyOf s ≡ false → rec
 rest-word s b h =
     set-ext _ (restOf s) (and-lt 64 (s .bits) (s .bits - 1) b (omega arith))
     (without-fits s (withOf emptyOf (firstOf s)) b (with-fits emptyOf (firstOf s) (pow-pos 64) (first-in s h .0)))
-    (λ j l. has-and (s .bits) (s .bits - 1) j ∙ same (inSet s j) (before 64 (s .bits) j (some-word s b h) b) ∙ sym (in-rest s j))
-  where
-    same : {x y : Bool} (a : Bool) → (a ≡ true → x ≡ y) → (a && x) ≡ (a && y)
-    same true f = f refl
-    same false f = refl
+    (λ j l. has-and (s .bits) (s .bits - 1) j ∙ under-test (inSet s j) (has (s .bits - 1) j) (not (eqb j (firstOf s))) (before 64 (s .bits) j (some-word s b h) b) ∙ sym (in-rest s j))

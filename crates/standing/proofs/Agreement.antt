@@ -10,7 +10,7 @@ use native.Mathlib.Omega.{arith}
 use lib.Dec.{eqb, ltb}
 use borrow.Author.Tests.{lt-ltb, ltb-true, eq-eqb, ne-eqb, eqb-true}
 use Rattle.theory.specs.Sets.{pick, count}
-use Rattle.theory.specs.Counting.{both, left, right, or-true, never, count-ext, count-no}
+use Rattle.theory.specs.Counting.{both, left, right, or-true, never, count-ext, count-no, and-true, or-false, pick-same, count-of-none}
 use Rattle.sets.specs.declared.Set.{Set}
 use Rattle.sets.specs.Sets.{capacity, inSet, emptyOf, withOf, withoutOf, sizeOf}
 use Rattle.sets.proofs.Laws.{in-empty, in-with}
@@ -40,24 +40,11 @@ count-beyond n (suc d) p h =
     let q : n + suc d ≡ n + d + 1 = omega arith in
     ap (λ (k : ℕ). count k p) q ∙ count-no (n + d) p (h (n + d) (omega arith)) ∙ count-beyond n d p h
 
-count-nobody : (n : ℕ) → count n (λ j. false) ≡ 0
-unfolding count
-count-nobody zero = refl
-count-nobody (suc n) = omega (arith, count-nobody n)
-
 pub with-same : (s : Set) (m : ℕ) → inSet (withOf s m) m ≡ true
 with-same s m = in-with s m m ∙ or-true (inSet s m) (eqb m m) (eq-eqb m m refl)
 
 pub with-other : (s : Set) (m j : ℕ) → (j ≡ m → ⊥) → inSet (withOf s m) j ≡ inSet s j
-with-other s m j n = in-with s m j ∙ ap (λ (b : Bool). inSet s j || b) (ne-eqb j m n) ∙ or-none (inSet s j)
-  where
-    or-none : (b : Bool) → (b || false) ≡ b
-    or-none true = refl
-    or-none false = refl
-
-pick-same : {A : Type 0} (b : Bool) (x : A) → x ≡ pick b x x
-pick-same true x = refl
-pick-same false x = refl
+with-other s m j n = in-with s m j ∙ ap (λ (b : Bool). inSet s j || b) (ne-eqb j m n) ∙ or-false (inSet s j)
 
 -- One entry more changes only its own source.
 valid-other : (rows : List ℕ) (site : ℕ) (nc : Set) (s : Standing) (j : ℕ) → (j ≡ site → ⊥) → inSet (validAfter rows site nc s) j ≡ inSet (s .valid) j
@@ -144,15 +131,11 @@ module _ (t : SiteTable) (rows : List ℕ) where
     uncounted k j l h =
         tally-other (rowsSystem t rows) r b k j (go (eqb (entryOf b k .site) j) refl)
       where
-        alone : (x y : Bool) → y ≡ true → (x && y) ≡ false → x ≡ false
-        alone true true a c = c
-        alone true false a c = sym a ∙ refl
-        alone false y a c = refl
-
         go : (x : Bool) → eqb (entryOf b k .site) j ≡ x → (x && eqb (entryOf b k .round) r) ≡ false
         go true q =
             let z = eqb-true (entryOf b k .site) j q in
-            alone (eqb (entryOf b k .round) r) (ltb (entryOf b k .site) (t .sites)) (lt-ltb (entryOf b k .site) (t .sites) (omega arith)) h
+            sym (and-true (eqb (entryOf b k .round) r))
+            ∙ sym (ap (λ (y : Bool). eqb (entryOf b k .round) r && y) (lt-ltb (entryOf b k .site) (t .sites) (omega arith))) ∙ h
         go false q = refl
 
     agrees-uncounted : (k : ℕ) (s : Standing) → s .decided ≡ false → (eqb (entryOf b k .round) r && ltb (entryOf b k .site) (t .sites)) ≡ false
@@ -220,7 +203,7 @@ module _ (t : SiteTable) (rows : List ℕ) where
           decides = decide-more (rowsSystem t rows) r b k (undecided k s e h)
               ∙ ap (λ (n : ℕ). pick (eqb n (nChkOf t)) (some (tallyTo (rowsSystem t rows) r b (suc k))) none) (sym same);
           place = λ q. omega arith;
-          marks = subst (λ (n : ℕ). Marks s′ (tallyTo (rowsSystem t rows) r b n)) (pick-same (s′ .decided) (suc k)) m;
+          marks = subst (λ (n : ℕ). Marks s′ (tallyTo (rowsSystem t rows) r b n)) (sym (pick-same (s′ .decided) (suc k))) m;
           waits = λ q. ap (λ (n : ℕ). eqb n (nChkOf t)) (sym same) ∙ q;
         }
 
@@ -232,7 +215,7 @@ module _ (t : SiteTable) (rows : List ℕ) where
           decides = decide-none (rowsSystem t rows) r b;
           place = λ q. omega arith;
           marks = record { seen = λ j l. in-empty j; valid = λ j l. in-empty j; beyond = λ j l. in-empty j };
-          waits = λ q. ap (λ (n : ℕ). eqb n (nChkOf t)) (count-nobody (t .sites)) ∙ ne-eqb 0 (nChkOf t) (λ z. omega arith);
+          waits = λ q. ap (λ (n : ℕ). eqb n (nChkOf t)) (count-of-none (t .sites) (λ j. false) (λ m l. refl)) ∙ ne-eqb 0 (nChkOf t) (λ z. omega arith);
         }
 
     -- After any number of entries.

@@ -8,7 +8,7 @@ use native.Mathlib.Nat.{eq-or-lt-of-le}
 use native.Mathlib.Numerals.{add-one}
 use native.Mathlib.Omega.{arith}
 use native.Mathlib.Decide.{decLt}
-use Rattle.theory.specs.Sets.{one, all, any, count}
+use Rattle.theory.specs.Sets.{Set, pick, one, all, any, count}
 
 -- ---- tests
 
@@ -69,6 +69,10 @@ pub and-false : (a : Bool) → (a && false) ≡ false
 and-false true = refl
 and-false false = refl
 
+pub and-true : (a : Bool) → (a && true) ≡ a
+and-true true = refl
+and-true false = refl
+
 pub or-false : (a : Bool) → (a || false) ≡ a
 or-false true = refl
 or-false false = refl
@@ -77,6 +81,20 @@ or-false false = refl
 pub known : (a : Bool) → (a ≡ true) ⊎ (a ≡ false)
 known true = inl refl
 known false = inr refl
+
+-- A test that cannot hold is false.
+pub refuted : (a : Bool) → (a ≡ true → ⊥) → a ≡ false
+refuted true h = absurd (h refl)
+refuted false h = refl
+
+-- Where a test holds, what stands under it may be compared.
+pub under-test : (t a b : Bool) → (t ≡ true → a ≡ b) → (t && a) ≡ (t && b)
+under-test true a b h = h refl
+under-test false a b h = refl
+
+pub pick-same : {A : Type 0} (t : Bool) (a : A) → pick t a a ≡ a
+pick-same true a = refl
+pick-same false a = refl
 
 -- Two tests that imply each other are equal.
 pub same-test : (a b : Bool) → (a ≡ true → b ≡ true) → (b ≡ true → a ≡ true) → a ≡ b
@@ -111,11 +129,7 @@ all-of (suc n) p h = both (all n p) (p n) (all-of n p (λ m l. h m (omega arith)
 
 -- One number that fails is enough.
 pub all-not : (n : ℕ) (p : ℕ → Bool) (m : ℕ) → m < n → p m ≡ false → all n p ≡ false
-all-not n p m l h = go (all n p) (λ e. all-at n p e m l)
-  where
-    go : (b : Bool) → (b ≡ true → p m ≡ true) → b ≡ false
-    go true r = absurd (never (p m) (r refl) h)
-    go false r = refl
+all-not n p m l h = refuted (all n p) (λ e. never (p m) (all-at n p e m l) h)
 
 pub all-none : (p : ℕ → Bool) → all 0 p ≡ true
 unfolding all
@@ -130,6 +144,26 @@ pub all-ext : (n : ℕ) (p q : ℕ → Bool) → ((m : ℕ) → m < n → p m �
 unfolding all
 all-ext zero p q h = refl
 all-ext (suc n) p q h = rw (all-ext n p q (λ m l. h m (omega arith)), h n (omega arith))
+
+-- No two numbers of two sets are related.
+module _ (n : ℕ) (x y : Set) (related : ℕ → ℕ → Bool) where
+  pub apart-at : all n (λ a. all n (λ b. not (x a && (y b && related a b)))) ≡ true
+      → (a b : ℕ) → a < n → b < n → x a ≡ true → y b ≡ true → related a b ≡ false
+  apart-at h a b la lb ha hb =
+      let row = all-at n (λ a. all n (λ b. not (x a && (y b && related a b)))) h a la in
+      let cell = all-at n (λ b. not (x a && (y b && related a b))) row b lb in
+      (λ i. sym ha i && (sym hb i && related a b)) ∙ not-true (x a && (y b && related a b)) cell
+
+  pub apart-of : ((a b : ℕ) → a < n → b < n → x a ≡ true → y b ≡ true → related a b ≡ false)
+      → all n (λ a. all n (λ b. not (x a && (y b && related a b)))) ≡ true
+  apart-of h =
+      all-of n (λ a. all n (λ b. not (x a && (y b && related a b))))
+      (λ a la. all-of n (λ b. not (x a && (y b && related a b))) (λ b lb. go (x a) (y b) (related a b) (h a b la lb)))
+    where
+      go : (p q c : Bool) → (p ≡ true → q ≡ true → c ≡ false) → not (p && (q && c)) ≡ true
+      go true true c i = ap not (i refl refl)
+      go true false c i = refl
+      go false q c i = refl
 
 -- ---- any
 
@@ -153,11 +187,7 @@ any-some (suc n) p h = go (any-some n p) (either (any n p) (p n) h)
     go r (inr e) = (n, omega arith, e)
 
 pub any-none : (n : ℕ) (p : ℕ → Bool) → any n p ≡ false → (m : ℕ) → m < n → p m ≡ false
-any-none n p h m l = go (p m) (any-at n p m l)
-  where
-    go : (b : Bool) → (b ≡ true → any n p ≡ true) → b ≡ false
-    go true r = absurd (never (any n p) (r refl) h)
-    go false r = refl
+any-none n p h m l = refuted (p m) (λ e. never (any n p) (any-at n p m l e) h)
 
 pub any-of-none : (n : ℕ) (p : ℕ → Bool) → ((m : ℕ) → m < n → p m ≡ false) → any n p ≡ false
 unfolding any
@@ -167,11 +197,6 @@ any-of-none (suc n) p h = rw (any-of-none n p (λ m l. h m (omega arith)), h n (
 pub any-empty : (p : ℕ → Bool) → any 0 p ≡ false
 unfolding any
 any-empty p = refl
-
--- A loop's turn.
-pub any-more : (n : ℕ) (p : ℕ → Bool) → any n p ≡ false → p n ≡ false → any (n + 1) p ≡ false
-unfolding any
-any-more n p h l = rw (add-one, h, l)
 
 -- Some number satisfies p where not all fail it.
 pub any-not-all : (n : ℕ) (p : ℕ → Bool) → any n p ≡ not (all n (λ m. not (p m)))
@@ -195,13 +220,10 @@ pub count-none : (p : ℕ → Bool) → count 0 p ≡ 0
 unfolding count
 count-none p = refl
 
--- A loop's turn, and its two cases.
+-- A loop's turn, and the case that counts nothing.
 pub count-more : (n : ℕ) (p : ℕ → Bool) → count (n + 1) p ≡ count n p + one (p n)
 unfolding count
 count-more n p = rw add-one
-
-pub count-yes : (n : ℕ) (p : ℕ → Bool) → p n ≡ true → count (n + 1) p ≡ count n p + 1
-count-yes n p h = count-more n p ∙ ap (λ (b : Bool). count n p + one b) h
 
 pub count-no : (n : ℕ) (p : ℕ → Bool) → p n ≡ false → count (n + 1) p ≡ count n p
 count-no n p h = count-more n p ∙ ap (λ (b : Bool). count n p + one b) h ∙ omega arith
@@ -212,7 +234,7 @@ unfolding count
 count-first zero p = omega arith
 count-first (suc n) p = omega (arith, count-first n p)
 
-one-le : (a : Bool) → one a ≤ 1
+pub one-le : (a : Bool) → one a ≤ 1
 one-le true = omega arith
 one-le false = omega arith
 
@@ -289,13 +311,10 @@ count-at (suc n) p m l h = go (λ b. count-at n p m b h) (last-or-below m n l)
     go r (inl e) = omega (arith, ap one (ap p (sym e) ∙ h))
     go r (inr b) = omega (arith, r b)
 
--- Nothing satisfies p where the count is 0.
-pub count-zero : (n : ℕ) (p : ℕ → Bool) → count n p ≡ 0 → (m : ℕ) → m < n → p m ≡ false
-count-zero n p h m l = go (p m) (count-at n p m l)
-  where
-    go : (b : Bool) → (b ≡ true → 0 < count n p) → b ≡ false
-    go true r = absurd (omega (arith, r refl))
-    go false r = refl
+pub count-of-none : (n : ℕ) (p : ℕ → Bool) → ((m : ℕ) → m < n → p m ≡ false) → count n p ≡ 0
+unfolding count
+count-of-none zero p h = refl
+count-of-none (suc n) p h = omega (arith, count-of-none n p (λ m l. h m (omega arith)), ap one (h n (omega arith)))
 
 pub count-all : (n : ℕ) (p : ℕ → Bool) → ((m : ℕ) → m < n → p m ≡ true) → count n p ≡ n
 unfolding count

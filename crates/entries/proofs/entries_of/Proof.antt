@@ -7,7 +7,7 @@ use mathlib.Core.Path.{_≡_}
 use native.Mathlib.Omega.{arith}
 use Rattle.protocol.specs.Recovery.{entries}
 use Rattle.entries.specs.Entries.{logTo}
-use Rattle.entries.proofs.Judging.{entries-none, entries-turn, entries-end, one-le}
+use Rattle.entries.proofs.Judging.{entries-none, entries-turn, entries-end, one-of-le}
 use Rattle.entries.proofs.entries_of.Statement.{statement}
 use Rattle.entries.proofs.entries_of.Tie as tie
 
@@ -25,7 +25,7 @@ one-of-requires : tie.Need-one-of-requires Inv-loop μ-loop
 one-of-requires c κs = search needs
 
 add-all : tie.Need-add-all Inv-loop μ-loop
-add-all c = let a = c .before .before .before .before .args in let l = c .before .before .loop in omega (arith, c .one-of .ensures, one-le (now (a .log)) (a .site) (a .round) (l .i))
+add-all c = let a = c .before .before .before .before .args in let l = c .before .before .loop in omega (arith, c .one-of .ensures, one-of-le (now (a .log)) (a .site) (a .round) (l .i))
 
 add-i : tie.Need-add-i Inv-loop μ-loop
 add-i c = search needs
@@ -37,7 +37,7 @@ loop-again : tie.Need-loop-again Inv-loop μ-loop
 loop-again c =
     let a = c .before .before .before .before .args in
     let l = c .before .before .loop in
-    (omega arith, omega (arith, c .one-of .ensures, one-le (now (a .log)) (a .site) (a .round) (l .i)), entries-turn (now (a .log)) (a .site) (a .round) (l .i) (l .inv .2) (c .one-of .ensures))
+    (omega arith, omega (arith, c .one-of .ensures, one-of-le (now (a .log)) (a .site) (a .round) (l .i)), entries-turn (now (a .log)) (a .site) (a .round) (l .i) (l .inv .2) (c .one-of .ensures))
 
 returns : tie.Need-returns Inv-loop μ-loop
 returns c = let a = c .before .before .before .args in let l = c .before .loop in entries-end (now (a .log)) (a .site) (a .round) (l .i) (a .k) (omega arith) (l .inv .2)
