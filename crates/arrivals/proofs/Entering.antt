@@ -21,10 +21,11 @@ use Rattle.register.specs.declared.Command.{Command}
 use Rattle.protocol.specs.Recovery as recovery
 use Rattle.protocol.specs.World.{falseEntry, append, judge}
 use Rattle.system.specs.Dash.{dash}
+use Rattle.layout.specs.Layout.{siteAt}
 use Rattle.entries.specs.declared.Entry.{Entry}
 use Rattle.entries.specs.Entries.{entrySize, logTo, writeEntry, viewEntry, inRangeOf}
 use Rattle.entries.proofs.Bytes.{Fits}
-use Rattle.world.specs.World.{siteAt, worldOf, HoldsWorld}
+use Rattle.world.specs.World.{worldOf, HoldsWorld}
 use Rattle.world.specs.Parts.{lent, Entered}
 use Rattle.world.proofs.Past.{past-same}
 use Rattle.world.proofs.Hold.{kept, refused, taken}

@@ -21,7 +21,7 @@ use Rattle.protocol.specs.Recovery.{decide}
 use Rattle.protocol.specs.Site.{deliverFast, finish, decision, tallyOr, forFastDelivery, forRoundEnd}
 use Rattle.protocol.specs.World.{fastDelivery, roundEnd}
 use Rattle.system.specs.Dash.{dash}
-use Rattle.layout.specs.Layout.{siteSize, headOf, view}
+use Rattle.layout.specs.Layout.{siteSize, headOf, view, siteAt}
 use Rattle.layout.specs.Good.{Good}
 use Rattle.entries.specs.Entries.{entrySize, entryOf, logTo, inRangeOf}
 use Rattle.entries.proofs.Logs.{log-take}
@@ -31,7 +31,7 @@ use Rattle.recovery.proofs.Within.{decision-within}
 use Rattle.ending.specs.Ending.{Told, RoundEnded}
 use Rattle.ending.proofs.Telling.{told}
 use Rattle.rounds.specs.Rounds.{keptRounds, entriesIn, Kept}
-use Rattle.world.specs.World.{siteAt, worldOf}
+use Rattle.world.specs.World.{worldOf}
 use Rattle.world.specs.Parts.{lent, AtSite}
 use Rattle.world.proofs.Sites.{lent-part}
 use Rattle.world.proofs.Hold.{seen, refused, carried-site}

@@ -14,12 +14,12 @@ use Rattle.protocol.specs.System.{verdict}
 use Rattle.protocol.specs.Site as protocol
 use Rattle.protocol.specs.World.{Step}
 use Rattle.system.specs.Dash.{dash}
-use Rattle.layout.specs.Layout.{siteSize, headOf, view}
+use Rattle.layout.specs.Layout.{siteSize, headOf, view, siteAt}
 use Rattle.layout.specs.Good.{Good}
 use Rattle.layout.specs.Step.{Carried}
 use Rattle.entries.specs.Entries.{entrySize, entryOf, inRangeOf}
 use Rattle.rounds.specs.Rounds.{entriesIn, Kept}
-use Rattle.world.specs.World.{siteAt, GoodWorld, Outcome}
+use Rattle.world.specs.World.{GoodWorld, Outcome}
 use Rattle.world.specs.Parts.{lent}
 
 -- Good sites, for a site table and so many commands.

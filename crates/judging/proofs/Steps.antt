@@ -9,7 +9,7 @@ use lib.Seq.{drop-append-le}
 use Rattle.wire.proofs.Small.{Small, take-small}
 use Rattle.refusals.specs.declared.Verdict.{Verdict}
 use Rattle.refusals.specs.declared.Verdict.the-variants.{Taken, Refused}
-use Rattle.refusals.specs.Refusals.{codeOf}
+use Rattle.refusals.specs.Refusals.{codeOf, settled}
 use Rattle.table.specs.declared.SiteTable.{SiteTable}
 use Rattle.register.specs.declared.Command.{Command}
 use Rattle.commands.specs.Book.{commandsOf}
@@ -17,7 +17,7 @@ use Rattle.protocol.specs.Site as protocol
 use Rattle.system.specs.Dash.{dash}
 use Rattle.layout.specs.Layout.{siteSize, siteRounds, rowAt, encode}
 use Rattle.layout.specs.Good.{Good, Holds, HoldsOver}
-use Rattle.layout.specs.Step.{settled, Carried}
+use Rattle.layout.specs.Step.{Carried}
 use Rattle.layout.proofs.Encode.{spanned, encode-view}
 use Rattle.judging.specs.Outcomes.{outcome, answered}
 use Rattle.judging.specs.Judging.{tableOf, systemOf, spanIn, siteIn, withSite}

@@ -22,12 +22,12 @@ use Rattle.protocol.specs.Recovery as recovery
 use Rattle.protocol.specs.Site.{isSome, next, nextInRange, noThird, readEntry, forLogRead}
 use Rattle.protocol.specs.World.{logRead, judge}
 use Rattle.system.specs.Dash.{dash}
-use Rattle.layout.specs.Layout.{headOf, view}
+use Rattle.layout.specs.Layout.{headOf, view, siteAt}
 use Rattle.site.specs.Steps.{ReadEntry}
 use Rattle.entries.specs.Entries.{entryOf, logTo, inRangeOf}
 use Rattle.entries.proofs.Logs.{log-nth, log-end, log-take}
 use Rattle.entries.proofs.Judging.{entries-next, one-yes}
-use Rattle.world.specs.World.{GoodWorld, siteAt, worldOf}
+use Rattle.world.specs.World.{GoodWorld, worldOf}
 use Rattle.world.specs.Parts.{lent, AtSite}
 use Rattle.world.proofs.Hold.{seen, refused, carried-site}
 use Rattle.moves.specs.Moves.{LogRead}

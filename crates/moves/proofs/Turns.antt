@@ -13,6 +13,7 @@ use Rattle.refusals.specs.declared.Refusal.{Refusal}
 use Rattle.refusals.specs.declared.Verdict.{Verdict}
 use Rattle.refusals.specs.declared.Verdict.the-variants.{Taken, Refused}
 use Rattle.refusals.specs.declared.Refusal.the-variants.{Range, Role, Disabled, ThirdEntry, LastRound}
+use Rattle.refusals.specs.Refusals.{settled}
 use Rattle.theory.specs.Sets as theory
 use Rattle.theory.specs.Sets.{pick, any}
 use Rattle.theory.specs.Counting.{both, never, not-true, not-not}
@@ -33,10 +34,9 @@ use Rattle.protocol.specs.World.{World, turn, judge, step, put, append, sendChe
 use Rattle.register.specs.declared.Command.{Command}
 use Rattle.system.specs.Dash.{dash, lastRound}
 use Rattle.layout.specs.declared.Proposal.{Proposal}
-use Rattle.layout.specs.Layout.{siteRounds, headOf, view}
+use Rattle.layout.specs.Layout.{siteRounds, headOf, view, siteAt}
 use Rattle.layout.specs.Good.{Good, HoldsOver}
 use Rattle.layout.proofs.Finish.{alone, unchanged}
-use Rattle.layout.specs.Step.{settled}
 use Rattle.site.specs.declared.Turn.{Turn}
 use Rattle.site.specs.declared.Turn.the-variants as turns
 use Rattle.site.specs.Steps.{undeliveredOf, TookTurn, Turned, answerTo}
@@ -46,7 +46,7 @@ use Rattle.entries.specs.Entries.{logTo, writeEntry, viewEntry, inRangeOf}
 use Rattle.entries.proofs.Bytes.{Fits}
 use Rattle.sent.specs.Sent as sent
 use Rattle.sent.specs.Sent.{maxAcknowledgments, cellOf, acksOf, checksOf, acknowledgedIn, checkedIn, oneMore, checked}
-use Rattle.world.specs.World.{Buffers, siteAt, PastRows, knownTo, entryFor, worldOf, HoldsWorld, Outcome}
+use Rattle.world.specs.World.{Buffers, PastRows, knownTo, entryFor, worldOf, HoldsWorld, Outcome}
 use Rattle.world.specs.Parts.{lent, AtSite}
 use Rattle.world.proofs.Sites.{small-site}
 use Rattle.world.proofs.Past.{past-held}

@@ -29,7 +29,8 @@ use Rattle.entries.proofs.Logs.{log-length}
 use Rattle.lines.specs.Lines.{stepLine}
 use Rattle.lines.proofs.Laws.{step-length}
 use Rattle.runs.specs.Run.{report, stepLines, worldAfter}
-use Rattle.world.specs.World.{Buffers, siteAt, PastRows, worldOf, HoldsWorld, Outcome}
+use Rattle.layout.specs.Layout.{siteAt}
+use Rattle.world.specs.World.{Buffers, PastRows, worldOf, HoldsWorld, Outcome}
 use Rattle.world.specs.Parts.{lent}
 use Rattle.world.proofs.Past.{past-same, past-more}
 use Rattle.play.specs.Played.{lineRoom, linesRoom, lastWorld, HoldsLast, PlayedAll}

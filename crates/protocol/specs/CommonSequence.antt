@@ -6,7 +6,7 @@ use mathlib.Core.List.{List, [], _∷_, _++_, foldl, map}
 use mathlib.Core.Option.{none, some}
 use Prim.Native.Nat.{ℕ, suc, _<_}
 use lib.Dec.{eqb}
-pub use Rattle.refusals.specs.Refusals.{isTaken}
+use Rattle.refusals.specs.Refusals.{isTaken}
 use Rattle.theory.specs.Sets.{Set, _∖_, pick, any, members}
 use Rattle.theory.specs.Lists.{contents, distinct, before, sift}
 use Rattle.theory.specs.Machine.{run, answered, answerIn}

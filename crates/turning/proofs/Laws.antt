@@ -18,7 +18,7 @@ use Rattle.refusals.specs.declared.Refusal.{Refusal}
 use Rattle.refusals.specs.declared.Refusal.the-variants.{Range, Disabled, ThirdEntry, LastRound}
 use Rattle.refusals.specs.declared.Verdict.{Verdict}
 use Rattle.refusals.specs.declared.Verdict.the-variants.{Taken, Refused}
-use Rattle.refusals.specs.Refusals.{numberOf, codeOf}
+use Rattle.refusals.specs.Refusals.{numberOf, codeOf, settled}
 use Rattle.sets.specs.declared.Set.{Set}
 use Rattle.sets.specs.Sets.{capacity, inSet, setOf, withoutOf, withinOf, readSet, writeSet}
 use Rattle.sets.proofs.Laws.{in-without}
@@ -42,7 +42,6 @@ use Rattle.entries.proofs.Judging.{entries-none, entries-next, one-no-round, in
 use Rattle.layout.specs.declared.Proposal.{Proposal}
 use Rattle.layout.specs.Layout.{siteSize, receivedPlace, deliveredPlace, headOf, view}
 use Rattle.layout.specs.Good.{Good, HoldsOver}
-use Rattle.layout.specs.Step.{settled}
 use Rattle.layout.proofs.Header.{next}
 use Rattle.layout.proofs.Tables.{within-without}
 use Rattle.site.specs.declared.Turn.{Turn}

@@ -21,8 +21,7 @@ use Rattle.protocol.specs.World.{World, Step, command, acknowledgment, check, f
 use Rattle.protocol.specs.World as worlds
 use Rattle.system.specs.Dash.{dash}
 use Rattle.wire.specs.Wire.{readLe}
-use Rattle.layout.specs.Layout.{siteSize, spanPlace, rowAt, headOf, view}
-pub use Rattle.layout.specs.Layout.{siteAt}
+use Rattle.layout.specs.Layout.{siteAt, siteSize, spanPlace, rowAt, headOf, view}
 use Rattle.layout.specs.Good.{Good, HoldsOver}
 use Rattle.entries.specs.declared.Entry.{Entry}
 use Rattle.entries.specs.Entries.{entrySize, entryOf, logTo, writeEntry, inRangeOf}
