@@ -1,19 +1,21 @@
 -- Laws of the code that reads and writes a step.
 -- Assumes nothing.
 use mathlib.Core.Path.{_≡_, refl, sym, ap, subst, _∙_}
-use mathlib.Core.List.{List, _++_}
+use mathlib.Core.List.{List, [], _∷_, _++_}
 use Prim.Native.Nat.{ℕ, zero, suc, _+_, _-_, _≤_, _<_}
 use native.Mathlib.Decide.{decLt}
 use native.Mathlib.Omega.{arith}
 use borrow.Author.Tests.{le-leb, lt-leb}
-use lib.ListN.{length, take, drop, length-drop, List·getD-eq-default}
-use lib.Seq.{getD-drop}
+use lib.ListN.{length, take, drop, List·getD-eq-default}
 use Rattle.wire.specs.Wire.{splice}
-use Rattle.wire.proofs.Laws.{splice-two, part-all}
+use Rattle.wire.proofs.Laws.{splice-two, part-all, length-bytes}
+use Rattle.sets.specs.declared.Set.{Set}
+use Rattle.sets.specs.Sets.{setBytes}
 use Rattle.steps.specs.declared.Step.{Step}
+use Rattle.steps.specs.declared.Step.the-variants.{FalseEntry}
 use Rattle.steps.specs.declared.Reading.{Reading}
 use Rattle.steps.specs.declared.Reading.the-variants.{Whole, Unreadable}
-use Rattle.steps.specs.Steps.{sizeOf, byte, uncut, byCode, readAs, readStep, encodeStep}
+use Rattle.steps.specs.Steps.{sizeOf, byte, uncut, byCode, readAs, readStep, setOperand, encodeStep}
 
 -- ---- reading
 
@@ -44,18 +46,6 @@ no-code s (suc k) n₁ n₂ n₃ n₄ n₅ n₆ n₇ n₈ n₉ n₁₀ = sym (Li
 
 -- The step that stands at a position is read from the bytes from there on.
 module _ (s : List ℕ) (at : ℕ) where
-  pub byte-at : (k : ℕ) → byte s (at + k) ≡ byte (drop at s) k
-  byte-at k = sym (getD-drop at s k 0)
-
-  pub whole-at : {t u : Step} → t ≡ u → at + sizeOf u ≤ length s → Whole t ≡ uncut (drop at s) u
-  whole-at {t} {u} e h = ap Whole e ∙ whole (drop at s) u (omega (arith, length-drop at s))
-
-  pub of-code : (k : ℕ) {r : Reading} → byte s at ≡ k → r ≡ readAs k (drop at s) → r ≡ readStep (drop at s)
-  unfolding readStep
-  of-code k e q =
-      let z : at ≡ at + 0 = omega arith in
-      q ∙ ap (λ (n : ℕ). readAs n (drop at s)) (sym e ∙ ap (λ (n : ℕ). byte s n) z ∙ byte-at 0)
-
   -- In code these are the elements of a part of the bytes.
   pub part-read : {r : Reading} {code : ℕ} (k : ℕ) → code ≡ byte (take (length s - at) (drop at s)) 0 → code ≡ k → r ≡ readAs k (take (length s - at) (drop at s)) → r ≡ readStep (drop at s)
   unfolding readStep
@@ -75,3 +65,11 @@ Written after past s at t = (past ≡ at + sizeOf t) × (after ≡ splice s at (
 
 pub wrote : (s : List ℕ) (at : ℕ) {s₁ : List ℕ} {r : ℕ} {t u : Step} → t ≡ u → Written s₁ r s at u → Written s₁ r s at t
 wrote s at {s₁} {r} e w = subst (λ (d : Step). Written s₁ r s at d) (sym e) w
+
+-- A step 06: its bytes with NC, then C.
+pub wrote-entry : (s : List ℕ) (at j r : ℕ) (nc c : Set) {s₁ s₂ : List ℕ} {k past : ℕ} → at ≤ length s
+    → (k ≡ at + (3 + setBytes)) × (s₁ ≡ splice s at ((6 ∷ j ∷ r ∷ []) ++ setOperand nc)) → (past ≡ k + setBytes) × (s₂ ≡ splice s₁ k (setOperand c))
+    → Written s₂ past s at (FalseEntry j r nc c)
+wrote-entry s at j r nc c l v w =
+    let n = length-bytes 8 (nc .bits) in
+    (omega (arith, v .0, w .0), join s at ((6 ∷ j ∷ r ∷ []) ++ setOperand nc) (setOperand c) l (v .1) (omega (arith, n, v .0)) (w .1))

@@ -1,7 +1,7 @@
 // The steps of a run: bytes to steps and back.
 ghost use mathlib.Core.Path.{_≡_};
-ghost use Prim.Native.Nat.{_+_, _*_, _≤_};
-ghost use mathlib.Core.List.{_∷_, [], _++_};
+ghost use Prim.Native.Nat.{_+_, _≤_};
+ghost use mathlib.Core.List.{_++_};
 ghost use lib.ListN.{length, drop};
 ghost use Rattle.wire.specs.Wire.{splice};
 ghost use Rattle.sets.specs.Sets.{setBytes, readSet};
@@ -189,28 +189,7 @@ pub fn read_step(bytes: &[u8], at: usize) -> Reading
     }
 }
 
-// Two bytes are written; here and below the answer is the position after what was written.
-fn put_two(out: &mut [u8], at: usize, a: u8, b: u8) -> usize
-    requires { ⌜ at + 2 ≤ length (now out) ⌝ }
-    ensures { λ r. ⌜ (r ≡ at + 2) × (now (out .exit) ≡ splice (now (out .entry)) at (a ∷ b ∷ [])) ⌝ }
-{
-    out[at] = a;
-    out[at + 1] = b;
-    at + 2
-}
-
-// Three bytes are written.
-fn put_three(out: &mut [u8], at: usize, a: u8, b: u8, c: u8) -> usize
-    requires { ⌜ at + 3 ≤ length (now out) ⌝ }
-    ensures { λ r. ⌜ (r ≡ at + 3) × (now (out .exit) ≡ splice (now (out .entry)) at (a ∷ b ∷ c ∷ [])) ⌝ }
-{
-    out[at] = a;
-    out[at + 1] = b;
-    out[at + 2] = c;
-    at + 3
-}
-
-// A set is written.
+// A set is written; here and below the answer is the position after what was written.
 fn put_set(out: &mut [u8], at: usize, set: Set) -> usize
     requires { ⌜ at + setBytes ≤ length (now out) ⌝ }
     ensures { λ r. ⌜ (r ≡ at + setBytes) × (now (out .exit) ≡ splice (now (out .entry)) at (setOperand set)) ⌝ }
@@ -219,49 +198,13 @@ fn put_set(out: &mut [u8], at: usize, set: Set) -> usize
     at + Set::BYTES
 }
 
-// Code, site, sender and round of a message are written.
-fn put_head(out: &mut [u8], at: usize, code: u8, site: u8, from: u8, round: u8) -> usize
-    requires { ⌜ at + 4 ≤ length (now out) ⌝ }
-    ensures { λ r. ⌜ (r ≡ at + 4) × (now (out .exit) ≡ splice (now (out .entry)) at (code ∷ site ∷ from ∷ round ∷ [])) ⌝ }
+// Bytes are written, then a set.
+fn put_with_set(out: &mut [u8], at: usize, head: &[u8], set: Set) -> usize
+    requires { ⌜ at + (length (now head) + setBytes) ≤ length (now out) ⌝ }
+    ensures { λ r. ⌜ (r ≡ at + (length (now (head .entry)) + setBytes)) × (now (out .exit) ≡ splice (now (out .entry)) at (now (head .entry) ++ setOperand set)) ⌝ }
 {
-    let middle = put_two(out, at, code, site);
-    put_two(out, middle, from, round)
-}
-
-// A step 02 is written.
-fn put_acknowledgment(out: &mut [u8], at: usize, site: u8, from: u8, round: u8, number: u8) -> usize
-    requires { ⌜ at + 5 ≤ length (now out) ⌝ }
-    ensures { λ r. ⌜ (r ≡ at + 5) × (now (out .exit) ≡ splice (now (out .entry)) at (2 ∷ site ∷ from ∷ round ∷ number ∷ [])) ⌝ }
-{
-    let middle = put_three(out, at, 2, site, from);
-    put_two(out, middle, round, number)
-}
-
-// A step 04 or 05 is written.
-fn put_message(
-    out: &mut [u8],
-    at: usize,
-    code: u8,
-    site: u8,
-    from: u8,
-    round: u8,
-    set: Set,
-) -> usize
-    requires { ⌜ at + (4 + setBytes) ≤ length (now out) ⌝ }
-    ensures { λ r. ⌜ (r ≡ at + (4 + setBytes)) × (now (out .exit) ≡ splice (now (out .entry)) at (code ∷ site ∷ from ∷ round ∷ setOperand set)) ⌝ }
-{
-    let middle = put_head(out, at, code, site, from, round);
+    let middle = print::put_text(out, at, head);
     put_set(out, middle, set)
-}
-
-// A step 06 is written.
-fn put_entry(out: &mut [u8], at: usize, from: u8, round: u8, nc: Set, c: Set) -> usize
-    requires { ⌜ at + (3 + 2 * setBytes) ≤ length (now out) ⌝ }
-    ensures { λ r. ⌜ (r ≡ at + (3 + 2 * setBytes)) × (now (out .exit) ≡ splice (now (out .entry)) at (6 ∷ from ∷ round ∷ setOperand nc ++ setOperand c)) ⌝ }
-{
-    let first = put_three(out, at, 6, from, round);
-    let second = put_set(out, first, nc);
-    put_set(out, second, c)
 }
 
 // A step is written at a position.
@@ -270,30 +213,33 @@ pub fn write_step(out: &mut [u8], at: usize, step: Step) -> usize
     ensures { λ r. ⌜ (r ≡ at + sizeOf step) × (now (out .exit) ≡ splice (now (out .entry)) at (encodeStep step)) ⌝ }
 {
     match step {
-        Step::Command { site, command } => put_three(out, at, 1, site, command),
+        Step::Command { site, command } => print::put_text(out, at, &[1, site, command]),
         Step::Acknowledgment {
             site,
             from,
             round,
             number,
-        } => put_acknowledgment(out, at, site, from, round, number),
-        Step::Check { site, from, round } => put_head(out, at, 3, site, from, round),
+        } => print::put_text(out, at, &[2, site, from, round, number]),
+        Step::Check { site, from, round } => print::put_text(out, at, &[3, site, from, round]),
         Step::FalseAcknowledgment {
             site,
             from,
             round,
             set,
-        } => put_message(out, at, 4, site, from, round, set),
+        } => put_with_set(out, at, &[4, site, from, round], set),
         Step::FalseCheck {
             site,
             from,
             round,
             set,
-        } => put_message(out, at, 5, site, from, round, set),
-        Step::FalseEntry { from, round, nc, c } => put_entry(out, at, from, round, nc, c),
-        Step::Turn { site } => put_two(out, at, 7, site),
-        Step::FastDelivery { site, command } => put_three(out, at, 8, site, command),
-        Step::LogRead { site } => put_two(out, at, 9, site),
-        Step::RoundEnd { site } => put_two(out, at, 10, site),
+        } => put_with_set(out, at, &[5, site, from, round], set),
+        Step::FalseEntry { from, round, nc, c } => {
+            let middle = put_with_set(out, at, &[6, from, round], nc);
+            put_set(out, middle, c)
+        }
+        Step::Turn { site } => print::put_text(out, at, &[7, site]),
+        Step::FastDelivery { site, command } => print::put_text(out, at, &[8, site, command]),
+        Step::LogRead { site } => print::put_text(out, at, &[9, site]),
+        Step::RoundEnd { site } => print::put_text(out, at, &[10, site]),
     }
 }
