@@ -1,11 +1,11 @@
 -- No run meets refusal 8 or 9, and no correct site's append is a third entry.
 -- Rests on Bound and Sequence.
-use mathlib.Core.Path.{_≡_, refl, sym, _∙_, ap, subst}
+use mathlib.Core.Path.{_≡_, refl, sym, _∙_, ap}
 use mathlib.Core.Bool.{Bool, true, false, _&&_, _||_, not}
 use mathlib.Core.List.{List, [], _∷_, _++_}
-use mathlib.Core.Logic.{_⊎_, inl, inr, ⊎-elim}
-use mathlib.Core.Option.{Option, none, some}
-use Prim.Native.Nat.{ℕ, zero, suc, _+_, _*_, _≤_, _<_}
+use mathlib.Core.Logic.{inl, inr, ⊎-elim}
+use mathlib.Core.Option.{none, some}
+use Prim.Native.Nat.{ℕ, suc, _+_, _≤_, _<_}
 use native.Mathlib.Omega.{arith}
 use lib.Dec.{eqb, leb, ltb}
 use lib.ListN.{length, length-append}
@@ -13,8 +13,7 @@ use borrow.Author.Tests.{eqb-true, eq-eqb, ltb-true, lt-ltb, le-leb}
 use Rattle.refusals.specs.Refusals.{rank}
 use Rattle.refusals.specs.declared.Refusal.{Refusal}
 use Rattle.refusals.specs.declared.Refusal.the-variants.{ThirdEntry, LastRound, Full}
-use Rattle.refusals.specs.declared.Verdict.{Verdict}
-use Rattle.refusals.specs.declared.Verdict.the-variants.{Taken, Refused}
+use Rattle.refusals.specs.declared.Verdict.the-variants.{Refused}
 use Rattle.theory.specs.Sets.{Set, ∅, only, _∪_, one, any, count, members}
 use Rattle.theory.specs.Counting.{both, left, right, true-or, or-true, either, neither, never, not-true, any-some, count-le, count-mono, count-split, count-at, count-all}
 use Rattle.theory.specs.Lists.{contents, distinct}
@@ -26,13 +25,13 @@ use Rattle.protocol.specs.System.{System, Demands, granted, _else_⨾_, verdict
 use Rattle.protocol.specs.Recovery.{Entry, Log, Tally, entries}
 use Rattle.protocol.specs.StandingLaws.{Logged, same-some}
 use Rattle.protocol.specs.WaitingLaws.{not-waiting}
-use Rattle.protocol.specs.Site.{Site, isAcknowledging, isSome, unacknowledged, acknowledges, senders, room, due, finish, decision, tallyOr}
+use Rattle.protocol.specs.Site.{isAcknowledging, isSome, unacknowledged, acknowledges, room, due, finish, decision, tallyOr}
 use Rattle.protocol.specs.World.{World, Step, command, acknowledgment, check, falseAcknowledgment, falseCheck, falseEntry, turn, fastDelivery, logRead, roundEnd, start, play, demands, judge}
 use Rattle.protocol.specs.Steps.{refused-taken}
 use Rattle.agreement.specs.History.{History, history}
 use Rattle.agreement.specs.HistoryLaws.{Sound, history-sound}
 use Rattle.agreement.specs.Acked.{Sizes}
-use Rattle.agreement.specs.Answers.{commandsOf, commands-append, fold-commands}
+use Rattle.agreement.specs.Answers.{commandsOf, fold-commands}
 use Rattle.agreement.specs.Sequence.{Traced, fast-traced, finish-traced}
 use Rattle.agreement.specs.Invariant.{Good, good-play}
 use Rattle.agreement.specs.Brought.{Brought}
@@ -171,7 +170,7 @@ module _ (S : System) (f : ℕ) (sizes : Sizes S f) where
         v = fast-traced S (w .log) (w .site i) m (ltb-true m commands lm) pm (not-true (w .site i .fast m) fm) (good .pending i) (good .traced i)
 
     -- There is room for what a decided round delivers.
-    pub room-end : (i : ℕ) → isSome (decision S (w .site i) (w .log)) ≡ true → room S (w .site i) (length (due S (tallyOr (decision S (w .site i) (w .log))) (w .site i))) ≡ true
+    room-end : (i : ℕ) → isSome (decision S (w .site i) (w .log)) ≡ true → room S (w .site i) (length (due S (tallyOr (decision S (w .site i) (w .log))) (w .site i))) ≡ true
     room-end i h =
         le-leb (length (w .site i .ledger .deliveries) + length (due S t (w .site i))) commands
         (omega (
@@ -206,7 +205,7 @@ module _ (S : System) (f : ℕ) (sizes : Sizes S f) where
         sizes-spared (roundEnd i) = (quiet, λ a. (quiet, λ b. (quiet, λ c. (quiet, λ d. ((λ z. room-end i d), λ z. tt)))))
 
     -- A correct site that acknowledges has no entry of its round in the log.
-    pub unspoken : (i : ℕ) → correct S i ≡ true → isAcknowledging (w .site i .phase) ≡ true → entries i (w .site i .round) (w .log) ≡ 0
+    unspoken : (i : ℕ) → correct S i ≡ true → isAcknowledging (w .site i .phase) ≡ true → entries i (w .site i .round) (w .log) ≡ 0
     unspoken i b c =
         no-entries i (w .site i .round) (w .log)
         (λ x l ex er. ⊎-elim (λ z. omega arith) (λ z. not-waiting (w .site i .phase) c (z .1)) (good .promises i b .spoke x l ex))
