@@ -28,6 +28,7 @@ use Rattle.entries.proofs.Logs.{log-take}
 use Rattle.recovery.specs.declared.Decision.{Decision}
 use Rattle.recovery.specs.Decisions.{decisionOf, DecisionWithin}
 use Rattle.recovery.proofs.Within.{decision-within}
+use Rattle.fast.specs.Fast.{FastDelivered}
 use Rattle.ending.specs.Ending.{Told, RoundEnded}
 use Rattle.ending.proofs.Telling.{told}
 use Rattle.rounds.specs.Rounds.{keptRounds, entriesIn, Kept}
@@ -35,7 +36,7 @@ use Rattle.world.specs.World.{worldOf}
 use Rattle.world.specs.Parts.{lent, AtSite}
 use Rattle.world.proofs.Sites.{lent-part}
 use Rattle.world.proofs.Hold.{seen, refused, carried-site}
-use Rattle.closings.specs.Closings.{GoodSites, GoodLog, KeptLog, FastAt, Closed}
+use Rattle.closings.specs.Closings.{GoodSites, GoodLog, KeptLog, Closed}
 
 -- ---- 08
 
@@ -58,7 +59,7 @@ module _ (t : SiteTable) (book : List Command) (sites : List ℕ) (small : (k : 
           let e : faultyOf t i ≡ true = sym ef ∙ h in
           refused t book (lent sites log entries sent) g (fastDelivery i m) Role (simp (lt-ltb i (t .sites) a, lt-ltb m (length book) l, e)) small
 
-      pub fast-carried : f ≡ false → {v : Verdict} {after : List ℕ} → AtSite i (FastAt t book m v) sites after → (log : List ℕ) (entries : ℕ)
+      pub fast-carried : f ≡ false → {v : Verdict} {after : List ℕ} → AtSite i (λ b new. FastDelivered t book m b v new) sites after → (log : List ℕ) (entries : ℕ)
           → Closed t book (fastDelivery i m) log entries sites v after
       fast-carried h p log entries =
           λ sent g.

@@ -10,13 +10,9 @@ use Rattle.table.specs.declared.SiteTable.{SiteTable}
 use Rattle.register.specs.declared.Command.{Command}
 use Rattle.commands.specs.Book.{commandsOf}
 use Rattle.conflicts.specs.Conflicts.{conflictRows}
-use Rattle.protocol.specs.System.{verdict}
-use Rattle.protocol.specs.Site as protocol
 use Rattle.protocol.specs.World.{Step}
-use Rattle.system.specs.Dash.{dash}
-use Rattle.layout.specs.Layout.{siteSize, headOf, view, siteAt}
+use Rattle.layout.specs.Layout.{siteSize, headOf, siteAt}
 use Rattle.layout.specs.Good.{Good}
-use Rattle.layout.specs.Step.{Carried}
 use Rattle.entries.specs.Entries.{entrySize, entryOf, inRangeOf}
 use Rattle.rounds.specs.Rounds.{entriesIn, Kept}
 use Rattle.world.specs.World.{GoodWorld, Outcome}
@@ -38,11 +34,6 @@ pub record KeptLog (t : SiteTable) (book sites log kept : List ℕ) : Type 0 whe
   pub good : GoodLog t (length (commandsOf book)) sites log (entriesIn kept)
   pub bytes : (k : ℕ) → getD log k 0 < 256
   pub words : Kept t (conflictRows book) log kept
-
--- A fast delivery at a site with the bytes b.
-abbrev pub FastAt : SiteTable → List Command → ℕ → Verdict → List ℕ → List ℕ → Type 0
-FastAt t book m r b after =
-    Carried t book (verdict (protocol.forFastDelivery (dash t book) m (view t book b))) (protocol.deliverFast (dash t book) m (view t book b)) (view t book b) b r after
 
 -- A step that changes sites only, by the log.
 abbrev pub Closed : SiteTable → List Command → Step → List ℕ → ℕ → List ℕ → Verdict → List ℕ → Type 0

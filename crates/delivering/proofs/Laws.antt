@@ -31,6 +31,7 @@ use Rattle.recovery.specs.Decisions.{decisionOf, DecisionWithin}
 use Rattle.recovery.proofs.Within.{decision-within}
 use Rattle.layout.specs.Layout.{siteSize, headOf, view}
 use Rattle.layout.specs.Good.{Good}
+use Rattle.fast.specs.Fast.{FastDelivered}
 use Rattle.ending.specs.Ending.{EndedBy, RoundEnded}
 use Rattle.ending.proofs.Telling.{told}
 use Rattle.judging.specs.Outcomes.{outcome, answered, _then_}
@@ -40,7 +41,7 @@ use Rattle.judging.specs.Judging.{tableOf, systemOf, spanIn, siteIn, withSite, 
 use Rattle.judging.proofs.Demands.{then-taken, then-refused, answered-refused}
 use Rattle.judging.proofs.Laws.{Judged, JudgedLog, site-judged, log-judged, site-noted, log-noted, good-taken, good-code, good-rules, refused-code}
 use Rattle.judging.proofs.Steps.{carried}
-use Rattle.delivering.specs.Delivering.{FastDelivered, fastDeliveryCall, roundEndCall}
+use Rattle.delivering.specs.Delivering.{fastDeliveryCall, roundEndCall}
 
 -- ---- a fast delivery
 

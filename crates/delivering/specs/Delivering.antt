@@ -6,23 +6,12 @@ use Prim.Native.Nat.{ℕ}
 use lib.Dec.{ltb}
 use lib.ListN.{length}
 use Rattle.refusals.specs.declared.Refusal.the-variants.{Range}
-use Rattle.refusals.specs.declared.Verdict.{Verdict}
-use Rattle.table.specs.declared.SiteTable.{SiteTable}
-use Rattle.register.specs.declared.Command.{Command}
 use Rattle.commands.specs.Book.{commandsOf}
 use Rattle.protocol.specs.System.{_else_⨾_, verdict}
 use Rattle.protocol.specs.Site.{forFastDelivery, deliverFast, forRoundEnd, finish, tallyOr, decision}
-use Rattle.system.specs.Dash.{dash}
 use Rattle.entries.specs.Entries.{logOf}
-use Rattle.layout.specs.Layout.{view}
-use Rattle.layout.specs.Step.{Carried}
 use Rattle.judging.specs.Outcomes.{Outcome, answered, _then_}
 use Rattle.judging.specs.Judging.{systemOf, spanIn, siteIn, withSite, forSite, forSiteAndLog}
-
--- A fast delivery of command m was carried out on the bytes of a site, or refused.
-abbrev pub FastDelivered : SiteTable → List Command → ℕ → List ℕ → Verdict → List ℕ → Type 0
-FastDelivered t book m b r b′ =
-    Carried t book (verdict (forFastDelivery (dash t book) m (view t book b))) (deliverFast (dash t book) m (view t book b)) (view t book b) b r b′
 
 module _ (sites faults : ℕ) (book : List ℕ) where
   -- A command is delivered fast.

@@ -15,7 +15,7 @@ ghost use Rattle.protocol.specs.Site as protocol;
 ghost use Rattle.system.specs.Dash.{dash};
 ghost use Rattle.layout.specs.Layout.{siteSize, siteRounds, heardOf, view};
 ghost use Rattle.layout.specs.Good.{Good};
-ghost use Rattle.layout.specs.Step.{Carried};
+ghost use Rattle.fast.specs.Fast.{FastDelivered};
 use refusals::Refusal;
 use refusals::Verdict;
 use table::SiteTable;
@@ -80,10 +80,7 @@ pub fn fast_delivery(
 ) -> Verdict
     requires { ⌜ Good (table .sites) commands (now site) × (isGood table ≡ true) × Placed (now book) (now places)
         × (length (commandsOf (now book)) ≡ commands) × (m < commands) ⌝ }
-    ensures { λ r. ⌜ Carried table (commandsOf (now (book .entry)))
-        (verdict (protocol.forFastDelivery (dash table (commandsOf (now (book .entry)))) m (view table (commandsOf (now (book .entry))) (now (site .entry)))))
-        (protocol.deliverFast (dash table (commandsOf (now (book .entry)))) m (view table (commandsOf (now (book .entry))) (now (site .entry))))
-        (view table (commandsOf (now (book .entry))) (now (site .entry))) (now (site .entry)) r (now (site .exit)) ⌝ }
+    ensures { λ r. ⌜ FastDelivered table (commandsOf (now (book .entry))) m (now (site .entry)) r (now (site .exit)) ⌝ }
 {
     let judged = judge(&site[..], table, commands, m);
     if let Verdict::Refused(_) = judged {

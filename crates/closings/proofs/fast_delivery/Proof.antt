@@ -7,7 +7,7 @@ use Prim.Native.Nat.{_+_, _*_, _-_}
 use Rattle.commands.specs.Book.{commandsOf}
 use Rattle.layout.specs.Layout.{siteSize}
 use Rattle.world.proofs.Sites.{at-site}
-use Rattle.closings.specs.Closings.{FastAt}
+use Rattle.fast.specs.Fast.{FastDelivered}
 use Rattle.closings.proofs.Closing.{good-part, sites-room, fast-no-site, fast-no-command, fast-role, fast-carried}
 use Rattle.closings.proofs.fast_delivery.Statement.{statement}
 use Rattle.closings.proofs.fast_delivery.Tie as tie
@@ -61,7 +61,7 @@ returns-4 c =
     let o = c .before .before .before .before .before .before .before .before .before .before .before .before .before .before in
     let a = o .args in
     fast-carried (a .rules .table) (commandsOf (now (a .book))) (now (a .sites)) (λ k. c .before .before .before .before .before .before .before .before .before .before .before .before .before .slice-known .given k .fits) (a .site) (a .command) (omega arith) (o .pre .3) (omega arith) (c .before .before .before .before .before .is-faulty .ensures) (c .before .before .before .before .if3 .left)
-    (at-site (FastAt (a .rules .table) (commandsOf (now (a .book))) (a .command) (c .before .before .fast-delivery .result)) (now (a .sites)) (a .site) ((a .site * siteSize + siteSize) - a .site * siteSize) _ (omega arith)
+    (at-site (λ b new. FastDelivered (a .rules .table) (commandsOf (now (a .book))) (a .command) b (c .before .before .fast-delivery .result) new) (now (a .sites)) (a .site) ((a .site * siteSize + siteSize) - a .site * siteSize) _ (omega arith)
     (sites-room (a .rules .table) (a .rules .commands) (now (a .sites)) (a .site) (o .pre .0) (omega arith)) (c .before .before .fast-delivery .kept .0) (c .before .before .fast-delivery .ensures))
 
 pub fast-delivery-spec : {M : Type 1} → statement M
