@@ -1,7 +1,7 @@
 -- The verdict on a run, one law for each answer, and what a run that is taken gives.
 -- Assumes nothing.
 use mathlib.Core.Path.{_≡_, refl, sym, ap, _∙_}
-use mathlib.Core.Bool.{Bool, true, false, cond}
+use mathlib.Core.Bool.{Bool, true, false}
 use mathlib.Core.List.{List}
 use mathlib.Core.Option.{Option, none, some}
 use Prim.Native.Nat.{ℕ, _+_, _-_, _≤_, _<_}
@@ -17,7 +17,7 @@ use Rattle.refusals.specs.declared.Verdict.the-variants.{Taken, Refused}
 use Rattle.table.specs.declared.SiteTable.{SiteTable}
 use Rattle.table.specs.declared.Judged.the-variants as judged
 use Rattle.table.specs.Table.{isGood, judgeTable}
-use Rattle.table.proofs.Laws.{judged-good}
+use Rattle.table.proofs.Laws.{judged-good as table-good, judged-refused as table-refused}
 use Rattle.register.specs.declared.Command.{Command}
 use Rattle.commands.specs.Book.{maxCommands, readUpTo, verdictOf, judgeBook, commandsOf, measureBook, Placed, notedPlaces}
 use Rattle.commands.specs.declared.Measured.the-variants.{Commands, Unreadable}
@@ -31,18 +31,6 @@ use Rattle.runs.specs.Run.{maxRun, headerSize, tableOf, bookSize, bookOf, stepB
 use Rattle.header.specs.declared.Run.{Run}
 use Rattle.header.specs.declared.Opened.the-variants as opened
 use Rattle.header.specs.Header.{forHeader, saidBy, openedAs, judgeRun, placesAfter}
-
--- ---- the site table
-
-table-taken : (t u : SiteTable) → judgeTable (t .sites) (t .faults) (t .mask) ≡ judged.Good u → isGood t ≡ true
-table-taken t u h = let q = judged-good (t .sites) (t .faults) (t .mask) u h in ap isGood (sym (q .1)) ∙ q .0
-
-table-refused : (t : SiteTable) (r : Refusal) → judgeTable (t .sites) (t .faults) (t .mask) ≡ judged.Refused r → isGood t ≡ false
-table-refused t r = go (isGood t)
-  where
-    go : (b : Bool) → cond b (judged.Good t) (judged.Refused Table) ≡ judged.Refused r → b ≡ false
-    go true h = absurd (let z : _≡_ {A = ℕ} 0 1 = cc in omega arith)
-    go false h = refl
 
 -- ---- the parts of a run
 
@@ -69,7 +57,7 @@ module _ (run : List ℕ) where
     module _ (b : headerSize ≤ length run) {t : SiteTable} (e : t ≡ tableOf run) where
       pub bad-table : {r : Refusal} → judgeTable (t .sites) (t .faults) (t .mask) ≡ judged.Refused r → Refused Table ≡ verdict (forHeader run)
       bad-table {r} h =
-          rw (le-leb (length run) maxRun a, le-leb headerSize (length run) b, ap isGood (sym e) ∙ table-refused t r h) refl
+          rw (le-leb (length run) maxRun a, le-leb headerSize (length run) b, ap isGood (sym e) ∙ table-refused (t .sites) (t .faults) (t .mask) h .0) refl
 
       module _ {u : SiteTable} (c : judgeTable (t .sites) (t .faults) (t .mask) ≡ judged.Good u) {end : ℕ} (f : end ≡ headerSize + bookSize run) where
         pub book-cut : length run < end → Refused Table ≡ verdict (forHeader run)
@@ -77,7 +65,7 @@ module _ (run : List ℕ) where
             rw (
               le-leb (length run) maxRun a,
               le-leb headerSize (length run) b,
-              ap isGood (sym e) ∙ table-taken t u c,
+              ap isGood (sym e) ∙ table-good (t .sites) (t .faults) (t .mask) c .0,
               lt-leb (headerSize + bookSize run) (length run) (omega arith),
             )
             refl
@@ -87,7 +75,7 @@ module _ (run : List ℕ) where
             rw (
               le-leb (length run) maxRun a,
               le-leb headerSize (length run) b,
-              ap isGood (sym e) ∙ table-taken t u c,
+              ap isGood (sym e) ∙ table-good (t .sites) (t .faults) (t .mask) c .0,
               le-leb (headerSize + bookSize run) (length run) (omega arith),
             )
             refl

@@ -1,9 +1,9 @@
 -- What the judges of the first demands, of a lent site and of a lent log answer, one law an answer, and what a site that passed is.
 -- Assumes nothing.
 use mathlib.Core.Path.{_≡_, refl, sym, ap, subst, _∙_}
-use mathlib.Core.Bool.{Bool, true, false, cond, not, _&&_}
+use mathlib.Core.Bool.{Bool, true, false, not, _&&_}
 use mathlib.Core.List.{List}
-use Prim.Native.Nat.{ℕ, _*_, _/_, _%_, _≤_, _<_}
+use Prim.Native.Nat.{ℕ, _*_, _/_, _%_, _≤_}
 use native.Mathlib.Omega.{arith}
 use lib.Dec.{leb}
 use lib.ListN.{length, take, length-take, replicate}
@@ -22,7 +22,7 @@ use Rattle.table.specs.declared.SiteTable.{SiteTable}
 use Rattle.table.specs.declared.Judged as judging
 use Rattle.table.specs.declared.Judged.the-variants as judged
 use Rattle.table.specs.Table.{maxSites, goodTable, judgeTable}
-use Rattle.table.proofs.Laws.{limits}
+use Rattle.table.proofs.Laws.{limits, judged-good, judged-refused}
 use Rattle.commands.specs.declared.Measured.{Measured}
 use Rattle.commands.specs.declared.Measured.the-variants.{Commands, Unreadable}
 use Rattle.commands.specs.Book.{maxCommands, commandsOf, Placed, judgeBook, measureBook, notedPlaces}
@@ -48,20 +48,10 @@ first-length n s h = simp length-take (omega arith)
 
 module _ (n f mask : ℕ) where
   pub table-good : {t : SiteTable} → judgeTable n f mask ≡ judged.Good t → 0 ≡ codeOf (verdict (forTable n f mask))
-  table-good e = go (goodTable n f mask) (record { sites = n; faults = f; mask = mask }) e
-    where
-      go : (b : Bool) (s : SiteTable) {t : SiteTable} → cond b (judged.Good s) (judged.Refused Table) ≡ judged.Good t
-          → 0 ≡ codeOf (verdict (b else Table ⨾ granted))
-      go true s e = refl
-      go false s e = absurd (let z : _≡_ {A = ℕ} 0 1 = cc in omega arith)
+  table-good e = λ i. codeOf (verdict (sym (judged-good n f mask e .0) i else Table ⨾ granted))
 
   pub table-refused : {r : Refusal} {k : ℕ} → judgeTable n f mask ≡ judged.Refused r → k ≡ numberOf r → k ≡ codeOf (verdict (forTable n f mask))
-  table-refused e q = q ∙ go (goodTable n f mask) (record { sites = n; faults = f; mask = mask }) e
-    where
-      go : (b : Bool) (s : SiteTable) {r : Refusal} → cond b (judged.Good s) (judged.Refused Table) ≡ judged.Refused r
-          → numberOf r ≡ codeOf (verdict (b else Table ⨾ granted))
-      go true s e = absurd (let z : _≡_ {A = ℕ} 0 1 = cc in omega arith)
-      go false s {r} e = let q : r ≡ Table = cc in ap numberOf q
+  table-refused e q = let w = judged-refused n f mask e in q ∙ ap numberOf (w .1) ∙ (λ i. codeOf (verdict (sym (w .0) i else Table ⨾ granted)))
 
 -- The book that was measured.
 pub book-counted : (s : List ℕ) {n : ℕ} → measureBook s ≡ Commands n → 0 ≡ codeOf (verdict (forBook s))
@@ -127,24 +117,16 @@ module _ (n f : ℕ) (book places : List ℕ) (sized : Bool) where
     is-sized : true ≡ sized
     is-sized = sym (not-false sized h)
 
-    table-judged : (b : Bool) {t : SiteTable} → cond b (judged.Good (tableOf n f)) (judged.Refused Table) ≡ judged.Good t → (b ≡ true) × (t ≡ tableOf n f)
-    table-judged true e = (refl, cc)
-    table-judged false e = absurd (let z : _≡_ {A = ℕ} 0 1 = cc in omega arith)
-
-    table-turned : (b : Bool) {r : Refusal} → cond b (judged.Good (tableOf n f)) (judged.Refused Table) ≡ judged.Refused r → b ≡ false
-    table-turned true e = absurd (let z : _≡_ {A = ℕ} 0 1 = cc in omega arith)
-    table-turned false e = refl
-
     pub rules-table : {j : judging.Judged} {r : Refusal} → j ≡ judgeTable n f 0 → j ≡ judged.Refused r
         → (judgement.Refused Table ≡ judgedAs (verdict (forRules n f book sized)) (rulesOf n f book)) × (places ≡ placesAfter n f book sized places)
     rules-table q e =
-        let w = sym (table-turned (goodTable n f 0) (sym q ∙ e)) in
+        let w = sym (judged-refused n f 0 (sym q ∙ e) .0) in
         ((λ i. judgedAs (verdict (is-sized i else Size ⨾ w i else Table ⨾ forBook book)) (rulesOf n f book)), (λ i. pick (isTaken (verdict (is-sized i else Size ⨾ w i else Table ⨾ granted))) (sets places 0 (notedPlaces book)) places))
 
     module _ {j : judging.Judged} {t : SiteTable} (q : j ≡ judgeTable n f 0) (e : j ≡ judged.Good t) {m : Measured} {after : List ℕ} (em : m ≡ measureBook book)
         (ea : after ≡ sets places 0 (notedPlaces book)) where
       w : true ≡ goodTable n f 0
-      w = sym (table-judged (goodTable n f 0) (sym q ∙ e) .0)
+      w = sym (judged-good n f 0 (sym q ∙ e) .0)
 
       walked : after ≡ placesAfter n f book sized places
       walked = ea ∙ (λ i. pick (isTaken (verdict (is-sized i else Size ⨾ w i else Table ⨾ granted))) (sets places 0 (notedPlaces book)) places)
@@ -158,7 +140,7 @@ module _ (n f : ℕ) (book places : List ℕ) (sized : Bool) where
           → (judgement.Good (record { table = t; commands = k }) ≡ judgedAs (verdict (forRules n f book sized)) (rulesOf n f book)) × (after ≡ placesAfter n f book sized places)
       rules-good {k} u =
           let c = is-counted book (sym em ∙ u) in
-          let x : record { table = t; commands = k } ≡ rulesOf n f book = λ i. record { table = table-judged (goodTable n f 0) (sym q ∙ e) .1 i; commands = c .1 i } in
+          let x : record { table = t; commands = k } ≡ rulesOf n f book = λ i. record { table = judged-good n f 0 (sym q ∙ e) .1 i; commands = c .1 i } in
           (ap judgement.Good x ∙ (λ i. judgedAs (verdict (is-sized i else Size ⨾ w i else Table ⨾ isTaken (c .0 i) else Book ⨾ granted)) (rulesOf n f book)), walked)
 
 -- ---- the site, and the log

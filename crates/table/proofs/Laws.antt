@@ -1,6 +1,6 @@
 -- What the limits of a site table give: the quorum inequalities, and few faulty sites.
 -- Assumes nothing.
-use mathlib.Core.Path.{_≡_, refl, ap, _∙_, subst}
+use mathlib.Core.Path.{_≡_, refl, subst}
 use mathlib.Core.Bool.{Bool, true, false, cond, _&&_}
 use Prim.Native.Nat.{ℕ, _+_, _-_, _*_, _/_, _^_, _≤_, _<_}
 use native.Mathlib.Nat.{div-eq-of-lt, div-lt-iff-lt-mul, one-mul}
@@ -15,6 +15,7 @@ use Rattle.theory.specs.Counting.{left, right, lt-or-le}
 use Rattle.theory.specs.Quorums.{Quorums}
 use Rattle.sets.specs.Sets.{has}
 use Rattle.sets.proofs.Laws.{ones-count}
+use Rattle.refusals.specs.declared.Refusal.{Refusal}
 use Rattle.refusals.specs.declared.Refusal.the-variants.{Table}
 use Rattle.table.specs.declared.Judged.the-variants.{Good, Refused}
 use Rattle.table.specs.Table.{maxSites, maxFaults, goodTable, isGood, judgeTable, roundedUpHalf, faultyCountOf, nAckOf, nChkOf, majorityOf}
@@ -69,16 +70,20 @@ pub good-few : (t : SiteTable) → isGood t ≡ true → faultyCountOf t ≤ t .
 good-few t h = good-limits t h .few
 
 -- A table that was judged good is within the limits, and has the numbers that were judged.
-pub judged-good : (n f mask : ℕ) (t : SiteTable) → judgeTable n f mask ≡ Good t
-    → (isGood t ≡ true) × (t ≡ record { sites = n; faults = f; mask = mask })
-judged-good n f mask t = go (goodTable n f mask) refl
+pub judged-good : (n f mask : ℕ) {t : SiteTable} → judgeTable n f mask ≡ Good t → (goodTable n f mask ≡ true) × (t ≡ record { sites = n; faults = f; mask = mask })
+judged-good n f mask {t} = go (goodTable n f mask)
   where
-    go : (b : Bool) → goodTable n f mask ≡ b → cond b (Good (record { sites = n; faults = f; mask = mask })) (Refused Table) ≡ Good t
-        → (isGood t ≡ true) × (t ≡ record { sites = n; faults = f; mask = mask })
-    go true e h =
-        let q : t ≡ record { sites = n; faults = f; mask = mask } = cc in
-        (ap isGood q ∙ e, q)
-    go false e h = let z : _≡_ {A = ℕ} 0 1 = cc in absurd (omega arith)
+    go : (b : Bool) → cond b (Good (record { sites = n; faults = f; mask = mask })) (Refused Table) ≡ Good t → (b ≡ true) × (t ≡ record { sites = n; faults = f; mask = mask })
+    go true h = (refl, cc)
+    go false h = absurd (let z : _≡_ {A = ℕ} 0 1 = cc in omega arith)
+
+-- One that was refused is not, and the refusal is that of a table.
+pub judged-refused : (n f mask : ℕ) {r : Refusal} → judgeTable n f mask ≡ Refused r → (goodTable n f mask ≡ false) × (r ≡ Table)
+judged-refused n f mask {r} = go (goodTable n f mask)
+  where
+    go : (b : Bool) → cond b (Good (record { sites = n; faults = f; mask = mask })) (Refused Table) ≡ Refused r → (b ≡ false) × (r ≡ Table)
+    go true h = absurd (let z : _≡_ {A = ℕ} 0 1 = cc in omega arith)
+    go false h = (refl, cc)
 
 -- ---- how the code finds the limits
 
