@@ -1,13 +1,15 @@
 -- Laws of the walk that judges a book and notes its places.
 -- Assumes nothing.
 use mathlib.Core.Path.{_≡_, refl, sym, ap, _∙_}
+use mathlib.Core.Bool.{Bool, true, false}
 use mathlib.Core.List.{List, [], _∷_}
 use mathlib.Core.Option.{Option, none, some}
 use Prim.Native.Nat.{ℕ, zero, suc, _+_, _-_, _≤_, _<_}
 use native.Mathlib.Numerals.{add-one}
 use native.Mathlib.Omega.{arith}
-use lib.ListN.{length, take, drop, set, length-drop}
-use lib.Seq.{drop-drop, sets}
+use lib.ListN.{length, drop, set, length-drop}
+use lib.Seq.{drop-drop, drop-set-lt, sets}
+use Rattle.theory.specs.Sets.{pick}
 use Rattle.register.specs.declared.Command.{Command}
 use Rattle.commands.specs.declared.Reading.{Reading}
 use Rattle.commands.specs.declared.Reading.the-variants.{Whole, Bad}
@@ -15,7 +17,7 @@ use Rattle.commands.specs.declared.Measured.the-variants.{Commands, Unre
 use Rattle.commands.specs.Book.{maxCommands, sizeOf, readCommand, also, andThen, readUpTo, orNone, commandsOf, countFrom, measureBook, placesFrom, placesOf, Placed, readOn, readable, notedPlaces}
 use Rattle.commands.proofs.Walk.{few-commands, measure-end, measure-full, measure-bad, measure-more}
 use Rattle.commands.proofs.Laws.{front}
-use Rattle.commands.proofs.Places.{index-noted}
+use Rattle.commands.proofs.Places.{length-places, index-noted}
 
 -- A walk that has come to a position with k commands passed: how many the book has, and how the places end.
 pub record Walking (s end : List ℕ) (k at : ℕ) (p : List ℕ) : Type 0 where
@@ -98,3 +100,24 @@ unfolding notedPlaces placesOf measureBook commandsOf
 note-noted s p h e w =
     index-noted s p (omega (arith, few-commands s))
     (w ∙ ap (λ (cs : List Command). sets p 0 (placesFrom 0 cs)) (readable-some maxCommands s (orNone (readUpTo maxCommands s)) (counted-some (readUpTo maxCommands s) e)))
+
+-- ---- the words past the places
+
+past-sets : (k : ℕ) (p : List ℕ) (i : ℕ) (vs : List ℕ) → i + length vs ≤ k → drop k (sets p i vs) ≡ drop k p
+past-sets k p i [] h = refl
+past-sets k p i (v ∷ vs) h = past-sets k (set p i v) (suc i) vs (omega arith) ∙ drop-set-lt k p i v (omega arith)
+
+readable-few : (n : ℕ) (s : List ℕ) → length (readable n s) ≤ n
+readable-few zero s = omega arith
+readable-few (suc n) s = go (readCommand s) (λ c. readable-few n (drop (sizeOf c) s))
+  where
+    go : (r : Reading) → ((c : Command) → length (readable n (drop (sizeOf c) s)) ≤ n) → length (readOn r (λ c. readable n (drop (sizeOf c) s))) ≤ suc n
+    go (Whole c) h = omega (arith, h c)
+    go Bad h = omega arith
+
+-- A walk, where there is one, leaves what is past the room for places.
+pub past-noted : (walked : Bool) (s p : List ℕ) → drop maxCommands (pick walked (sets p 0 (notedPlaces s)) p) ≡ drop maxCommands p
+unfolding notedPlaces
+past-noted true s p =
+    past-sets maxCommands p 0 (placesFrom 0 (readable maxCommands s)) (omega (arith, length-places 0 (readable maxCommands s), readable-few maxCommands s))
+past-noted false s p = refl

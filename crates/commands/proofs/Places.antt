@@ -37,7 +37,7 @@ commands-valid s k h =
     let q = rest-all s in
     subst (λ (cs : List Command). Valid (getD cs k (Read 0))) q (valid-at k s 0 0 (omega arith) (omega (arith, ap length q)))
 
-length-places : (at : ℕ) (cs : List Command) → length (placesFrom at cs) ≡ length cs
+pub length-places : (at : ℕ) (cs : List Command) → length (placesFrom at cs) ≡ length cs
 length-places at [] = refl
 length-places at (c ∷ cs) = ap suc (length-places (at + sizeOf c) cs)
 

@@ -2,22 +2,23 @@
 -- Assumes nothing.
 use mathlib.Core.Bool.{Bool, true, false, _&&_}
 use mathlib.Core.Path.{_≡_, refl, sym, ap, _∙_}
-use mathlib.Core.List.{List, _∷_, _++_}
+use mathlib.Core.List.{List, [], _∷_, _++_, append-assoc}
 use Prim.Native.Nat.{ℕ, zero, suc, _+_, _-_, _≤_, _<_}
 use native.Mathlib.Numerals.{add-one}
 use native.Mathlib.Omega.{arith}
 use borrow.Author.Tests.{lt-ltb, le-ltb}
 use lib.Dec.{ltb}
-use lib.ListN.{length, getD, drop, replicate, length-replicate}
-use lib.Seq.{sets, sets-eq}
+use lib.ListN.{length, getD, take, drop, replicate, length-drop, length-replicate}
+use lib.Seq.{sets, sets-eq, drop-drop, take-all, drop-at, take-take, take-append-le, take-set-le, length-take-le}
 use Rattle.theory.specs.Counting.{and-false}
 use Rattle.sets.specs.declared.Set.{Set}
 use Rattle.sets.specs.Sets.{capacity, inSet, emptyOf, setOf, loadSet, storeSet}
 use Rattle.sets.proofs.Laws.{in-setOf, build-none, build-no}
 use Rattle.register.specs.Register.{conflictAt}
 use Rattle.register.specs.Exchange.{conflict-at-sym, conflict-at-same}
-use Rattle.commands.specs.Book.{maxCommands, commandsOf, commandOf}
-use Rattle.conflicts.specs.Conflicts.{conflictIn, conflictRow, rowsFrom, conflictRows}
+use Rattle.commands.specs.Book.{maxCommands, commandsOf, commandOf, Placed}
+use Rattle.commands.proofs.Walk.{few-commands}
+use Rattle.conflicts.specs.Conflicts.{conflictIn, conflictRow, rowsFrom, conflictRows, rowsIn, Noted}
 
 swap : (x y a b : Bool) → a ≡ b → x && (y && a) ≡ y && (x && b)
 swap true true a b e = e
@@ -98,33 +99,79 @@ rows-filled s (suc k) zero m g h =
 rows-filled s (suc k) (suc n) m g h =
     ap (λ (t : List ℕ). conflictRow s m .bits ∷ t) (rows-filled s k n (suc m) (omega arith) (omega arith))
 
+-- Words with room for 64 rows after the places.
+room-for : (ws : List ℕ) {rows : List ℕ} → rowsIn ws ≡ rows → length rows ≡ maxCommands → length ws ≡ maxCommands + maxCommands
+room-for ws e h = omega (arith, ap length e, length-drop maxCommands ws)
+
+pub empty-room : (ws : List ℕ) → rowsIn ws ≡ replicate maxCommands 0 → length ws ≡ maxCommands + maxCommands
+empty-room ws e = room-for ws e (length-replicate {0} {A = ℕ} maxCommands 0)
+
 -- Of empty rows the first n are still to be written, where the book has n commands.
-pub rows-start : (s ws : List ℕ) (n : ℕ) → n ≡ length (commandsOf s) → n ≤ maxCommands → ws ≡ replicate maxCommands 0
-    → sets ws 0 (rowsFrom s (n - 0) 0) ≡ conflictRows s
+pub rows-start : (s ws : List ℕ) (n : ℕ) → n ≡ length (commandsOf s) → n ≤ maxCommands → rowsIn ws ≡ replicate maxCommands 0
+    → sets ws (maxCommands + 0) (rowsFrom s (n - 0) 0) ≡ take maxCommands ws ++ conflictRows s
 unfolding conflictRows
 rows-start s ws n e h w =
     let q : n - 0 ≡ n = omega arith in
-    let l : 0 + length (rowsFrom s n 0) ≡ n = omega (arith, length-rows s n 0) in
-    let z = length-replicate {0} {A = ℕ} maxCommands 0 in
-    (λ i. sets (w i) 0 (rowsFrom s (q i) 0))
-    ∙ sets-eq (rowsFrom s n 0) (replicate maxCommands 0) 0 (omega arith)
-    ∙ ap (λ (k : ℕ). rowsFrom s n 0 ++ drop k (replicate maxCommands 0)) l
-    ∙ rows-filled s maxCommands n 0 h (omega arith)
+    let l = length-rows s n 0 in
+    let z = empty-room ws w in
+    ap (λ (k : ℕ). sets ws maxCommands (rowsFrom s k 0)) q
+    ∙ sets-eq (rowsFrom s n 0) ws maxCommands (omega arith)
+    ∙ append-assoc (take maxCommands ws) (rowsFrom s n 0) (drop (maxCommands + length (rowsFrom s n 0)) ws)
+    ∙ ap (λ (k : ℕ). take maxCommands ws ++ (rowsFrom s n 0 ++ drop (maxCommands + k) ws)) l
+    ∙ ap (λ (t : List ℕ). take maxCommands ws ++ (rowsFrom s n 0 ++ t)) (sym (drop-drop n maxCommands ws) ∙ ap (drop n) w)
+    ∙ ap (λ (t : List ℕ). take maxCommands ws ++ t) (rows-filled s maxCommands n 0 h (omega arith))
 
-pub rows-more : (s ws : List ℕ) (n m : ℕ) {r : Set} {ws₁ : List ℕ} → m < n → r ≡ conflictRow s m → ws₁ ≡ storeSet ws m r → sets ws m (rowsFrom s (n - m) m) ≡ conflictRows s
-    → sets ws₁ (m + 1) (rowsFrom s (n - (m + 1)) (m + 1)) ≡ conflictRows s
-unfolding rowsFrom
-rows-more s ws n m {ws₁ = ws₁} h e es w =
-    let q : suc (n - (m + 1)) ≡ n - m = omega arith in
-    ap (λ (k : ℕ). sets ws₁ k (rowsFrom s (n - (m + 1)) k)) (add-one m)
-    ∙ ap (λ (l : List ℕ). sets l (suc m) (rowsFrom s (n - (m + 1)) (suc m))) (es ∙ ap (storeSet ws m) e)
-    ∙ ap (λ (k : ℕ). sets ws m (rowsFrom s k m)) q
-    ∙ w
+module _ (s ws end : List ℕ) (n m : ℕ) where
+  pub rows-more : {r : Set} {ws₁ : List ℕ} → m < n → r ≡ conflictRow s m → ws₁ ≡ storeSet ws (maxCommands + m) r → sets ws (maxCommands + m) (rowsFrom s (n - m) m) ≡ end
+      → sets ws₁ (maxCommands + (m + 1)) (rowsFrom s (n - (m + 1)) (m + 1)) ≡ end
+  unfolding rowsFrom
+  rows-more {ws₁ = ws₁} h e es w =
+      let q : suc (n - (m + 1)) ≡ n - m = omega arith in
+      let p : maxCommands + (m + 1) ≡ suc (maxCommands + m) = omega arith in
+      (λ i. sets ws₁ (p i) (rowsFrom s (n - (m + 1)) (add-one m i)))
+      ∙ ap (λ (l : List ℕ). sets l (suc (maxCommands + m)) (rowsFrom s (n - (m + 1)) (suc m))) (es ∙ ap (storeSet ws (maxCommands + m)) e)
+      ∙ ap (λ (k : ℕ). sets ws (maxCommands + m) (rowsFrom s k m)) q
+      ∙ w
 
-pub rows-end : (s ws : List ℕ) (n m : ℕ) → n ≤ m → sets ws m (rowsFrom s (n - m) m) ≡ conflictRows s → ws ≡ conflictRows s
-unfolding rowsFrom
-rows-end s ws n m h w =
-    let q : 0 ≡ n - m = omega arith in ap (λ (k : ℕ). sets ws m (rowsFrom s k m)) q ∙ w
+  pub rows-end : n ≤ m → sets ws (maxCommands + m) (rowsFrom s (n - m) m) ≡ end → ws ≡ end
+  unfolding rowsFrom
+  rows-end h w = let q : 0 ≡ n - m = omega arith in ap (λ (k : ℕ). sets ws (maxCommands + m) (rowsFrom s k m)) q ∙ w
+
+-- A row that is written leaves the places.
+pub still-placed : (s ws : List ℕ) (m : ℕ) (r : Set) {ws₁ : List ℕ} → ws₁ ≡ storeSet ws (maxCommands + m) r → Placed s ws → Placed s ws₁
+still-placed s ws m r e h =
+    ap (take (length (commandsOf s))) e ∙ take-set-le (length (commandsOf s)) ws (maxCommands + m) (r .bits) (omega (arith, few-commands s)) ∙ h
+
+-- ---- for a caller
+
+-- Words in which nothing is noted yet.
+abbrev pub noneNoted : List ℕ
+noneNoted = replicate {A = ℕ} (maxCommands + maxCommands) 0
+
+-- After the places the rows are noted too.
+pub all-noted : (s ws : List ℕ) {after : List ℕ} → rowsIn ws ≡ replicate maxCommands 0 → Placed s ws → after ≡ take maxCommands ws ++ conflictRows s → Noted s after
+all-noted s ws w h e =
+    let l = length-take-le maxCommands ws (omega (arith, empty-room ws w)) in
+    let f = few-commands s in
+    record {
+      places =
+          ap (take (length (commandsOf s))) e
+          ∙ take-append-le (length (commandsOf s)) (take maxCommands ws) (conflictRows s) (omega arith)
+          ∙ take-take (length (commandsOf s)) maxCommands ws f
+          ∙ h;
+      rows = ap rowsIn e ∙ drop-at (take maxCommands ws) (conflictRows s) maxCommands l;
+    }
+
+-- Where the rows are noted, they are all words from the 64th on.
+module _ (s ws : List ℕ) (e : rowsIn ws ≡ conflictRows s) where
+  pub rows-room : length ws ≡ maxCommands + maxCommands
+  rows-room = room-for ws e (rows-size s)
+
+  pub rows-part : (k : ℕ) → maxCommands ≤ k → take k (rowsIn ws) ≡ rowsIn ws
+  rows-part k h = take-all k (rowsIn ws) (omega (arith, ap length e, rows-size s))
+
+  pub rows-rest : take (length ws - maxCommands) (rowsIn ws) ≡ rowsIn ws
+  rows-rest = rows-part (length ws - maxCommands) (omega (arith, rows-room))
 
 row-at : (s : List ℕ) (n j m : ℕ) → m < n → getD (rowsFrom s n j) m 0 ≡ conflictRow s (j + m) .bits
 unfolding rowsFrom

@@ -5,14 +5,14 @@ use mathlib.Core.Bool.{Bool, true, _&&_}
 use mathlib.Core.List.{List, [], _∷_}
 use Prim.Native.Nat.{ℕ, zero, suc, _+_, _*_, _<_}
 use lib.Dec.{eqb, ltb}
-use lib.ListN.{length}
+use lib.ListN.{length, drop}
 use Rattle.theory.specs.Sets.{pick}
 use Rattle.sets.specs.declared.Set.{Set}
 use Rattle.sets.specs.Sets.{capacity, setOf, withOf, withoutOf, loadSet, storeSet}
 use Rattle.register.specs.declared.Command.{Command}
 use Rattle.register.specs.declared.Command.the-variants.{Add, Fit, Read, Trim}
 use Rattle.register.specs.Register.{bikes, bikeOf, isAdd, isRead, conflictAt}
-use Rattle.commands.specs.Book.{maxCommands, commandsOf, commandOf}
+use Rattle.commands.specs.Book.{maxCommands, commandsOf, commandOf, Placed}
 
 -- The commands at two places conflict: both are in the book, the places differ, and the commands conflict.
 unfoldable pub conflictIn : List ℕ → ℕ → ℕ → Bool
@@ -30,6 +30,15 @@ rowsFrom s (suc n) m = conflictRow s m .bits ∷ rowsFrom s n (suc m)
 -- The words of all 64 rows.
 unfoldable pub conflictRows : List ℕ → List ℕ
 conflictRows s = rowsFrom s maxCommands 0
+
+-- The rows in the words noted of a book: they come after 64 words for the places of its commands.
+abbrev pub rowsIn : List ℕ → List ℕ
+rowsIn noted = drop maxCommands noted
+
+-- The places of a book's commands and the rows of conflicts are noted.
+pub record Noted (book noted : List ℕ) : Type 0 where
+  pub places : Placed book noted
+  pub rows : rowsIn noted ≡ conflictRows book
 
 -- ---- how they are found: commands gathered by bike
 

@@ -1,14 +1,18 @@
 // Which commands of a book conflict: for each command the set of those that conflict with it.
 ghost use mathlib.Core.Path.{_≡_};
 ghost use Prim.Native.Nat.{_*_, _<_};
-ghost use lib.ListN.{length, replicate};
+ghost use mathlib.Core.List.{_++_};
+ghost use lib.ListN.{length, take, replicate};
 ghost use Rattle.sets.specs.Sets.{capacity};
 ghost use Rattle.register.specs.Register.{bikes, bikeOf};
 ghost use Rattle.commands.specs.Book.{maxCommands, commandsOf, Placed};
-ghost use Rattle.conflicts.specs.Conflicts.{conflictRow, conflictRows, bikeSets, withNoted, Joined, Gathered, opposedOf};
+ghost use Rattle.conflicts.specs.Conflicts.{conflictRow, conflictRows, rowsIn, bikeSets, withNoted, Joined, Gathered, opposedOf};
 use register::Bike;
 use register::Command;
 use sets::Set;
+
+// The words for what is noted of a book: the places of its commands, then the rows.
+pub const NOTED: usize = 2 * commands::MAX_COMMANDS;
 
 // The sets of a bike: all its commands, its ADDs, its READs.
 const SETS: usize = 3;
@@ -89,25 +93,26 @@ fn row(book: &[u8], places: &[u64], m: usize, sets: &[u64]) -> Set
     opposed(sets, command).without(itself)
 }
 
-// The rows of the n commands. All rows are empty before, and those past the commands stay so.
-fn fill_rows(book: &[u8], places: &[u64], n: usize, sets: &[u64], rows: &mut [u64])
-    requires { ⌜ (now rows ≡ replicate maxCommands 0) × (n ≡ length (commandsOf (now book)))
-        × Placed (now book) (now places) × Gathered (now book) n (now sets) ⌝ }
-    ensures { λ _. ⌜ now (rows .exit) ≡ conflictRows (now (book .entry)) ⌝ }
+// The rows of the n commands are noted. All rows are empty before, and those past the commands stay so.
+fn fill_rows(book: &[u8], n: usize, sets: &[u64], noted: &mut [u64])
+    requires { ⌜ (rowsIn (now noted) ≡ replicate maxCommands 0) × (n ≡ length (commandsOf (now book)))
+        × Placed (now book) (now noted) × Gathered (now book) n (now sets) ⌝ }
+    ensures { λ _. ⌜ now (noted .exit) ≡ take maxCommands (now (noted .entry)) ++ conflictRows (now (book .entry)) ⌝ }
 {
     let mut m: usize = 0;
     while m < n {
-        row(book, places, m, sets).store(rows, m);
+        let found = row(book, &noted[..], m, sets);
+        found.store(noted, commands::MAX_COMMANDS + m);
         m += 1;
     }
 }
 
-// The rows of all command numbers, from the noted places of the n commands. All rows are empty before.
-pub fn conflict_rows(book: &[u8], places: &[u64], n: usize, rows: &mut [u64])
-    requires { ⌜ (now rows ≡ replicate maxCommands 0) × (n ≡ length (commandsOf (now book))) × Placed (now book) (now places) ⌝ }
-    ensures { λ _. ⌜ now (rows .exit) ≡ conflictRows (now (book .entry)) ⌝ }
+// The rows of all command numbers are noted, after the places of the n commands. All rows are empty before.
+pub fn conflict_rows(book: &[u8], n: usize, noted: &mut [u64])
+    requires { ⌜ (rowsIn (now noted) ≡ replicate maxCommands 0) × (n ≡ length (commandsOf (now book))) × Placed (now book) (now noted) ⌝ }
+    ensures { λ _. ⌜ now (noted .exit) ≡ take maxCommands (now (noted .entry)) ++ conflictRows (now (book .entry)) ⌝ }
 {
     let mut sets = [0u64; SETS * Bike::COUNT];
-    gather(book, places, n, &mut sets);
-    fill_rows(book, places, n, &sets, rows);
+    gather(book, &noted[..], n, &mut sets);
+    fill_rows(book, n, &sets, noted);
 }

@@ -3,10 +3,10 @@
 use mathlib.Core.Path.{_≡_, refl, sym, ap, subst, _∙_}
 use mathlib.Core.Bool.{Bool, true, false}
 use mathlib.Core.List.{List, _++_}
-use Prim.Native.Nat.{ℕ, _*_, _/_, _≤_, _<_}
+use Prim.Native.Nat.{ℕ, _+_, _*_, _/_, _≤_, _<_}
 use native.Mathlib.Omega.{arith}
 use lib.Dec.{leb, ltb}
-use lib.ListN.{length, take, drop, getD}
+use lib.ListN.{length, take, drop, getD, replicate}
 use borrow.Author.Tests.{lt-ltb, le-ltb}
 use Rattle.theory.specs.Counting.{left, all-at}
 use Rattle.refusals.specs.declared.Refusal.{Refusal}
@@ -17,7 +17,8 @@ use Rattle.table.specs.declared.Rules.{Rules}
 use Rattle.table.specs.declared.SiteTable.{SiteTable}
 use Rattle.table.specs.Table.{isGood}
 use Rattle.commands.specs.Book.{maxCommands, commandsOf, Placed}
-use Rattle.conflicts.specs.Conflicts.{conflictRows}
+use Rattle.conflicts.specs.Conflicts.{conflictRows, rowsIn, Noted}
+use Rattle.conflicts.proofs.Laws.{noneNoted, all-noted}
 use Rattle.protocol.specs.System.{_else_⨾_, verdict}
 use Rattle.protocol.specs.Recovery as recovery
 use Rattle.protocol.specs.Site as protocol
@@ -39,7 +40,7 @@ use Rattle.judging.specs.declared.Judgement.{Judgement}
 use Rattle.judging.specs.declared.Judgement.the-variants as judgement
 use Rattle.judging.specs.Judging.{tableOf, systemOf, spanIn, siteIn, withSite, rulesOf, judgedAs, numberIn, forSite, forSiteAndLog, placesAfter}
 use Rattle.judging.proofs.Demands.{then-taken, then-refused, answered-refused}
-use Rattle.judging.proofs.Laws.{Judged, JudgedLog, site-judged, log-judged, site-noted, log-noted, good-taken, good-code, good-rules, refused-code}
+use Rattle.judging.proofs.Laws.{Judged, JudgedLog, site-judged, log-judged, site-noted, log-noted, past-places, good-taken, good-code, good-rules, refused-code}
 use Rattle.judging.proofs.Steps.{carried}
 use Rattle.delivering.specs.Delivering.{fastDeliveryCall, roundEndCall}
 
@@ -163,17 +164,24 @@ module _ (n f : ℕ) (book site log : List ℕ) {j : Judgement}
     ruled : x ≡ rulesOf n f book
     ruled = good-taken (verdict (forSiteAndLog n f book true site log)) (rulesOf n f book) e h .1
 
-    pub end-ready : (places : List ℕ) {after : List ℕ} → maxCommands ≤ length places → after ≡ placesAfter n f book (leb siteSize (length site)) places
-        → Good (x .table .sites) (x .commands) (take siteSize site) × (isGood (x .table) ≡ true) × Placed book after × (length (commandsOf book) ≡ x .commands)
-        × (headOf (take siteSize site) .position ≤ length log / entrySize) × (goodTo log (x .table .sites) (x .commands) (headOf (take siteSize site) .position) ≡ true)
-    end-ready places room en = (
-      subst (λ (y : Rules). Good (y .table .sites) (y .commands) (take siteSize site)) (sym ruled) (judged-log .0 .good),
-      subst (λ (y : Rules). isGood (y .table) ≡ true) (sym ruled) (judged-log .0 .table),
-      log-noted n f book true site places room en log end-code refl,
-      sym (ap (λ (y : Rules). y .commands) ruled),
-      judged-log .1 .position,
-      subst (λ (y : Rules). goodTo log (y .table .sites) (y .commands) (headOf (take siteSize site) .position) ≡ true) (sym ruled) (judged-log .1 .before),
-    )
+    module _ {after : List ℕ} (w : after ≡ placesAfter n f book (leb siteSize (length site)) noneNoted) where
+      -- The commands are counted and their places noted, and no row yet.
+      pub end-placed : (rowsIn after ≡ replicate maxCommands 0) × (x .commands ≡ length (commandsOf book)) × Placed book after
+      end-placed =
+          let room : maxCommands ≤ maxCommands + maxCommands = omega arith in
+          (past-places n f book true site noneNoted room w, ap (λ (y : Rules). y .commands) ruled, log-noted n f book true site noneNoted room w log end-code refl)
+
+      pub end-ready : {noted : List ℕ} → noted ≡ take maxCommands after ++ conflictRows book
+          → Good (x .table .sites) (x .commands) (take siteSize site) × (isGood (x .table) ≡ true) × Noted book noted × (length (commandsOf book) ≡ x .commands)
+          × (headOf (take siteSize site) .position ≤ length log / entrySize) × (goodTo log (x .table .sites) (x .commands) (headOf (take siteSize site) .position) ≡ true)
+      end-ready en = (
+        subst (λ (y : Rules). Good (y .table .sites) (y .commands) (take siteSize site)) (sym ruled) (judged-log .0 .good),
+        subst (λ (y : Rules). isGood (y .table) ≡ true) (sym ruled) (judged-log .0 .table),
+        all-noted book after (end-placed .0) (end-placed .2) en,
+        sym (end-placed .1),
+        judged-log .1 .position,
+        subst (λ (y : Rules). goodTo log (y .table .sites) (y .commands) (headOf (take siteSize site) .position) ≡ true) (sym ruled) (judged-log .1 .before),
+      )
 
     pub end-done : ((i : ℕ) → getD site i 0 < 256) → {r : Verdict} {b : List ℕ} {number : ℕ}
         → EndedBy (x .table) (commandsOf book) (logOf log) (take siteSize site) r b → number ≡ codeOf r → outcome number (b ++ drop siteSize site) ≡ roundEndCall n f book site log

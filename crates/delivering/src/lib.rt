@@ -4,7 +4,8 @@ ghost use mathlib.Core.Bool.{true};
 ghost use Prim.Native.Nat.{_/_, _≤_};
 ghost use lib.ListN.{length};
 ghost use Rattle.table.specs.Table.{isGood};
-ghost use Rattle.commands.specs.Book.{commandsOf, Placed};
+ghost use Rattle.commands.specs.Book.{commandsOf};
+ghost use Rattle.conflicts.specs.Conflicts.{Noted};
 ghost use Rattle.entries.specs.Entries.{entrySize, logOf, goodTo};
 ghost use Rattle.layout.specs.Layout.{headOf};
 ghost use Rattle.layout.specs.Good.{Good};
@@ -49,39 +50,31 @@ pub fn fast_delivery(
 }
 
 // The round ends as the entries that the site has read decide it, or the step is refused.
-fn end_round(site: &mut [u8], rules: Rules, book: &[u8], places: &[u64], log: &[u8]) -> Verdict
-    requires { ⌜ Good (rules .table .sites) (rules .commands) (now site) × (isGood (rules .table) ≡ true) × Placed (now book) (now places) × (length (commandsOf (now book)) ≡ rules .commands)
+fn end_round(site: &mut [u8], rules: Rules, book: &[u8], noted: &[u64], log: &[u8]) -> Verdict
+    requires { ⌜ Good (rules .table .sites) (rules .commands) (now site) × (isGood (rules .table) ≡ true) × Noted (now book) (now noted) × (length (commandsOf (now book)) ≡ rules .commands)
         × (headOf (now site) .position ≤ length (now log) / entrySize)
         × (goodTo (now log) (rules .table .sites) (rules .commands) (headOf (now site) .position) ≡ true) ⌝ }
     ensures { λ r. ⌜ EndedBy (rules .table) (commandsOf (now (book .entry))) (logOf (now (log .entry))) (now (site .entry)) r (now (site .exit)) ⌝ }
 {
     let table = rules.table;
     let commands = rules.commands;
-    let mut rows = [0u64; commands::MAX_COMMANDS];
-    conflicts::conflict_rows(book, places, commands, &mut rows);
     let position = judging::position_of(&site[..]);
     let round = layout::round(&site[..]) as usize;
-    let decision = recovery::decide(log, position, round, table, &rows);
-    ending::round_end(site, book, places, commands, decision)
+    let rows = &noted[commands::MAX_COMMANDS..];
+    let decision = recovery::decide(log, position, round, table, rows);
+    ending::round_end(site, book, noted, commands, decision)
 }
 
 // Ends the round of a waiting site.
 pub fn round_end(sites: usize, faults: usize, book: &[u8], site: &mut [u8], log: &[u8]) -> u32
     ensures { λ r. ⌜ outcome r (now (site .exit)) ≡ roundEndCall sites faults (now (book .entry)) (now (site .entry)) (now (log .entry)) ⌝ }
 {
-    let mut places = [0u64; commands::MAX_COMMANDS];
-    let judged = judging::judge_site_and_log(
-        true,
-        sites,
-        faults,
-        book,
-        &site[..],
-        log,
-        &mut places,
-    );
+    let mut noted = [0u64; conflicts::NOTED];
+    let judged = judging::judge_site_and_log(true, sites, faults, book, &site[..], log, &mut noted);
     let Judgement::Good(rules) = judged else {
         return judging::number(judged);
     };
-    let verdict = end_round(&mut site[..Site::SIZE], rules, book, &places, log);
+    conflicts::conflict_rows(book, rules.commands, &mut noted);
+    let verdict = end_round(&mut site[..Site::SIZE], rules, book, &noted, log);
     refusals::code(verdict)
 }

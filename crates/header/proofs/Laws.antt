@@ -22,7 +22,7 @@ use Rattle.register.specs.declared.Command.{Command}
 use Rattle.commands.specs.Book.{maxCommands, readUpTo, verdictOf, judgeBook, commandsOf, measureBook, Placed, notedPlaces}
 use Rattle.commands.specs.declared.Measured.the-variants.{Commands, Unreadable}
 use Rattle.commands.proofs.Walk.{is-counted, not-counted, taken-counted}
-use Rattle.commands.proofs.Noting.{note-noted}
+use Rattle.commands.proofs.Noting.{note-noted, past-noted}
 use Rattle.theory.specs.Sets.{pick}
 use lib.Seq.{sets}
 use Rattle.wire.proofs.Laws.{part-all}
@@ -218,3 +218,8 @@ module _ (run : List ℕ) where
   places-noted p h room e =
       let f = header-first (leb (length run) maxRun) (leb headerSize (length run)) (isGood (tableOf run)) (leb (headerSize + bookSize run) (length run)) (judgeBook (bookOf run)) h in
       note-noted (bookOf run) p room (taken-counted (bookOf run) (sound run h .book)) (e ∙ ap (λ (v : Verdict). pick (isTaken v) (sets p 0 (notedPlaces (bookOf run))) p) f)
+
+  -- What is past the places is as it was.
+  pub past-places : (p : List ℕ) {q : List ℕ} → q ≡ placesAfter run p → drop maxCommands q ≡ drop maxCommands p
+  unfolding placesAfter
+  past-places p e = ap (drop {A = ℕ} maxCommands) e ∙ past-noted (isTaken (verdict (forHeader run))) (bookOf run) p

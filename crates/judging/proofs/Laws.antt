@@ -6,7 +6,7 @@ use mathlib.Core.List.{List}
 use Prim.Native.Nat.{ℕ, _*_, _/_, _%_, _≤_}
 use native.Mathlib.Omega.{arith}
 use lib.Dec.{leb}
-use lib.ListN.{length, take, length-take, replicate}
+use lib.ListN.{length, take, drop, length-take, replicate}
 use borrow.Author.Tests.{leb-true, eqb-true, eq-eqb, ne-eqb}
 use lib.Seq.{sets}
 use Rattle.theory.specs.Sets.{pick}
@@ -26,7 +26,7 @@ use Rattle.table.proofs.Laws.{limits, judged-good, judged-refused}
 use Rattle.commands.specs.declared.Measured.{Measured}
 use Rattle.commands.specs.declared.Measured.the-variants.{Commands, Unreadable}
 use Rattle.commands.specs.Book.{maxCommands, commandsOf, Placed, judgeBook, measureBook, notedPlaces}
-use Rattle.commands.proofs.Noting.{note-noted}
+use Rattle.commands.proofs.Noting.{note-noted, past-noted}
 use Rattle.commands.proofs.Walk.{is-counted, not-counted}
 use Rattle.protocol.specs.System.{Demands, granted, _else_⨾_, verdict}
 use Rattle.entries.specs.Entries.{entrySize, goodTo}
@@ -37,7 +37,7 @@ use Rattle.lent.proofs.Judged.{site-good}
 use Rattle.judging.specs.Outcomes.{_then_}
 use Rattle.judging.specs.declared.Judgement.{Judgement}
 use Rattle.judging.specs.declared.Judgement.the-variants as judgement
-use Rattle.judging.specs.Judging.{tableOf, anyPosition, entriesIn, isWhole, rulesOf, judgedAs, numberIn, forTable, forBook, forRules, forSite, forSiteAndLog, placesAfter}
+use Rattle.judging.specs.Judging.{tableOf, anyPosition, entriesIn, isWhole, rulesOf, judgedAs, numberIn, forTable, forBook, forFirst, forRules, forSite, forSiteAndLog, placesAfter}
 use Rattle.judging.proofs.Demands.{Met, met, then-taken}
 
 -- The first bytes of a buffer that is long enough.
@@ -300,3 +300,7 @@ module _ (n f : ℕ) (book : List ℕ) (enough : Bool) (site places : List ℕ) 
 
   pub log-noted : (log : List ℕ) {k : ℕ} → k ≡ codeOf (verdict (forSiteAndLog n f book enough site log)) → k ≡ 0 → Placed book after
   log-noted log q z = noted (met (forSiteAndLog n f book enough site log) q z .0) (log-judged n f book enough site log q z .1)
+
+  -- What is past the places is as it was.
+  pub past-places : drop maxCommands after ≡ drop maxCommands places
+  past-places = ap (drop {A = ℕ} maxCommands) e ∙ past-noted (isTaken (verdict (forFirst n f (enough && leb siteSize (length site))))) book places

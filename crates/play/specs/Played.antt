@@ -9,8 +9,8 @@ use Rattle.table.specs.declared.SiteTable.{SiteTable}
 use Rattle.table.specs.declared.Rules.{Rules}
 use Rattle.table.specs.Table.{maxSites, isGood}
 use Rattle.register.specs.declared.Command.{Command}
-use Rattle.commands.specs.Book.{commandsOf, Placed}
-use Rattle.conflicts.specs.Conflicts.{conflictRows}
+use Rattle.commands.specs.Book.{commandsOf}
+use Rattle.conflicts.specs.Conflicts.{Noted}
 use Rattle.protocol.specs.World.{World, start}
 use Rattle.system.specs.Dash.{dash, lastRound}
 use Rattle.print.specs.Print.{Wrote}
@@ -34,12 +34,11 @@ abbrev pub logRoom : ℕ
 logRoom = maxSites * (lastRound * 2) + 1
 
 -- Buffers at the start of a run, with room for what the steps of the run write.
-pub record Playable (rules : Rules) (book places rows steps out : List ℕ) (from : ℕ) (b : Buffers) : Type 0 where
+pub record Playable (rules : Rules) (book words steps out : List ℕ) (from : ℕ) (b : Buffers) : Type 0 where
   pub good : isGood (rules .table) ≡ true
   pub short : length steps < maxRun
   pub log : logRoom * entrySize ≤ length (b .log)
-  pub noted : Placed book places
-  pub conflicts : rows ≡ conflictRows book
+  pub noted : Noted book words
   pub counted : length (commandsOf book) ≡ rules .commands
   pub room : from + linesRoom ≤ length out
   pub world : HoldsWorld (rules .table) (commandsOf book) b (start (dash (rules .table) (commandsOf book)))

@@ -2,6 +2,7 @@
 ghost use Prim.Native.Nat.{_+_, _≤_, _<_};
 ghost use lib.ListN.{length};
 ghost use Rattle.commands.specs.Book.{commandsOf};
+ghost use Rattle.conflicts.specs.Conflicts.{rowsIn};
 ghost use Rattle.print.specs.Print.{Wrote};
 ghost use Rattle.runs.specs.Run as runs;
 ghost use Rattle.rounds.specs.Rounds.{entriesIn, Kept};
@@ -33,14 +34,13 @@ fn play_on(
     kept: &mut [u64],
     rules: Rules,
     book: &[u8],
-    places: &[u64],
-    rows: &[u64],
+    noted: &[u64],
     steps: &[u8],
     out: &mut [u8],
     from: usize,
 ) -> usize
-    requires { ⌜ Playable rules (now book) (now places) (now rows) (now steps) (now out) from (lent (now sites) (now log) (entriesIn (now kept)) (now sent))
-        × Kept (rules .table) (now rows) (now log) (now kept) ⌝ }
+    requires { ⌜ Playable rules (now book) (now noted) (now steps) (now out) from (lent (now sites) (now log) (entriesIn (now kept)) (now sent))
+        × Kept (rules .table) (rowsIn (now noted)) (now log) (now kept) ⌝ }
     ensures { λ r. ⌜ PlayedAll (rules .table) (commandsOf (now (book .entry))) (now (steps .entry)) (now (out .entry)) (now (out .exit)) from r (now (sites .entry))
         (now (sites .exit)) (now (log .exit)) (now (sent .exit)) ⌝ }
 {
@@ -53,7 +53,7 @@ fn play_on(
             return report(out, end, number, Verdict::Refused(Refusal::Form));
         };
         let size = steps::size(step);
-        let verdict = stepping::step(sites, log, sent, kept, rules, book, places, rows, step);
+        let verdict = stepping::step(sites, log, sent, kept, rules, book, noted, step);
         end = report(out, end, number, verdict);
         at += size;
         number += 1;
@@ -68,13 +68,12 @@ pub fn play_steps(
     sent: &mut [u8],
     rules: Rules,
     book: &[u8],
-    places: &[u64],
-    rows: &[u64],
+    noted: &[u64],
     steps: &[u8],
     out: &mut [u8],
     from: usize,
 ) -> usize
-    requires { ⌜ Playable rules (now book) (now places) (now rows) (now steps) (now out) from (lent (now sites) (now log) 0 (now sent)) ⌝ }
+    requires { ⌜ Playable rules (now book) (now noted) (now steps) (now out) from (lent (now sites) (now log) 0 (now sent)) ⌝ }
     ensures { λ r. ⌜ PlayedAll (rules .table) (commandsOf (now (book .entry))) (now (steps .entry)) (now (out .entry)) (now (out .exit)) from r (now (sites .entry))
         (now (sites .exit)) (now (log .exit)) (now (sent .exit)) ⌝ }
 {
@@ -86,8 +85,7 @@ pub fn play_steps(
         &mut kept,
         rules,
         book,
-        places,
-        rows,
+        noted,
         steps,
         out,
         from,

@@ -7,7 +7,7 @@ use Prim.Native.Nat.{ℕ, _+_, _*_, _-_, _≤_, _<_}
 use native.Mathlib.Omega.{arith}
 use borrow.Author.Tests.{leb-true}
 use lib.Dec.{leb}
-use lib.ListN.{length, take, drop, length-take, length-drop, length-append}
+use lib.ListN.{length, take, drop, replicate, length-take, length-drop, length-append}
 use lib.Seq.{length-take-le, take-at, drop-at}
 use Rattle.refusals.specs.Refusals.{numberOf, isTaken}
 use Rattle.refusals.specs.declared.Refusal.{Refusal}
@@ -21,6 +21,8 @@ use Rattle.table.proofs.Laws.{good-limits, good-few}
 use Rattle.register.specs.declared.Command.{Command}
 use Rattle.commands.specs.Book.{maxCommands, commandsOf, Placed}
 use Rattle.commands.proofs.Walk.{few-commands}
+use Rattle.conflicts.specs.Conflicts.{rowsIn}
+use Rattle.conflicts.proofs.Laws.{noneNoted}
 use Rattle.protocol.specs.System.{verdict}
 use Rattle.protocol.specs.World.{World, start}
 use Rattle.system.specs.Dash.{dash}
@@ -33,7 +35,7 @@ use Rattle.lines.proofs.Laws.{run-short}
 use Rattle.header.specs.declared.Run.{Run}
 use Rattle.header.specs.declared.Opened.the-variants as opened
 use Rattle.header.specs.Header.{judgeRun, placesAfter}
-use Rattle.header.proofs.Laws.{Sound, judged-taken, places-noted}
+use Rattle.header.proofs.Laws.{Sound, judged-taken, places-noted, past-places}
 use Rattle.runs.specs.Run.{maxRun, headerSize, bookSize, tableOf, bookOf, stepBytes, forRun, siteLines, played, printAs, printOf}
 use Rattle.layout.specs.Layout.{siteAt, siteSize, spanPlace}
 use Rattle.world.specs.World.{Buffers, HoldsWorld}
@@ -128,13 +130,14 @@ module _ (run : List ℕ) where
   print-taken {s} {after} {end} e et eb es w =
       subst (λ (l : List ℕ). Wrote after end s 0 l) ((λ i. played (et i) (commandsOf (eb i)) (stepsOf (es i))) ∙ sym (ap (printAs run) e)) w
 
--- The part that is the book of a run that is taken: its commands are counted, and their places noted.
-pub noted-part : (run p : List ℕ) {b q : List ℕ} {n : Run} → b ≡ bookOf run → opened.Good n ≡ judgeRun run → q ≡ placesAfter run p → maxCommands ≤ length p
-    → (n .rules .commands ≡ length (commandsOf b)) × Placed b q
-noted-part run p {b} {q} e o w h =
+-- The part that is the book of a run that is taken: its commands are counted and their places noted, and no row yet.
+pub placed-part : (run : List ℕ) {b q : List ℕ} {n : Run} → b ≡ bookOf run → opened.Good n ≡ judgeRun run → q ≡ placesAfter run noneNoted
+    → (rowsIn q ≡ replicate maxCommands 0) × (n .rules .commands ≡ length (commandsOf b)) × Placed b q
+placed-part run {b} {q} e o w =
     let j = judged-taken run o in (
+      past-places run noneNoted w,
       ap (λ (r : Run). r .rules .commands) (j .1) ∙ ap (λ (l : List ℕ). length (commandsOf l)) (sym e),
-      subst (λ (l : List ℕ). Placed l q) (sym e) (places-noted run p (j .0) h w),
+      subst (λ (l : List ℕ). Placed l q) (sym e) (places-noted run noneNoted (j .0) (omega arith) w),
     )
 
 -- ---- what the call answers

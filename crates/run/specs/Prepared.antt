@@ -7,8 +7,6 @@ use Prim.Native.Nat.{ℕ, _*_, _≤_, _<_}
 use lib.ListN.{length}
 use Rattle.table.specs.declared.SiteTable.{SiteTable}
 use Rattle.table.specs.Table.{isGood}
-use Rattle.commands.specs.Book.{commandsOf, Placed}
-use Rattle.conflicts.specs.Conflicts.{conflictRows}
 use Rattle.runs.specs.Run.{maxRun}
 use Rattle.layout.specs.Layout.{siteSize}
 use Rattle.sent.specs.Sent.{sentSize}
@@ -31,9 +29,3 @@ pub record Sized (t : SiteTable) (w : Working) : Type 0 where
   pub sites : length (w .sites) ≡ t .sites * siteSize
   pub log : length (w .log) ≡ logBytes
   pub sent : length (w .sent) ≡ sentSize
-
--- The places of a book's n commands, and which of them conflict.
-pub record Noted (book p r : List ℕ) (n : ℕ) : Type 0 where
-  pub count : n ≡ length (commandsOf book)
-  pub places : Placed book p
-  pub rows : r ≡ conflictRows book

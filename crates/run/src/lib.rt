@@ -1,14 +1,15 @@
 // A run in bytes, played on lent working memory, and what it prints into a lent buffer.
 ghost use mathlib.Core.Path.{_≡_};
 ghost use lib.ListN.{length};
-ghost use Rattle.commands.specs.Book.{commandsOf, Placed};
+ghost use Rattle.commands.specs.Book.{commandsOf};
+ghost use Rattle.conflicts.specs.Conflicts.{Noted};
 ghost use Rattle.print.specs.Print.{Wrote};
 ghost use Rattle.steps.specs.Steps.{stepsOf};
 ghost use Rattle.runs.specs.Run.{played};
 ghost use Rattle.run.specs.Ran.{working, hasRoom, ran, runOf};
 ghost use Rattle.play.specs.Played.{HoldsLast};
 ghost use Rattle.run.specs.Left.{PastLeft, Worked, Left};
-ghost use Rattle.run.specs.Prepared.{Playable, Roomy, Sized, Noted};
+ghost use Rattle.run.specs.Prepared.{Playable, Roomy, Sized};
 use header::Opened;
 use layout::Site;
 use table::Rules;
@@ -32,12 +33,12 @@ fn print_on(
     sent: &mut [u8],
     rules: Rules,
     book: &[u8],
-    places: &[u64],
-    rows: &[u64],
+    noted: &[u64],
     steps: &[u8],
     out: &mut [u8],
 ) -> usize
-    requires { ⌜ Playable (rules .table) (now steps) (now out) × Sized (rules .table) (working (now sites) (now log) (now sent)) × Noted (now book) (now places) (now rows) (rules .commands) ⌝ }
+    requires { ⌜ Playable (rules .table) (now steps) (now out) × Sized (rules .table) (working (now sites) (now log) (now sent)) × Noted (now book) (now noted)
+        × (rules .commands ≡ length (commandsOf (now book))) ⌝ }
     ensures { λ r. ⌜ Wrote (now (out .exit)) r (now (out .entry)) 0 (played (rules .table) (commandsOf (now (book .entry))) (stepsOf (now (steps .entry))))
         × HoldsLast (rules .table) (commandsOf (now (book .entry))) (stepsOf (now (steps .entry))) (now (sites .exit)) (now (log .exit)) (now (sent .exit))
         × PastLeft (rules .table) (now (sites .entry)) (now (sites .exit)) ⌝ }
@@ -46,18 +47,7 @@ fn print_on(
     world::start(sites, sent, table);
     let faulty = table.faulty_count();
     let first = lines::put_run_line(out, 0, table.sites, faulty, rules.commands);
-    let end = play::play_steps(
-        sites,
-        log,
-        sent,
-        rules,
-        book,
-        places,
-        rows,
-        steps,
-        out,
-        first,
-    );
+    let end = play::play_steps(sites, log, sent, rules, book, noted, steps, out, first);
     report::put_site_lines(out, end, &sites[..], table)
 }
 
@@ -68,12 +58,12 @@ fn print_in(
     sent: &mut [u8],
     rules: Rules,
     book: &[u8],
-    places: &[u64],
-    rows: &[u64],
+    noted: &[u64],
     steps: &[u8],
     out: &mut [u8],
 ) -> usize
-    requires { ⌜ Playable (rules .table) (now steps) (now out) × Roomy (working (now sites) (now log) (now sent)) × Noted (now book) (now places) (now rows) (rules .commands) ⌝ }
+    requires { ⌜ Playable (rules .table) (now steps) (now out) × Roomy (working (now sites) (now log) (now sent)) × Noted (now book) (now noted)
+        × (rules .commands ≡ length (commandsOf (now book))) ⌝ }
     ensures { λ r. ⌜ Wrote (now (out .exit)) r (now (out .entry)) 0 (played (rules .table) (commandsOf (now (book .entry))) (stepsOf (now (steps .entry))))
         × Worked (rules .table) (commandsOf (now (book .entry))) (stepsOf (now (steps .entry)))
         (working (now (sites .entry)) (now (log .entry)) (now (sent .entry))) (working (now (sites .exit)) (now (log .exit)) (now (sent .exit))) ⌝ }
@@ -86,33 +76,10 @@ fn print_in(
         &mut sent[..SENT],
         rules,
         book,
-        places,
-        rows,
+        noted,
         steps,
         out,
     )
-}
-
-// Which commands conflict is noted first.
-fn print_noted(
-    sites: &mut [u8],
-    log: &mut [u8],
-    sent: &mut [u8],
-    rules: Rules,
-    book: &[u8],
-    places: &[u64],
-    steps: &[u8],
-    out: &mut [u8],
-) -> usize
-    requires { ⌜ Playable (rules .table) (now steps) (now out) × Roomy (working (now sites) (now log) (now sent))
-        × (rules .commands ≡ length (commandsOf (now book))) × Placed (now book) (now places) ⌝ }
-    ensures { λ r. ⌜ Wrote (now (out .exit)) r (now (out .entry)) 0 (played (rules .table) (commandsOf (now (book .entry))) (stepsOf (now (steps .entry))))
-        × Worked (rules .table) (commandsOf (now (book .entry))) (stepsOf (now (steps .entry)))
-        (working (now (sites .entry)) (now (log .entry)) (now (sent .entry))) (working (now (sites .exit)) (now (log .exit)) (now (sent .exit))) ⌝ }
-{
-    let mut rows = [0u64; 64];
-    conflicts::conflict_rows(book, places, rules.commands, &mut rows);
-    print_in(sites, log, sent, rules, book, places, &rows, steps, out)
 }
 
 // Whether buffers of these sizes have room for any run.
@@ -133,22 +100,15 @@ pub fn run(input: &[u8], sites: &mut [u8], log: &mut [u8], sent: &mut [u8], out:
     if !has_room(sites.len(), log.len(), sent.len(), out.len()) {
         return 0;
     }
-    let mut places = [0u64; 64];
-    let opened = header::judge_run(input, &mut places);
+    let mut noted = [0u64; conflicts::NOTED];
+    let opened = header::judge_run(input, &mut noted);
     match opened {
         Opened::Good(run) => {
             let rules = run.rules;
             let end = run.steps;
-            print_noted(
-                sites,
-                log,
-                sent,
-                rules,
-                &input[header::HEADER..end],
-                &places,
-                &input[end..],
-                out,
-            )
+            let book = &input[header::HEADER..end];
+            conflicts::conflict_rows(book, rules.commands, &mut noted);
+            print_in(sites, log, sent, rules, book, &noted, &input[end..], out)
         }
         Opened::Refused(refusal) => {
             let cause = refusals::number(refusal) as usize;

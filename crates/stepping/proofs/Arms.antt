@@ -63,8 +63,12 @@ arrived t commands sent sites after {r = r} e h k = subst (λ (x : Step). Arrive
 pub arm : (t : SiteTable) (book : List Command) (b after : Buffers) {u v : Step} {r : Verdict} → u ≡ v → Outcome t book (meaning v) b r after → Outcome t book (meaning u) b r after
 arm t book b after {r = r} e h = subst (λ (x : Step). Outcome t book (meaning x) b r after) (sym e) h
 
-pub ready-as : (t : SiteTable) (book rows : List ℕ) (b : Buffers) {u v : Step} → u ≡ v → Ready t book rows b (meaning u) → Ready t book rows b (meaning v)
-ready-as t book rows b e h = subst (λ (x : Step). Ready t book rows b (meaning x)) e h
+pub ready-as : (t : SiteTable) (book : List ℕ) (b : Buffers) {rows part : List ℕ} {u v : Step} → u ≡ v → part ≡ rows → Ready t book rows b (meaning u) → Ready t book part b (meaning v)
+ready-as t book b {rows} {part} {u} {v} e er h = subst (λ (l : List ℕ). Ready t book l b (meaning v)) (sym er) (subst (λ (x : Step). Ready t book rows b (meaning x)) e h)
+
+-- What is kept goes by the same rows.
+pub kept-by : (t : SiteTable) (log : List ℕ) {rows same kept : List ℕ} → rows ≡ same → Kept t rows log kept → Kept t same log kept
+kept-by t log {kept = kept} e h = subst (λ (l : List ℕ). Kept t l log kept) e h
 
 -- A log read goes by as many entries as there are.
 pub read-to : (t : SiteTable) (i : ℕ) (sites after : List ℕ) {n k : ℕ} {v : Verdict} → n ≡ k → LogRead t i n sites v after → LogRead t i k sites v after
@@ -78,11 +82,11 @@ module _ (t : SiteTable) (book : List ℕ) (commands : ℕ) (b : Buffers) (e : l
 
   pub kept-log : {rows kept : List ℕ} → rows ≡ conflictRows book → ((k : ℕ) → getD (b .log) k 0 < 256) → b .entries ≡ entriesIn kept → Kept t rows (b .log) kept
       → KeptLog t book (b .sites) (b .log) kept
-  kept-log {kept = kept} er small en k =
+  kept-log er small en k =
       record {
         good = subst (λ (n : ℕ). GoodLog t (length (commandsOf book)) (b .sites) (b .log) n) en (record { room = g .room; logged = g .logged; position = g .position });
         bytes = small;
-        words = subst (λ (x : List ℕ). Kept t x (b .log) kept) er k;
+        words = kept-by t (b .log) er k;
       }
 
   pub few : commands ≤ capacity

@@ -6,6 +6,7 @@ ghost use lib.ListN.{length};
 ghost use Rattle.sets.specs.Sets.{capacity};
 ghost use Rattle.table.specs.Table.{isGood};
 ghost use Rattle.commands.specs.Book.{commandsOf, Placed};
+ghost use Rattle.conflicts.specs.Conflicts.{rowsIn};
 ghost use Rattle.steps.specs.Meaning.{meaning};
 ghost use Rattle.layout.specs.Layout.{siteSize};
 ghost use Rattle.rounds.specs.Rounds.{entriesIn, Kept};
@@ -57,30 +58,30 @@ pub fn step(
     kept: &mut [u64],
     rules: Rules,
     book: &[u8],
-    places: &[u64],
-    rows: &[u64],
+    noted: &[u64],
     step: Step,
 ) -> Verdict
-    requires { ⌜ Ready (rules .table) (now book) (now rows) (lent (now sites) (now log) (entriesIn (now kept)) (now sent)) (meaning step) × Placed (now book) (now places)
-        × (length (commandsOf (now book)) ≡ rules .commands) × Kept (rules .table) (now rows) (now log) (now kept) ⌝ }
+    requires { ⌜ Ready (rules .table) (now book) (rowsIn (now noted)) (lent (now sites) (now log) (entriesIn (now kept)) (now sent)) (meaning step) × Placed (now book) (now noted)
+        × (length (commandsOf (now book)) ≡ rules .commands) × Kept (rules .table) (rowsIn (now noted)) (now log) (now kept) ⌝ }
     ensures { λ v. ⌜ Outcome (rules .table) (commandsOf (now (book .entry))) (meaning step) (lent (now (sites .entry)) (now (log .entry)) (entriesIn (now (kept .entry))) (now (sent .entry)))
         v (lent (now (sites .exit)) (now (log .exit)) (entriesIn (now (kept .exit))) (now (sent .exit)))
-        × Kept (rules .table) (now (rows .entry)) (now (log .exit)) (now (kept .exit)) ⌝ }
+        × Kept (rules .table) (rowsIn (now (noted .entry))) (now (log .exit)) (now (kept .exit)) ⌝ }
 {
+    let rows = &noted[commands::MAX_COMMANDS..];
     match step {
         Step::FalseEntry { from, round, nc, c } => {
             arrivals::false_entry(log, kept, rules, rows, from, round, nc, c)
         }
         Step::Turn { site } => moves::turn(sites, log, sent, kept, rules, rows, site),
         Step::FastDelivery { site, command } => {
-            closings::fast_delivery(sites, rules, book, places, site, command)
+            closings::fast_delivery(sites, rules, book, noted, site, command)
         }
         Step::LogRead { site } => {
             let entries = rounds::entries(&kept[..]);
             moves::log_read(sites, entries, rules, site)
         }
         Step::RoundEnd { site } => {
-            closings::round_end(sites, &kept[..], rules, book, places, site)
+            closings::round_end(sites, &kept[..], rules, book, noted, site)
         }
         _ => arrive(sites, &sent[..], rules, step),
     }

@@ -6,7 +6,7 @@ use mathlib.Core.List.{List, [], _++_, append-nil}
 use Prim.Native.Nat.{ℕ, zero, suc, _+_, _/_, _≤_, _<_}
 use native.Mathlib.Omega.{arith}
 use lib.Dec.{leb, ltb}
-use lib.ListN.{length, take, drop, getD, length-take, length-drop, drop-of-length-le}
+use lib.ListN.{length, take, drop, getD, replicate, length-take, length-drop, drop-of-length-le}
 use borrow.Author.Tests.{lt-ltb, le-ltb, leb-true}
 use borrow.Rule.Slice.PartMut.{putMid}
 use Rattle.theory.specs.Sets.{pick, any, all}
@@ -26,7 +26,8 @@ use Rattle.table.specs.declared.SiteTable.{SiteTable}
 use Rattle.table.specs.declared.Rules.{Rules}
 use Rattle.register.specs.declared.Command.{Command}
 use Rattle.commands.specs.Book.{maxCommands, commandsOf, Placed}
-use Rattle.conflicts.specs.Conflicts.{conflictRows}
+use Rattle.conflicts.specs.Conflicts.{conflictRows, rowsIn}
+use Rattle.conflicts.proofs.Laws.{noneNoted, all-noted, rows-part}
 use Rattle.protocol.specs.System as protocols
 use Rattle.protocol.specs.System.{_else_⨾_, verdict}
 use Rattle.protocol.specs.Recovery.{Log, entries}
@@ -53,7 +54,7 @@ use Rattle.judging.specs.declared.Judgement.{Judgement}
 use Rattle.judging.specs.declared.Judgement.the-variants as judgement
 use Rattle.judging.specs.Judging.{tableOf, systemOf, spanIn, siteIn, withSite, rulesOf, judgedAs, numberIn, forSiteAndLog, placesAfter}
 use Rattle.judging.proofs.Demands.{then-taken, then-refused, answered-refused}
-use Rattle.judging.proofs.Laws.{Judged, log-judged, log-noted, good-code, good-rules, refused-code}
+use Rattle.judging.proofs.Laws.{Judged, log-judged, log-noted, past-places, good-code, good-rules, refused-code}
 use Rattle.judging.proofs.Steps.{written, as-before}
 use Rattle.turning.specs.Turning.{turnSize, buffers, TurnTaken, acknowledgmentBytes, proposalBytes, entryFor, entryOf, sentBytes, turned, sent, turnCall}
 
@@ -134,12 +135,20 @@ module _ (n f : ℕ) (book site log : List ℕ) (own : ℕ) (o : List ℕ) {j : 
     pub turn-sized : siteSize ≤ length site
     turn-sized = judged .sized
 
-    pub turn-counted : x .commands ≡ length (commandsOf book)
-    turn-counted = good-rules n f book (verdict (forSiteAndLog n f book (leb turnSize (length o)) site log)) e h .1
+    module _ {after : List ℕ} (w : after ≡ placesAfter n f book (leb turnSize (length o) && leb siteSize (length site)) noneNoted) where
+      -- The commands are counted and their places noted, and no row yet.
+      pub turn-placed : (rowsIn after ≡ replicate maxCommands 0) × (x .commands ≡ length (commandsOf book)) × Placed book after
+      turn-placed =
+          let enough = leb turnSize (length o) in
+          let room : maxCommands ≤ maxCommands + maxCommands = omega arith in (
+            past-places n f book enough site noneNoted room w,
+            good-rules n f book (verdict (forSiteAndLog n f book enough site log)) e h .1,
+            log-noted n f book enough site noneNoted room w log code refl,
+          )
 
-    pub turn-noted : (places : List ℕ) {after : List ℕ} → maxCommands ≤ length places
-        → after ≡ placesAfter n f book (leb turnSize (length o) && leb siteSize (length site)) places → Placed book after
-    turn-noted places room e = log-noted n f book (leb turnSize (length o)) site places room e log code refl
+      -- Then the rows, as a part of the noted words.
+      pub turn-rows : {noted : List ℕ} → noted ≡ take maxCommands after ++ conflictRows book → take maxCommands (rowsIn noted) ≡ conflictRows book
+      turn-rows {noted} en = let r = all-noted book after (turn-placed .0) (turn-placed .2) en .rows in rows-part book noted r maxCommands (omega arith) ∙ r
 
     pub turn-room : turnSize ≤ length o
     turn-room = leb-true turnSize (length o) (log-judged n f book (leb turnSize (length o)) site log code refl .0)

@@ -115,7 +115,7 @@ pub fn turn(
     ensures { λ r. ⌜ outcome r (buffers (now (site .exit)) (now (out .exit))) ≡ turnCall sites faults (now (book .entry)) (now (site .entry)) (now (log .entry)) own (now (out .entry)) ⌝ }
 {
     let enough = out.len() >= TURN_BYTES;
-    let mut places = [0u64; commands::MAX_COMMANDS];
+    let mut noted = [0u64; conflicts::NOTED];
     let judged = judging::judge_site_and_log(
         enough,
         sites,
@@ -123,7 +123,7 @@ pub fn turn(
         book,
         &site[..],
         log,
-        &mut places,
+        &mut noted,
     );
     let Judgement::Good(rules) = judged else {
         return judging::number(judged);
@@ -131,9 +131,13 @@ pub fn turn(
     if own >= sites {
         return refusals::number(Refusal::Range);
     }
-    let mut rows = [0u64; commands::MAX_COMMANDS];
-    conflicts::conflict_rows(book, &places, rules.commands, &mut rows);
+    conflicts::conflict_rows(book, rules.commands, &mut noted);
     let round = round_of(&site[..Site::SIZE]);
-    let answer = take_turn(&mut site[..Site::SIZE], log, &rows, own);
+    let answer = take_turn(
+        &mut site[..Site::SIZE],
+        log,
+        &noted[commands::MAX_COMMANDS..],
+        own,
+    );
     send(out, own, round, answer)
 }

@@ -7,6 +7,7 @@ use borrow.Author.Needs.{needs}
 use denote.Ref.{now}
 use lib.ListN.{length}
 use Rattle.commands.specs.Book.{commandsOf}
+use Rattle.conflicts.specs.Conflicts.{rowsIn}
 use Rattle.steps.specs.Meaning.{meaning}
 use Rattle.steps.proofs.Walk.{inside}
 use Rattle.rounds.specs.Rounds.{entriesIn, Kept}
@@ -18,7 +19,7 @@ use Rattle.play.proofs.play_on.Statement.{statement}
 use Rattle.play.proofs.play_on.Tie as tie
 
 abbrev Inv-loop : tie.InvT-loop
-Inv-loop sites₀ log₀ sent₀ kept₀ rules book places rows steps out₀ from end₀ at₀ number₀ sites log sent kept out end at number =
+Inv-loop sites₀ log₀ sent₀ kept₀ rules book noted steps out₀ from end₀ at₀ number₀ sites log sent kept out end at number =
     (at ≤ length steps)
     × (2 * number ≤ at + 2)
     × (end + lineRoom ≤ from + lineRoom * number)
@@ -27,15 +28,15 @@ Inv-loop sites₀ log₀ sent₀ kept₀ rules book places rows steps out₀ fro
     × (length sent ≡ length sent₀)
     × (length out ≡ length out₀)
     × Playing (rules .table) (commandsOf book) steps out₀ from sites₀ (lent sites log (entriesIn kept) sent) out end at number
-    × Kept (rules .table) rows log kept
+    × Kept (rules .table) (rowsIn noted) log kept
 
 abbrev μ-loop : tie.MeasureT-loop
-μ-loop sites₀ log₀ sent₀ kept₀ rules book places rows steps out₀ from end₀ at₀ number₀ sites log sent kept out end at number =
+μ-loop sites₀ log₀ sent₀ kept₀ rules book noted steps out₀ from end₀ at₀ number₀ sites log sent kept out end at number =
     length steps - at
 
 loop-holds : tie.Need-loop-holds Inv-loop μ-loop
 loop-holds c =
-    let o = c .before .before .before .before .before .before .before .before .before in
+    let o = c .before .before .before .before .before .before .before .before in
     let a = o .args in (
       omega arith,
       omega arith,
@@ -59,7 +60,7 @@ enum-told c = search needs
 
 report-requires : tie.Need-report-requires Inv-loop μ-loop
 report-requires c κs =
-    let o = c .before .before .before .before .before .before .before .before .before .before .before .before .before .before .before in
+    let o = c .before .before .before .before .before .before .before .before .before .before .before .before .before .before in
     let a = o .args in
     let l = c .before .before .before .before .before .loop in
     (omega (arith, o .pre .0 .room, o .pre .0 .short, l .inv .0, l .inv .1, l .inv .2, l .inv .6, c .before .before .before .before .loop-test .taken), omega (arith, o .pre .0 .short, l .inv .0, l .inv .1))
@@ -74,14 +75,14 @@ same-length-3 : tie.Need-same-length-3 Inv-loop μ-loop
 same-length-3 c = c .before .before .before .before .before .before .before .before .loop .inv .5
 
 same-length-4 : tie.Need-same-length-4 Inv-loop μ-loop
-same-length-4 c = c .before .before .before .before .before .before .before .before .loop .inv .8 .size ∙ sym (c .before .before .before .before .before .before .before .before .before .before .before .before .before .before .before .before .before .before .pre .1 .size)
+same-length-4 c = c .before .before .before .before .before .before .before .before .loop .inv .8 .size ∙ sym (c .before .before .before .before .before .before .before .before .before .before .before .before .before .before .before .before .before .pre .1 .size)
 
 same-length-5 : tie.Need-same-length-5 Inv-loop μ-loop
 same-length-5 c = c .before .before .report .kept .0 ∙ c .before .before .before .before .before .before .before .before .loop .inv .6
 
 returns : tie.Need-returns Inv-loop μ-loop
 returns c =
-    let o = c .before .before .before .before .before .before .before .before .before .before .before .before .before .before .before .before .before .before in
+    let o = c .before .before .before .before .before .before .before .before .before .before .before .before .before .before .before .before .before in
     let a = o .args in
     let l = c .before .before .before .before .before .before .before .before .loop in
     let w = c .before .before .report .ensures in
@@ -96,7 +97,7 @@ size-requires c κs = search needs
 
 step-requires : tie.Need-step-requires Inv-loop μ-loop
 step-requires c κs =
-    let o = c .before .before .before .before .before .before .before .before .before .before .before .before .before .before .before .before .before .before .before .before in
+    let o = c .before .before .before .before .before .before .before .before .before .before .before .before .before .before .before .before .before .before .before in
     let a = o .args in
     let l = c .before .before .before .before .before .before .before .before .before .before .loop in
     let t = a .rules .table in
@@ -106,26 +107,26 @@ step-requires c κs =
     let n = entries-few t k (q .good) (p .past) (p .world) in (
       (record {
         table = q .good;
-        conflicts = q .conflicts;
+        conflicts = q .noted .rows;
         world = p .world .good;
         room = omega (arith, q .log, l .inv .4);
         acks = acks-few t k (q .good) (p .past) (p .world) (meaning (c .before .before .before .before .before .before .reading .given .0 .0));
       }),
-      q .noted,
+      q .noted .places,
       q .counted,
       l .inv .8,
     )
 
 report-requires-2 : tie.Need-report-requires-2 Inv-loop μ-loop
 report-requires-2 c κs =
-    let o = c .before .before .before .before .before .before .before .before .before .before .before .before .before .before .before .before .before .before .before .before .before .before .before .before .before .before .before .before .before .before in
+    let o = c .before .before .before .before .before .before .before .before .before .before .before .before .before .before .before .before .before .before .before .before .before .before .before .before .before .before .before .before .before in
     let a = o .args in
     let l = c .before .before .before .before .before .before .before .before .before .before .before .before .before .before .before .before .before .before .before .before .loop in
     (omega (arith, o .pre .0 .room, o .pre .0 .short, l .inv .0, l .inv .1, l .inv .2, l .inv .6, c .before .before .before .before .before .before .before .before .before .before .before .before .before .before .before .before .before .before .before .loop-test .taken), omega (arith, o .pre .0 .short, l .inv .0, l .inv .1))
 
 add-at : tie.Need-add-at Inv-loop μ-loop
 add-at c =
-    let o = c .before .before .before .before .before .before .before .before .before .before .before .before .before .before .before .before .before .before .before .before .before .before .before .before .before .before .before .before .before .before .before .before .before in
+    let o = c .before .before .before .before .before .before .before .before .before .before .before .before .before .before .before .before .before .before .before .before .before .before .before .before .before .before .before .before .before .before .before .before in
     let a = o .args in
     let l = c .before .before .before .before .before .before .before .before .before .before .before .before .before .before .before .before .before .before .before .before .before .before .before .loop in
     let e = sym (c .before .before .before .before .before .before .before .before .before .before .before .before .before .before .before .before .before .before .before .before .before .read-step .ensures) ∙ c .before .before .before .before .before .before .before .before .before .before .before .before .before .before .before .before .before .before .before .reading .given .1 in
@@ -134,14 +135,14 @@ add-at c =
 
 add-number : tie.Need-add-number Inv-loop μ-loop
 add-number c =
-    let o = c .before .before .before .before .before .before .before .before .before .before .before .before .before .before .before .before .before .before .before .before .before .before .before .before .before .before .before .before .before .before .before .before .before in
+    let o = c .before .before .before .before .before .before .before .before .before .before .before .before .before .before .before .before .before .before .before .before .before .before .before .before .before .before .before .before .before .before .before .before in
     let a = o .args in
     let l = c .before .before .before .before .before .before .before .before .before .before .before .before .before .before .before .before .before .before .before .before .before .before .before .loop in
     record { fits = omega (arith, o .pre .0 .short, l .inv .0, l .inv .1) }
 
 loop-less : tie.Need-loop-less Inv-loop μ-loop
 loop-less c =
-    let o = c .before .before .before .before .before .before .before .before .before .before .before .before .before .before .before .before .before .before .before .before .before .before .before .before .before .before .before .before .before .before .before .before .before in
+    let o = c .before .before .before .before .before .before .before .before .before .before .before .before .before .before .before .before .before .before .before .before .before .before .before .before .before .before .before .before .before .before .before .before in
     let a = o .args in
     let l = c .before .before .before .before .before .before .before .before .before .before .before .before .before .before .before .before .before .before .before .before .before .before .before .loop in
     let e = sym (c .before .before .before .before .before .before .before .before .before .before .before .before .before .before .before .before .before .before .before .before .before .read-step .ensures) ∙ c .before .before .before .before .before .before .before .before .before .before .before .before .before .before .before .before .before .before .before .reading .given .1 in
@@ -150,7 +151,7 @@ loop-less c =
 
 loop-again : tie.Need-loop-again Inv-loop μ-loop
 loop-again c =
-    let o = c .before .before .before .before .before .before .before .before .before .before .before .before .before .before .before .before .before .before .before .before .before .before .before .before .before .before .before .before .before .before .before .before .before in
+    let o = c .before .before .before .before .before .before .before .before .before .before .before .before .before .before .before .before .before .before .before .before .before .before .before .before .before .before .before .before .before .before .before .before in
     let a = o .args in
     let l = c .before .before .before .before .before .before .before .before .before .before .before .before .before .before .before .before .before .before .before .before .before .before .before .loop in
     let b = c .before .before .before .before .before .before .before .before .before .before .before .before .step in
@@ -179,14 +180,14 @@ same-length-8 : tie.Need-same-length-8 Inv-loop μ-loop
 same-length-8 c = search needs
 
 same-length-9 : tie.Need-same-length-9 Inv-loop μ-loop
-same-length-9 c = c .before .loop .inv .8 .size ∙ sym (c .before .before .before .before .before .before .before .before .before .before .before .pre .1 .size)
+same-length-9 c = c .before .loop .inv .8 .size ∙ sym (c .before .before .before .before .before .before .before .before .before .before .pre .1 .size)
 
 same-length-10 : tie.Need-same-length-10 Inv-loop μ-loop
 same-length-10 c = search needs
 
 returns-2 : tie.Need-returns-2 Inv-loop μ-loop
 returns-2 c =
-    let o = c .before .before .before .before .before .before .before .before .before .before .before in
+    let o = c .before .before .before .before .before .before .before .before .before .before in
     let a = o .args in
     let l = c .before .loop in
     playing-end (a .rules .table) (commandsOf (now (a .book))) (now (a .steps)) (now (a .out)) (a .from) (l .inv .7)

@@ -4,6 +4,7 @@ use borrow.Author.Needs.{needs}
 use denote.Ref.{now}
 use mathlib.Core.Path.{sym, subst}
 use Prim.Native.Nat.{ℕ}
+use Rattle.conflicts.specs.Conflicts.{rowsIn}
 use Rattle.rounds.proofs.Keeping.{none-yet, kept-start}
 use Rattle.world.specs.Parts.{lent}
 use Rattle.play.specs.Played.{Playable}
@@ -15,10 +16,10 @@ slice-aggregate-play-on c = search needs
 
 play-on-requires : tie.Need-play-on-requires
 play-on-requires c κs =
-    let o = c .before .before .before .before .before .before .before .before .before .before .before .before .before in
+    let o = c .before .before .before .before .before .before .before .before .before .before .before .before in
     let a = o .args in (
-      subst (λ (n : ℕ). Playable (a .rules) (now (a .book)) (now (a .places)) (now (a .rows)) (now (a .steps)) (now (a .out)) (a .from) (lent (now (a .sites)) (now (a .log)) n (now (a .sent)))) (sym none-yet) (o .pre),
-      kept-start (a .rules .table) (now (a .rows)) (now (a .log)),
+      subst (λ (n : ℕ). Playable (a .rules) (now (a .book)) (now (a .noted)) (now (a .steps)) (now (a .out)) (a .from) (lent (now (a .sites)) (now (a .log)) n (now (a .sent)))) (sym none-yet) (o .pre),
+      kept-start (a .rules .table) (rowsIn (now (a .noted))) (now (a .log)),
     )
 
 same-length : tie.Need-same-length

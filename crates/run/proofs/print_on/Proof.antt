@@ -18,32 +18,31 @@ faulty-count-requires c κs = search needs
 
 put-run-line-requires : tie.Need-put-run-line-requires
 put-run-line-requires c κs =
-    let a = c .before .before .before .before .before .before .before .before .before .before .before .before .before .before .before .before .before .before in
-    omega (arith, first-short (a .args .rules .table) (now (a .args .book)) (a .pre .0 .good) (c .before .faulty-count .ensures) (a .pre .2 .count), a .pre .0 .room)
+    let a = c .before .before .before .before .before .before .before .before .before .before .before .before .before .before .before .before .before in
+    omega (arith, first-short (a .args .rules .table) (now (a .args .book)) (a .pre .0 .good) (c .before .faulty-count .ensures) (a .pre .3), a .pre .0 .room)
 
 play-steps-requires : tie.Need-play-steps-requires
 play-steps-requires c κs =
-    let a = c .before .before .before .before .before .before .before .before .before .before .before .before .before .before .before .before .before .before .before .before .before .before .before .before .before in
+    let a = c .before .before .before .before .before .before .before .before .before .before .before .before .before .before .before .before .before .before .before .before .before .before .before .before in
     let w = c .before .before .before .before .before .before .put-run-line in
     record {
-      room = omega (arith, first-short (a .args .rules .table) (now (a .args .book)) (a .pre .0 .good) (c .before .before .before .before .before .before .before .before .faulty-count .ensures) (a .pre .2 .count), a .pre .0 .room, w .ensures .end, w .kept .0);
+      room = omega (arith, first-short (a .args .rules .table) (now (a .args .book)) (a .pre .0 .good) (c .before .before .before .before .before .before .before .before .faulty-count .ensures) (a .pre .3), a .pre .0 .room, w .ensures .end, w .kept .0);
       good = a .pre .0 .good;
       short = a .pre .0 .short;
       log = omega (arith, a .pre .1 .log);
-      noted = a .pre .2 .places;
-      conflicts = a .pre .2 .rows;
-      counted = sym (a .pre .2 .count);
+      noted = a .pre .2;
+      counted = sym (a .pre .3);
       world = c .before .before .before .before .before .before .before .before .before .before .before .before .before .start .ensures .holds (commandsOf (now (a .args .book))) (now (a .args .log)) (omega (arith, a .pre .1 .log));
     }
 
 put-site-lines-requires : tie.Need-put-site-lines-requires
 put-site-lines-requires c κs =
-    let a = c .before .before .before .before .before .before .before .before .before .before .before .before .before .before .before .before .before .before .before .before .before .before .before .before .before .before .before .before .before .before .before .before .before .before .before .before in
+    let a = c .before .before .before .before .before .before .before .before .before .before .before .before .before .before .before .before .before .before .before .before .before .before .before .before .before .before .before .before .before .before .before .before .before .before .before in
     let w = c .before .before .before .before .before .before .before .before .before .before .before .before .before .before .before .before .before .put-run-line in
     let p = c .before .before .before .before .before .before .before .before .before .before .play-steps in
     let n = good-limits (a .args .rules .table) (a .pre .0 .good) in (
       held-printable (a .args .rules .table) (commandsOf (now (a .args .book))) (p .ensures .world),
-      omega (arith, first-short (a .args .rules .table) (now (a .args .book)) (a .pre .0 .good) (c .before .before .before .before .before .before .before .before .before .before .before .before .before .before .before .before .before .before .before .faulty-count .ensures) (a .pre .2 .count), a .pre .0 .room, w .ensures .end, w .kept .0, p .ensures .room, p .kept .1 .1 .1 .1 .1 .1 .1 .1 .0),
+      omega (arith, first-short (a .args .rules .table) (now (a .args .book)) (a .pre .0 .good) (c .before .before .before .before .before .before .before .before .before .before .before .before .before .before .before .before .before .before .before .faulty-count .ensures) (a .pre .3), a .pre .0 .room, w .ensures .end, w .kept .0, p .ensures .room, p .kept .1 .1 .1 .1 .1 .1 .1 .0),
     )
 
 same-length : tie.Need-same-length
@@ -60,8 +59,8 @@ same-length-4 c = search needs
 
 returns : tie.Need-returns
 returns c =
-    let a = c .before .before .before .before .before .before .before .before .before .before .before .before .before .before .before .before .before .before .before .before .before .before .before .before .before .before .before .before .before .before .before .before .before .before .before .before .before .before .before in (
-      all-parts (a .args .rules .table) (commandsOf (now (a .args .book))) (now (a .args .steps)) (c .before .before .before .before .before .before .before .before .before .before .before .before .before .before .before .before .before .before .before .before .before .before .faulty-count .ensures) (a .pre .2 .count)
+    let a = c .before .before .before .before .before .before .before .before .before .before .before .before .before .before .before .before .before .before .before .before .before .before .before .before .before .before .before .before .before .before .before .before .before .before .before .before .before .before in (
+      all-parts (a .args .rules .table) (commandsOf (now (a .args .book))) (now (a .args .steps)) (c .before .before .before .before .before .before .before .before .before .before .before .before .before .before .before .before .before .before .before .before .before .before .faulty-count .ensures) (a .pre .3)
           (c .before .before .before .before .before .before .before .before .before .before .before .before .before .before .before .before .before .before .before .before .put-run-line .ensures) (c .before .before .before .before .before .before .before .before .before .before .before .before .before .play-steps .ensures) (c .before .before .put-site-lines .ensures .0),
       c .before .before .before .before .before .before .before .before .before .before .before .before .before .play-steps .ensures .world,
       past-left (a .args .rules .table) (commandsOf (now (a .args .book))) (c .before .before .before .before .before .before .before .before .before .before .before .before .before .before .before .before .before .before .before .before .before .before .before .before .before .before .before .start .ensures) (c .before .before .before .before .before .before .before .before .before .before .before .before .before .play-steps .ensures),

@@ -7,10 +7,11 @@ use denote.Ref.{now}
 use Rattle.theory.specs.Counting.{not-true, not-false}
 use Rattle.refusals.specs.Numbers.{number-short}
 use Rattle.table.specs.Table.{isGood}
+use Rattle.conflicts.proofs.Laws.{all-noted}
 use Rattle.lines.proofs.Laws.{refused-short}
 use Rattle.header.proofs.Laws.{sound, book-part, step-part, judged-taken, judged-table, judged-end, judged-refused}
 use Rattle.run.specs.Ran.{working}
-use Rattle.run.proofs.Laws.{steps-short, print-refused, print-taken, noted-part, roomy-told, no-room, with-room, refused-left, played-left}
+use Rattle.run.proofs.Laws.{steps-short, print-refused, print-taken, placed-part, roomy-told, no-room, with-room, refused-left, played-left}
 use Rattle.run.proofs.run.Statement.{statement}
 use Rattle.run.proofs.run.Tie as tie
 
@@ -31,55 +32,64 @@ judge-run-requires c κs = search needs
 enum-known-opened : tie.Need-enum-known-opened
 enum-known-opened c = search needs
 
-sub-print-noted : tie.Need-sub-print-noted
-sub-print-noted c =
-    let r = now (c .before .before .before .before .before .before .before .before .before .before .before .before .before .before .before .before .before .args .input) in
-    let e = judged-end r (sym (c .before .before .before .before .before .opened .given .1) ∙ c .before .before .before .before .before .before .before .before .judge-run .ensures .0) in
-    omega (arith, e)
+sub-book : tie.Need-sub-book
+sub-book c =
+    let r = now (c .before .before .before .before .before .before .before .before .before .before .before .before .before .before .args .input) in
+    let q = sym (c .before .before .opened .given .1) ∙ c .before .before .before .before .before .judge-run .ensures .0 in
+    omega (arith, judged-end r q)
 
-part-print-noted-start : tie.Need-part-print-noted-start
-part-print-noted-start c =
-    let r = now (c .before .before .before .before .before .before .before .before .before .before .before .before .before .before .before .before .before .args .input) in
-    let e = judged-end r (sym (c .before .before .before .before .before .opened .given .1) ∙ c .before .before .before .before .before .before .before .before .judge-run .ensures .0) in
-    omega (arith, e)
+part-book-start : tie.Need-part-book-start
+part-book-start c =
+    let r = now (c .before .before .before .before .before .before .before .before .before .before .before .before .before .before .args .input) in
+    let q = sym (c .before .before .opened .given .1) ∙ c .before .before .before .before .before .judge-run .ensures .0 in
+    omega (arith, judged-end r q)
 
-part-print-noted-end : tie.Need-part-print-noted-end
-part-print-noted-end c =
-    let r = now (c .before .before .before .before .before .before .before .before .before .before .before .before .before .before .before .before .before .args .input) in
-    let q = sym (c .before .before .before .before .before .opened .given .1) ∙ c .before .before .before .before .before .before .before .before .judge-run .ensures .0 in
+part-book-end : tie.Need-part-book-end
+part-book-end c =
+    let r = now (c .before .before .before .before .before .before .before .before .before .before .before .before .before .before .args .input) in
+    let q = sym (c .before .before .opened .given .1) ∙ c .before .before .before .before .before .judge-run .ensures .0 in
     let s = sound r (judged-taken r q .0) in
     omega (arith, judged-end r q, s .end)
 
-slice-aggregate-print-noted : tie.Need-slice-aggregate-print-noted
-slice-aggregate-print-noted c = search needs
+slice-aggregate-conflict-rows : tie.Need-slice-aggregate-conflict-rows
+slice-aggregate-conflict-rows c = search needs
 
-sub-print-noted-2 : tie.Need-sub-print-noted-2
-sub-print-noted-2 c =
-    let r = now (c .before .before .before .before .before .before .before .before .before .before .before .before .before .before .before .before .before .before .before .args .input) in
-    let q = sym (c .before .before .before .before .before .before .before .opened .given .1) ∙ c .before .before .before .before .before .before .before .before .before .before .judge-run .ensures .0 in
+conflict-rows-requires : tie.Need-conflict-rows-requires
+conflict-rows-requires c κs =
+    let r = now (c .before .before .before .before .before .before .before .before .before .before .before .before .before .before .before .before .args .input) in
+    let q = sym (c .before .before .before .before .opened .given .1) ∙ c .before .before .before .before .before .before .before .judge-run .ensures .0 in
+    placed-part r (book-part r (judged-end r q)) q (c .before .before .before .before .before .before .before .judge-run .ensures .1)
+
+slice-aggregate-print-in : tie.Need-slice-aggregate-print-in
+slice-aggregate-print-in c = search needs
+
+sub-print-in : tie.Need-sub-print-in
+sub-print-in c =
+    let r = now (c .before .before .before .before .before .before .before .before .before .before .before .before .before .before .before .before .before .before .before .before .before .before .args .input) in
+    let q = sym (c .before .before .before .before .before .before .before .before .before .before .opened .given .1) ∙ c .before .before .before .before .before .before .before .before .before .before .before .before .before .judge-run .ensures .0 in
     let s = sound r (judged-taken r q .0) in
     omega (arith, judged-end r q, s .end)
 
-part-print-noted-start-2 : tie.Need-part-print-noted-start-2
-part-print-noted-start-2 c =
-    let r = now (c .before .before .before .before .before .before .before .before .before .before .before .before .before .before .before .before .before .before .before .args .input) in
-    let q = sym (c .before .before .before .before .before .before .before .opened .given .1) ∙ c .before .before .before .before .before .before .before .before .before .before .judge-run .ensures .0 in
+part-print-in-start : tie.Need-part-print-in-start
+part-print-in-start c =
+    let r = now (c .before .before .before .before .before .before .before .before .before .before .before .before .before .before .before .before .before .before .before .before .before .before .args .input) in
+    let q = sym (c .before .before .before .before .before .before .before .before .before .before .opened .given .1) ∙ c .before .before .before .before .before .before .before .before .before .before .before .before .before .judge-run .ensures .0 in
     let s = sound r (judged-taken r q .0) in
     omega (arith, judged-end r q, s .end)
 
-part-print-noted-end-2 : tie.Need-part-print-noted-end-2
-part-print-noted-end-2 c = search needs
+part-print-in-end : tie.Need-part-print-in-end
+part-print-in-end c = search needs
 
-print-noted-requires : tie.Need-print-noted-requires
-print-noted-requires c κs =
-    let a = c .before .before .before .before .before .before .before .before .before .before .before .before .before .before .before .before .before .before .before .before .before .args in
+print-in-requires : tie.Need-print-in-requires
+print-in-requires c κs =
+    let a = c .before .before .before .before .before .before .before .before .before .before .before .before .before .before .before .before .before .before .before .before .before .before .before .before .args in
     let r = now (a .input) in
-    let q = sym (c .before .before .before .before .before .before .before .before .before .opened .given .1) ∙ c .before .before .before .before .before .before .before .before .before .before .before .before .judge-run .ensures .0 in
+    let q = sym (c .before .before .before .before .before .before .before .before .before .before .before .before .opened .given .1) ∙ c .before .before .before .before .before .before .before .before .before .before .before .before .before .before .before .judge-run .ensures .0 in
     let s = sound r (judged-taken r q .0) in
-    let room = roomy-told (working (now (a .sites)) (now (a .log)) (now (a .sent))) (now (a .out)) (sym (c .before .before .before .before .before .before .before .before .before .before .before .before .before .before .before .has-room .ensures) ∙ not-false _ (c .before .before .before .before .before .before .before .before .before .before .before .before .before .before .if1 .left)) in
+    let room = roomy-told (working (now (a .sites)) (now (a .log)) (now (a .sent))) (now (a .out)) (sym (c .before .before .before .before .before .before .before .before .before .before .before .before .before .before .before .before .before .before .has-room .ensures) ∙ not-false _ (c .before .before .before .before .before .before .before .before .before .before .before .before .before .before .before .before .before .if1 .left)) in
     let e = judged-end r q in
-    let n = noted-part r _ (book-part r e) q (c .before .before .before .before .before .before .before .before .before .before .before .before .judge-run .ensures .1) (omega arith) in
-    (record { good = ap isGood (judged-table r q) ∙ s .table; short = steps-short r s e; room = room .1 }, room .0, n .0, n .1)
+    let p = placed-part r (book-part r e) q (c .before .before .before .before .before .before .before .before .before .before .before .before .before .before .before .judge-run .ensures .1) in
+    (record { good = ap isGood (judged-table r q) ∙ s .table; short = steps-short r s e; room = room .1 }, room .0, all-noted _ _ (p .0) (p .2) (c .before .before .before .before .before .before .before .conflict-rows .ensures), p .1)
 
 enum-known-opened-2 : tie.Need-enum-known-opened-2
 enum-known-opened-2 c = search needs
@@ -110,16 +120,16 @@ same-length-4 c = search needs
 
 returns-2 : tie.Need-returns-2
 returns-2 c =
-    let a = c .before .before .before .before .before .before .before .before .before .before .before .before .before .before .before .before .before .before .before .before .before .before .before .before .before .before .before .before .before .before .args in
+    let a = c .before .before .before .before .before .before .before .before .before .before .before .before .before .before .before .before .before .before .before .before .before .before .before .before .before .before .before .before .before .before .before .before .before .args in
     let r = now (a .input) in
     let w = (working (now (a .sites)) (now (a .log)) (now (a .sent))) in
     let o = now (a .out) in
-    let p = c .before .before .before .before .before .before .before .before .print-noted in
-    let q = sym (c .before .before .before .before .before .before .before .before .before .before .before .before .before .before .before .before .before .before .opened .given .1) ∙ c .before .before .before .before .before .before .before .before .before .before .before .before .before .before .before .before .before .before .before .before .before .judge-run .ensures .0 in
+    let p = c .before .before .before .before .before .before .before .before .print-in in
+    let q = sym (c .before .before .before .before .before .before .before .before .before .before .before .before .before .before .before .before .before .before .before .before .before .opened .given .1) ∙ c .before .before .before .before .before .before .before .before .before .before .before .before .before .before .before .before .before .before .before .before .before .before .before .before .judge-run .ensures .0 in
     let e = judged-end r q in
     let t = judged-table r q in
     let taken = judged-taken r q .0 in
-    let room = sym (c .before .before .before .before .before .before .before .before .before .before .before .before .before .before .before .before .before .before .before .before .before .before .before .before .has-room .ensures) ∙ not-false _ (c .before .before .before .before .before .before .before .before .before .before .before .before .before .before .before .before .before .before .before .before .before .before .before .if1 .left) in (
+    let room = sym (c .before .before .before .before .before .before .before .before .before .before .before .before .before .before .before .before .before .before .before .before .before .before .before .before .before .before .before .has-room .ensures) ∙ not-false _ (c .before .before .before .before .before .before .before .before .before .before .before .before .before .before .before .before .before .before .before .before .before .before .before .before .before .before .if1 .left) in (
       with-room r w o room (print-taken r taken t (book-part r e) (step-part r e) (p .ensures .0)),
       played-left r w o room taken t (book-part r e) (step-part r e) (p .ensures .1),
     )
@@ -148,14 +158,16 @@ run-spec =
     slice-aggregate-judge-run
     judge-run-requires
     enum-known-opened
-    sub-print-noted
-    part-print-noted-start
-    part-print-noted-end
-    slice-aggregate-print-noted
-    sub-print-noted-2
-    part-print-noted-start-2
-    part-print-noted-end-2
-    print-noted-requires
+    sub-book
+    part-book-start
+    part-book-end
+    slice-aggregate-conflict-rows
+    conflict-rows-requires
+    slice-aggregate-print-in
+    sub-print-in
+    part-print-in-start
+    part-print-in-end
+    print-in-requires
     enum-known-opened-2
     number-requires
     cast-cause

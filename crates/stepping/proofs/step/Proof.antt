@@ -6,12 +6,21 @@ use native.Mathlib.Omega.{arith}
 use mathlib.Core.Path.{refl, sym, ap, _∙_}
 use lib.ListN.{length}
 use Rattle.commands.specs.Book.{commandsOf}
-use Rattle.conflicts.proofs.Laws.{rows-size}
+use Rattle.conflicts.proofs.Laws.{rows-size, rows-room, rows-rest}
 use Rattle.rounds.specs.Rounds.{entriesIn}
 use Rattle.world.specs.Parts.{lent}
-use Rattle.stepping.proofs.Arms.{is-arrival, arm, ready-as, read-to, good-sites, kept-log, few}
+use Rattle.stepping.proofs.Arms.{is-arrival, arm, ready-as, kept-by, read-to, good-sites, kept-log, few}
 use Rattle.stepping.proofs.step.Statement.{statement}
 use Rattle.stepping.proofs.step.Tie as tie
+
+sub-rows : tie.Need-sub-rows
+sub-rows c = omega (arith, rows-room (now (c .before .before .before .before .before .before .args .book)) (now (c .before .before .before .before .before .before .args .noted)) (c .before .before .before .before .before .before .pre .0 .conflicts))
+
+part-rows-start : tie.Need-part-rows-start
+part-rows-start c = omega (arith, rows-room (now (c .before .before .before .before .before .before .args .book)) (now (c .before .before .before .before .before .before .args .noted)) (c .before .before .before .before .before .before .pre .0 .conflicts))
+
+part-rows-end : tie.Need-part-rows-end
+part-rows-end c = search needs
 
 enum-known-step : tie.Need-enum-known-step
 enum-known-step c = search needs
@@ -21,7 +30,8 @@ false-entry-requires c κs =
     let o = c .before .before .before .before .before .before .before .before .before .before .before .before in
     let a = o .args in
     let b = lent (now (a .sites)) (now (a .log)) (entriesIn (now (a .kept))) (now (a .sent)) in
-    (o .pre .0 .room, o .pre .0 .table, o .pre .3, ap length (o .pre .0 .conflicts) ∙ rows-size (now (a .book)))
+    let same = rows-rest (now (a .book)) (now (a .noted)) (o .pre .0 .conflicts) in
+    (o .pre .0 .room, o .pre .0 .table, kept-by (a .rules .table) (now (a .log)) (sym same) (o .pre .3), ap length (same ∙ o .pre .0 .conflicts) ∙ rows-size (now (a .book)))
 
 enum-known-step-2 : tie.Need-enum-known-step-2
 enum-known-step-2 c = search needs
@@ -31,7 +41,8 @@ turn-requires c κs =
     let o = c .before .before .before .before .before .before .before .before .before .before .before .before .before .before in
     let a = o .args in
     let b = lent (now (a .sites)) (now (a .log)) (entriesIn (now (a .kept))) (now (a .sent)) in
-    ((now (a .book), ready-as (a .rules .table) (now (a .book)) (now (a .rows)) b (c .before .before .before .before .before .step2 .given .1) (o .pre .0)), o .pre .3)
+    let same = rows-rest (now (a .book)) (now (a .noted)) (o .pre .0 .conflicts) in
+    ((now (a .book), ready-as (a .rules .table) (now (a .book)) b (c .before .before .before .before .before .step2 .given .1) same (o .pre .0)), kept-by (a .rules .table) (now (a .log)) (sym same) (o .pre .3))
 
 enum-known-step-3 : tie.Need-enum-known-step-3
 enum-known-step-3 c = search needs
@@ -41,6 +52,7 @@ fast-delivery-requires c κs =
     let o = c .before .before .before .before .before .before .before .before .before .before .before in
     let a = o .args in
     let b = lent (now (a .sites)) (now (a .log)) (entriesIn (now (a .kept))) (now (a .sent)) in
+    let same = rows-rest (now (a .book)) (now (a .noted)) (o .pre .0 .conflicts) in
     (good-sites (a .rules .table) (now (a .book)) (a .rules .commands) b (o .pre .2) (o .pre .0 .world), o .pre .0 .table, o .pre .1, o .pre .2)
 
 enum-known-step-4 : tie.Need-enum-known-step-4
@@ -54,6 +66,7 @@ log-read-requires c κs =
     let o = c .before .before .before .before .before .before .before .before .before .before .before .before .before in
     let a = o .args in
     let b = lent (now (a .sites)) (now (a .log)) (entriesIn (now (a .kept))) (now (a .sent)) in
+    let same = rows-rest (now (a .book)) (now (a .noted)) (o .pre .0 .conflicts) in
     let w = o .pre .0 .world in
     (w .size, omega (arith, w .room, w .short, c .before .entries .ensures))
 
@@ -65,6 +78,7 @@ round-end-requires c κs =
     let o = c .before .before .before .before .before .before .before .before .before .before .before .before in
     let a = o .args in
     let b = lent (now (a .sites)) (now (a .log)) (entriesIn (now (a .kept))) (now (a .sent)) in
+    let same = rows-rest (now (a .book)) (now (a .noted)) (o .pre .0 .conflicts) in
     (good-sites (a .rules .table) (now (a .book)) (a .rules .commands) b (o .pre .2) (o .pre .0 .world), (now (a .log), kept-log (a .rules .table) (now (a .book)) (a .rules .commands) b (o .pre .2) (o .pre .0 .world) (o .pre .0 .conflicts) (λ k. c .before .before .before .before .before .before .before .before .before .before .slice-known2 .given k .fits) refl (o .pre .3)), o .pre .0 .table, o .pre .1, o .pre .2)
 
 arrive-requires : tie.Need-arrive-requires
@@ -72,6 +86,7 @@ arrive-requires c κs =
     let o = c .before .before .before .before .before .before .before .before .before .before in
     let a = o .args in
     let b = lent (now (a .sites)) (now (a .log)) (entriesIn (now (a .kept))) (now (a .sent)) in
+    let same = rows-rest (now (a .book)) (now (a .noted)) (o .pre .0 .conflicts) in
     (o .pre .0 .world .size, o .pre .0 .table, o .pre .0 .world .sent, few (a .rules .table) (now (a .book)) (a .rules .commands) b (o .pre .2) (o .pre .0 .world))
 
 same-length : tie.Need-same-length
@@ -85,10 +100,11 @@ returns c =
     let o = c .before .before .before .before .before .before .before .before .before .before .before .before .before .before .before .before .before in
     let a = o .args in
     let b = lent (now (a .sites)) (now (a .log)) (entriesIn (now (a .kept))) (now (a .sent)) in
+    let same = rows-rest (now (a .book)) (now (a .noted)) (o .pre .0 .conflicts) in
     let e = c .before .before .before .before .false-entry .ensures in (
       arm (a .rules .table) (commandsOf (now (a .book))) b _ (c .before .before .before .before .before .before .before .before .step .given .1)
           (e .0 (commandsOf (now (a .book))) (now (a .sites)) (now (a .sent)) (sym (o .pre .2)) (o .pre .0 .world) (λ k. c .before .before .before .before .before .before .before .before .before .before .before .before .before .before .before .before .slice-known .given k .fits)),
-      e .1,
+      kept-by (a .rules .table) _ same (e .1),
     )
 
 same-length-3 : tie.Need-same-length-3
@@ -108,8 +124,9 @@ returns-2 c =
     let o = c .before .before .before .before .before .before .before .before .before .before .before .before .before .before .before .before .before .before .before .before .before .before .before in
     let a = o .args in
     let b = lent (now (a .sites)) (now (a .log)) (entriesIn (now (a .kept))) (now (a .sent)) in
+    let same = rows-rest (now (a .book)) (now (a .noted)) (o .pre .0 .conflicts) in
     let e = c .before .before .before .before .before .before .before .before .turn .ensures in
-    (arm (a .rules .table) (commandsOf (now (a .book))) b _ (c .before .before .before .before .before .before .before .before .before .before .before .before .before .before .step2 .given .1) (e .0 (now (a .book)) (ready-as (a .rules .table) (now (a .book)) (now (a .rows)) b (c .before .before .before .before .before .before .before .before .before .before .before .before .before .before .step2 .given .1) (o .pre .0))), e .1)
+    (arm (a .rules .table) (commandsOf (now (a .book))) b _ (c .before .before .before .before .before .before .before .before .before .before .before .before .before .before .step2 .given .1) (e .0 (now (a .book)) (ready-as (a .rules .table) (now (a .book)) b (c .before .before .before .before .before .before .before .before .before .before .before .before .before .before .step2 .given .1) same (o .pre .0))), kept-by (a .rules .table) _ same (e .1))
 
 same-length-7 : tie.Need-same-length-7
 same-length-7 c = search needs
@@ -119,6 +136,7 @@ returns-3 c =
     let o = c .before .before .before .before .before .before .before .before .before .before .before .before .before .before in
     let a = o .args in
     let b = lent (now (a .sites)) (now (a .log)) (entriesIn (now (a .kept))) (now (a .sent)) in
+    let same = rows-rest (now (a .book)) (now (a .noted)) (o .pre .0 .conflicts) in
     (arm (a .rules .table) (commandsOf (now (a .book))) b _ (c .before .before .before .before .before .step3 .given .1) (c .before .before .fast-delivery .ensures (now (a .log)) (entriesIn (now (a .kept))) (now (a .sent)) (o .pre .0 .world)), o .pre .3)
 
 same-length-8 : tie.Need-same-length-8
@@ -132,6 +150,7 @@ returns-4 c =
     let o = c .before .before .before .before .before .before .before .before .before .before .before .before .before .before .before .before in
     let a = o .args in
     let b = lent (now (a .sites)) (now (a .log)) (entriesIn (now (a .kept))) (now (a .sent)) in
+    let same = rows-rest (now (a .book)) (now (a .noted)) (o .pre .0 .conflicts) in
     (arm (a .rules .table) (commandsOf (now (a .book))) b _ (c .before .before .before .before .before .before .before .step4 .given .1) (read-to (a .rules .table) _ (now (a .sites)) _ (c .before .before .before .before .entries .ensures) (c .before .before .log-read .ensures) (commandsOf (now (a .book))) (now (a .log)) (now (a .sent)) (o .pre .0 .world)), o .pre .3)
 
 same-length-10 : tie.Need-same-length-10
@@ -145,6 +164,7 @@ returns-5 c =
     let o = c .before .before .before .before .before .before .before .before .before .before .before .before .before .before .before in
     let a = o .args in
     let b = lent (now (a .sites)) (now (a .log)) (entriesIn (now (a .kept))) (now (a .sent)) in
+    let same = rows-rest (now (a .book)) (now (a .noted)) (o .pre .0 .conflicts) in
     (arm (a .rules .table) (commandsOf (now (a .book))) b _ (c .before .before .before .before .before .before .step5 .given .1) (c .before .before .round-end .ensures (now (a .log)) (kept-log (a .rules .table) (now (a .book)) (a .rules .commands) b (o .pre .2) (o .pre .0 .world) (o .pre .0 .conflicts) (λ k. c .before .before .before .before .before .before .before .before .before .before .before .before .before .slice-known2 .given k .fits) refl (o .pre .3)) (now (a .sent)) (o .pre .0 .world)), o .pre .3)
 
 same-length-12 : tie.Need-same-length-12
@@ -158,12 +178,16 @@ returns-6 c =
     let o = c .before .before .before .before .before .before .before .before .before .before .before .before .before in
     let a = o .args in
     let b = lent (now (a .sites)) (now (a .log)) (entriesIn (now (a .kept))) (now (a .sent)) in
+    let same = rows-rest (now (a .book)) (now (a .noted)) (o .pre .0 .conflicts) in
     (c .before .before .arrive .ensures (is-arrival (a .step) (c .before .before .before .before .before .match .keys6)) (commandsOf (now (a .book))) (now (a .log)) (entriesIn (now (a .kept))) (sym (o .pre .2)) (o .pre .0 .world), o .pre .3)
 
 pub step-spec : {M : Type 1} → statement M
 step-spec =
     tie.close
     (tie.spec
+    sub-rows
+    part-rows-start
+    part-rows-end
     enum-known-step
     false-entry-requires
     enum-known-step-2

@@ -1,13 +1,13 @@
 -- `turning::turn`: a law for each answer.
 -- Assumes nothing.
 use borrow.Author.Needs.{needs}
-use mathlib.Core.Path.{refl, sym, ap, _∙_}
+use mathlib.Core.Path.{sym, ap, _∙_}
 use lib.ListN.{length}
 use denote.Ref.{now}
 use Rattle.layout.specs.Layout.{siteSize}
 use Rattle.conflicts.proofs.Laws.{rows-size}
-use Rattle.judging.proofs.Laws.{first-length, noPlaces, full-room}
-use Rattle.turning.proofs.Laws.{turn-refused, turn-range, turn-sized, turn-counted, turn-noted, turn-room, turn-own, turn-done}
+use Rattle.judging.proofs.Laws.{first-length}
+use Rattle.turning.proofs.Laws.{turn-refused, turn-range, turn-sized, turn-placed, turn-rows, turn-room, turn-own, turn-done}
 use Rattle.turning.proofs.turn.Statement.{statement}
 use Rattle.turning.proofs.turn.Tie as tie
 
@@ -44,39 +44,48 @@ returns-2 c = let a = c .before .before .before .before .before .before .before 
 slice-aggregate-conflict-rows : tie.Need-slice-aggregate-conflict-rows
 slice-aggregate-conflict-rows c = search needs
 
-slice-aggregate-conflict-rows-2 : tie.Need-slice-aggregate-conflict-rows-2
-slice-aggregate-conflict-rows-2 c = search needs
-
 conflict-rows-requires : tie.Need-conflict-rows-requires
 conflict-rows-requires c κs =
-    let a = c .before .before .before .before .before .before .before .before .before .before .before .before .before .before .args in
-    let e = c .before .before .before .before .before .before .before .judge-site-and-log .ensures in
-    let h = c .before .before .before .before .judged .given .1 in
-    (refl, turn-counted (a .sites) (a .faults) (now (a .book)) (now (a .site)) (now (a .log)) (a .own) (now (a .out)) (e .0) h, turn-noted (a .sites) (a .faults) (now (a .book)) (now (a .site)) (now (a .log)) (a .own) (now (a .out)) (e .0) h noPlaces full-room (e .1))
+    let a = c .before .before .before .before .before .before .before .before .before .before .before .before .before .args in
+    let e = c .before .before .before .before .before .before .judge-site-and-log .ensures in
+    turn-placed (a .sites) (a .faults) (now (a .book)) (now (a .site)) (now (a .log)) (a .own) (now (a .out)) (e .0) (c .before .before .before .judged .given .1) (e .1)
 
 slice-reshare-prefix-round-of : tie.Need-slice-reshare-prefix-round-of
-slice-reshare-prefix-round-of c = let a = c .before .before .before .before .before .before .before .before .before .before .before .before .before .before .before .before .args in turn-sized (a .sites) (a .faults) (now (a .book)) (now (a .site)) (now (a .log)) (a .own) (now (a .out)) (c .before .before .before .before .before .before .before .before .before .judge-site-and-log .ensures .0) (c .before .before .before .before .before .before .judged .given .1)
+slice-reshare-prefix-round-of c = let a = c .before .before .before .before .before .before .before .before .before .before .before .before .before .before .before .args in turn-sized (a .sites) (a .faults) (now (a .book)) (now (a .site)) (now (a .log)) (a .own) (now (a .out)) (c .before .before .before .before .before .before .before .before .judge-site-and-log .ensures .0) (c .before .before .before .before .before .judged .given .1)
 
 slice-aggregate-round-of : tie.Need-slice-aggregate-round-of
-slice-aggregate-round-of c = let a = c .before .before .before .before .before .before .before .before .before .before .before .before .before .before .before .before .before .args in first-length siteSize (now (a .site)) (turn-sized (a .sites) (a .faults) (now (a .book)) (now (a .site)) (now (a .log)) (a .own) (now (a .out)) (c .before .before .before .before .before .before .before .before .before .before .judge-site-and-log .ensures .0) (c .before .before .before .before .before .before .before .judged .given .1))
+slice-aggregate-round-of c = let a = c .before .before .before .before .before .before .before .before .before .before .before .before .before .before .before .before .args in first-length siteSize (now (a .site)) (turn-sized (a .sites) (a .faults) (now (a .book)) (now (a .site)) (now (a .log)) (a .own) (now (a .out)) (c .before .before .before .before .before .before .before .before .before .judge-site-and-log .ensures .0) (c .before .before .before .before .before .before .judged .given .1))
 
 round-of-requires : tie.Need-round-of-requires
-round-of-requires c κs = let a = c .before .before .before .before .before .before .before .before .before .before .before .before .before .before .before .before .before .args in sym (first-length siteSize (now (a .site)) (turn-sized (a .sites) (a .faults) (now (a .book)) (now (a .site)) (now (a .log)) (a .own) (now (a .out)) (c .before .before .before .before .before .before .before .before .before .before .judge-site-and-log .ensures .0) (c .before .before .before .before .before .before .before .judged .given .1)))
+round-of-requires c κs = let a = c .before .before .before .before .before .before .before .before .before .before .before .before .before .before .before .before .args in sym (first-length siteSize (now (a .site)) (turn-sized (a .sites) (a .faults) (now (a .book)) (now (a .site)) (now (a .log)) (a .own) (now (a .out)) (c .before .before .before .before .before .before .before .before .before .judge-site-and-log .ensures .0) (c .before .before .before .before .before .before .judged .given .1)))
 
 slice-relend-prefix-take-turn : tie.Need-slice-relend-prefix-take-turn
-slice-relend-prefix-take-turn c = let a = c .before .before .before .before .before .before .before .before .before .before .before .before .before .before .before .before .before .before .args in turn-sized (a .sites) (a .faults) (now (a .book)) (now (a .site)) (now (a .log)) (a .own) (now (a .out)) (c .before .before .before .before .before .before .before .before .before .before .before .judge-site-and-log .ensures .0) (c .before .before .before .before .before .before .before .before .judged .given .1)
+slice-relend-prefix-take-turn c = let a = c .before .before .before .before .before .before .before .before .before .before .before .before .before .before .before .before .before .args in turn-sized (a .sites) (a .faults) (now (a .book)) (now (a .site)) (now (a .log)) (a .own) (now (a .out)) (c .before .before .before .before .before .before .before .before .before .before .judge-site-and-log .ensures .0) (c .before .before .before .before .before .before .before .judged .given .1)
 
 slice-aggregate-take-turn : tie.Need-slice-aggregate-take-turn
-slice-aggregate-take-turn c = let a = c .before .before .before .before .before .before .before .before .before .before .before .before .before .before .before .before .before .before .before .args in first-length siteSize (now (a .site)) (turn-sized (a .sites) (a .faults) (now (a .book)) (now (a .site)) (now (a .log)) (a .own) (now (a .out)) (c .before .before .before .before .before .before .before .before .before .before .before .before .judge-site-and-log .ensures .0) (c .before .before .before .before .before .before .before .before .before .judged .given .1))
+slice-aggregate-take-turn c = let a = c .before .before .before .before .before .before .before .before .before .before .before .before .before .before .before .before .before .before .args in first-length siteSize (now (a .site)) (turn-sized (a .sites) (a .faults) (now (a .book)) (now (a .site)) (now (a .log)) (a .own) (now (a .out)) (c .before .before .before .before .before .before .before .before .before .before .before .judge-site-and-log .ensures .0) (c .before .before .before .before .before .before .before .before .judged .given .1))
 
-slice-aggregate-take-turn-2 : tie.Need-slice-aggregate-take-turn-2
-slice-aggregate-take-turn-2 c = search needs
+sub-take-turn : tie.Need-sub-take-turn
+sub-take-turn c = search needs
+
+part-take-turn-start : tie.Need-part-take-turn-start
+part-take-turn-start c = search needs
+
+part-take-turn-end : tie.Need-part-take-turn-end
+part-take-turn-end c = search needs
 
 take-turn-requires : tie.Need-take-turn-requires
-take-turn-requires c κs = let a = c .before .before .before .before .before .before .before .before .before .before .before .before .before .before .before .before .before .before .before .before .args in (sym (first-length siteSize (now (a .site)) (turn-sized (a .sites) (a .faults) (now (a .book)) (now (a .site)) (now (a .log)) (a .own) (now (a .out)) (c .before .before .before .before .before .before .before .before .before .before .before .before .before .judge-site-and-log .ensures .0) (c .before .before .before .before .before .before .before .before .before .before .judged .given .1))), ap length (c .before .before .before .before .before .conflict-rows .ensures) ∙ rows-size (now (a .book)))
+take-turn-requires c κs =
+    let a = c .before .before .before .before .before .before .before .before .before .before .before .before .before .before .before .before .before .before .before .before .args in
+    let e = c .before .before .before .before .before .before .before .before .before .before .before .before .before .judge-site-and-log .ensures in
+    let h = c .before .before .before .before .before .before .before .before .before .before .judged .given .1 in
+    let r = turn-rows (a .sites) (a .faults) (now (a .book)) (now (a .site)) (now (a .log)) (a .own) (now (a .out)) (e .0) h (e .1) (c .before .before .before .before .before .before .conflict-rows .ensures) in (
+      sym (first-length siteSize (now (a .site)) (turn-sized (a .sites) (a .faults) (now (a .book)) (now (a .site)) (now (a .log)) (a .own) (now (a .out)) (e .0) h)),
+      ap length r ∙ rows-size (now (a .book)),
+    )
 
 send-requires : tie.Need-send-requires
-send-requires c κs = let a = c .before .before .before .before .before .before .before .before .before .before .before .before .before .before .before .before .before .before .before .before .before .before .before .before .args in (turn-room (a .sites) (a .faults) (now (a .book)) (now (a .site)) (now (a .log)) (a .own) (now (a .out)) (c .before .before .before .before .before .before .before .before .before .before .before .before .before .before .before .before .before .judge-site-and-log .ensures .0) (c .before .before .before .before .before .before .before .before .before .before .before .before .before .before .judged .given .1), turn-own (a .sites) (a .faults) (now (a .book)) (now (a .site)) (now (a .log)) (a .own) (now (a .out)) (c .before .before .before .before .before .before .before .before .before .before .before .before .before .before .before .before .before .judge-site-and-log .ensures .0) (c .before .before .before .before .before .before .before .before .before .before .before .before .before .before .judged .given .1) (c .before .before .before .before .before .before .before .before .before .before .before .before .if1 .left), c .before .before .before .before .before .before .round-of .ensures .1)
+send-requires c κs = let a = c .before .before .before .before .before .before .before .before .before .before .before .before .before .before .before .before .before .before .before .before .before .before .before .before .args in (turn-room (a .sites) (a .faults) (now (a .book)) (now (a .site)) (now (a .log)) (a .own) (now (a .out)) (c .before .before .before .before .before .before .before .before .before .before .before .before .before .before .before .before .before .judge-site-and-log .ensures .0) (c .before .before .before .before .before .before .before .before .before .before .before .before .before .before .judged .given .1), turn-own (a .sites) (a .faults) (now (a .book)) (now (a .site)) (now (a .log)) (a .own) (now (a .out)) (c .before .before .before .before .before .before .before .before .before .before .before .before .before .before .before .before .before .judge-site-and-log .ensures .0) (c .before .before .before .before .before .before .before .before .before .before .before .before .before .before .judged .given .1) (c .before .before .before .before .before .before .before .before .before .before .before .before .if1 .left), c .before .before .before .before .before .before .before .round-of .ensures .1)
 
 same-length-3 : tie.Need-same-length-3
 same-length-3 c = search needs
@@ -85,7 +94,13 @@ same-length-4 : tie.Need-same-length-4
 same-length-4 c = search needs
 
 returns-3 : tie.Need-returns-3
-returns-3 c = let a = c .before .before .before .before .before .before .before .before .before .before .before .before .before .before .before .before .before .before .before .before .before .before .before .before .before .before .before .args in turn-done (a .sites) (a .faults) (now (a .book)) (now (a .site)) (now (a .log)) (a .own) (now (a .out)) (c .before .before .before .before .before .before .before .before .before .before .before .before .before .before .before .before .before .before .before .before .judge-site-and-log .ensures .0) (c .before .before .before .before .before .before .before .before .before .before .before .before .before .before .before .before .before .judged .given .1) (c .before .before .before .before .before .before .before .before .before .before .before .before .before .before .before .if1 .left) (λ i. c .before .before .before .before .before .before .before .before .before .before .before .before .before .before .before .before .before .before .before .before .before .before .before .before .before .slice-known .given i .fits) (c .before .before .before .before .before .before .before .before .before .round-of .ensures .0) (c .before .before .before .before .before .before .before .before .before .before .before .before .conflict-rows .ensures) (c .before .before .before .before .before .before .take-turn .ensures) (c .before .before .send .ensures)
+returns-3 c =
+    let a = c .before .before .before .before .before .before .before .before .before .before .before .before .before .before .before .before .before .before .before .before .before .before .before .before .before .before .before .args in
+    let e = c .before .before .before .before .before .before .before .before .before .before .before .before .before .before .before .before .before .before .before .before .judge-site-and-log .ensures in
+    let h = c .before .before .before .before .before .before .before .before .before .before .before .before .before .before .before .before .before .judged .given .1 in
+    let r = turn-rows (a .sites) (a .faults) (now (a .book)) (now (a .site)) (now (a .log)) (a .own) (now (a .out)) (e .0) h (e .1) (c .before .before .before .before .before .before .before .before .before .before .before .before .before .conflict-rows .ensures) in
+    turn-done (a .sites) (a .faults) (now (a .book)) (now (a .site)) (now (a .log)) (a .own) (now (a .out)) (e .0) h (c .before .before .before .before .before .before .before .before .before .before .before .before .before .before .before .if1 .left) (λ i. c .before .before .before .before .before .before .before .before .before .before .before .before .before .before .before .before .before .before .before .before .before .before .before .before .before .slice-known .given i .fits) (c .before .before .before .before .before .before .before .before .before .before .round-of .ensures .0)
+    r (c .before .before .before .before .before .before .take-turn .ensures) (c .before .before .send .ensures)
 
 pub turn-spec : {M : Type 1} → statement M
 turn-spec =
@@ -102,14 +117,15 @@ turn-spec =
     same-length-2
     returns-2
     slice-aggregate-conflict-rows
-    slice-aggregate-conflict-rows-2
     conflict-rows-requires
     slice-reshare-prefix-round-of
     slice-aggregate-round-of
     round-of-requires
     slice-relend-prefix-take-turn
     slice-aggregate-take-turn
-    slice-aggregate-take-turn-2
+    sub-take-turn
+    part-take-turn-start
+    part-take-turn-end
     take-turn-requires
     send-requires
     same-length-3
