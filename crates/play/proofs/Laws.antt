@@ -45,10 +45,12 @@ line-short step refusal a b = omega (arith, step-length step refusal, decimal-sh
 pub silent : (s : List ℕ) (at number : ℕ) {v : Verdict} → v ≡ Taken → Wrote s at s at (report number v)
 silent s at number e = subst (λ (v : Verdict). Wrote s at s at (report number v)) (sym e) (record { end = omega arith; bytes = sym (splice-none s at) })
 
-pub loud : (number : ℕ) {s after : List ℕ} {at past code : ℕ} {v : Verdict} {r : Refusal} → v ≡ Refused r → code ≡ numberOf r → Wrote after past s at (stepLine number code)
-    → Wrote after past s at (report number v)
-loud number {s} {after} {at} {past} ev ec w =
-    subst (λ (v : Verdict). Wrote after past s at (report number v)) (sym ev) (subst (λ (k : ℕ). Wrote after past s at (stepLine number k)) ec w)
+pub loud : (number : ℕ) (r : Refusal) {s after : List ℕ} {at past code : ℕ} → code ≡ numberOf r → Wrote after past s at (stepLine number code)
+    → Wrote after past s at (report number (Refused r))
+loud number r {s} {after} {at} {past} ec w = subst (λ (k : ℕ). Wrote after past s at (stepLine number k)) ec w
+
+pub reported : (number : ℕ) {s after : List ℕ} {at past : ℕ} {u v : Verdict} → u ≡ v → Wrote after past s at (report number v) → Wrote after past s at (report number u)
+reported number {s} {after} {at} {past} e w = subst (λ (x : Verdict). Wrote after past s at (report number x)) (sym e) w
 
 -- ---- what is left
 

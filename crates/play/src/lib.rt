@@ -3,6 +3,7 @@ ghost use Prim.Native.Nat.{_+_, _≤_, _<_};
 ghost use lib.ListN.{length};
 ghost use Rattle.commands.specs.Book.{commandsOf};
 ghost use Rattle.conflicts.specs.Conflicts.{rowsIn};
+ghost use Rattle.refusals.specs.declared.Verdict.the-variants.{Refused};
 ghost use Rattle.print.specs.Print.{Wrote};
 ghost use Rattle.runs.specs.Run as runs;
 ghost use Rattle.rounds.specs.Rounds.{entriesIn, Kept};
@@ -13,6 +14,15 @@ use refusals::Verdict;
 use steps::Reading;
 use table::Rules;
 
+// The line of a refused step is written.
+fn put_refusal(out: &mut [u8], at: usize, number: usize, refusal: Refusal) -> usize
+    requires { ⌜ (at + lineRoom ≤ length (now out)) × (number < 100000) ⌝ }
+    ensures { λ r. ⌜ Wrote (now (out .exit)) r (now (out .entry)) at (runs.report number (Refused refusal)) × (r ≤ at + lineRoom) ⌝ }
+{
+    let cause = refusals::number(refusal) as usize;
+    lines::put_step_line(out, at, number, cause)
+}
+
 // The line of a step is written where it is refused.
 fn report(out: &mut [u8], at: usize, number: usize, verdict: Verdict) -> usize
     requires { ⌜ (at + lineRoom ≤ length (now out)) × (number < 100000) ⌝ }
@@ -21,8 +31,7 @@ fn report(out: &mut [u8], at: usize, number: usize, verdict: Verdict) -> usize
     let Verdict::Refused(refusal) = verdict else {
         return at;
     };
-    let cause = refusals::number(refusal) as usize;
-    lines::put_step_line(out, at, number, cause)
+    put_refusal(out, at, number, refusal)
 }
 
 // The steps are played from the start of a run, with words to keep what the log says. The answer is the position after the last line.
@@ -50,7 +59,7 @@ fn play_on(
     while at < steps.len() {
         let reading = steps::read_step(steps, at);
         let Reading::Whole(step) = reading else {
-            return report(out, end, number, Verdict::Refused(Refusal::Form));
+            return put_refusal(out, end, number, Refusal::Form);
         };
         let size = steps::size(step);
         let verdict = stepping::step(sites, log, sent, kept, rules, book, noted, step);

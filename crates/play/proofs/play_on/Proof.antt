@@ -58,8 +58,8 @@ enum-known-reading c = search needs
 enum-told : tie.Need-enum-told Inv-loop μ-loop
 enum-told c = search needs
 
-report-requires : tie.Need-report-requires Inv-loop μ-loop
-report-requires c κs =
+put-refusal-requires : tie.Need-put-refusal-requires Inv-loop μ-loop
+put-refusal-requires c κs =
     let o = c .before .before .before .before .before .before .before .before .before .before .before .before .before .before in
     let a = o .args in
     let l = c .before .before .before .before .before .loop in
@@ -78,14 +78,14 @@ same-length-4 : tie.Need-same-length-4 Inv-loop μ-loop
 same-length-4 c = c .before .before .before .before .before .before .before .before .loop .inv .8 .size ∙ sym (c .before .before .before .before .before .before .before .before .before .before .before .before .before .before .before .before .before .pre .1 .size)
 
 same-length-5 : tie.Need-same-length-5 Inv-loop μ-loop
-same-length-5 c = c .before .before .report .kept .0 ∙ c .before .before .before .before .before .before .before .before .loop .inv .6
+same-length-5 c = c .before .before .put-refusal .kept .0 ∙ c .before .before .before .before .before .before .before .before .loop .inv .6
 
 returns : tie.Need-returns Inv-loop μ-loop
 returns c =
     let o = c .before .before .before .before .before .before .before .before .before .before .before .before .before .before .before .before .before in
     let a = o .args in
     let l = c .before .before .before .before .before .before .before .before .loop in
-    let w = c .before .before .report .ensures in
+    let w = c .before .before .put-refusal .ensures in
     let g : l .at < length (now (a .steps)) = omega (arith, c .before .before .before .before .before .before .before .loop-test .taken) in
     let far : l .end ≤ length (l .out) = omega (arith, o .pre .0 .room, o .pre .0 .short, l .inv .0, l .inv .1, l .inv .2, l .inv .6, c .before .before .before .before .before .before .before .loop-test .taken) in
     playing-end (a .rules .table) (commandsOf (now (a .book))) (now (a .steps)) (now (a .out)) (a .from)
@@ -117,8 +117,8 @@ step-requires c κs =
       l .inv .8,
     )
 
-report-requires-2 : tie.Need-report-requires-2 Inv-loop μ-loop
-report-requires-2 c κs =
+report-requires : tie.Need-report-requires Inv-loop μ-loop
+report-requires c κs =
     let o = c .before .before .before .before .before .before .before .before .before .before .before .before .before .before .before .before .before .before .before .before .before .before .before .before .before .before .before .before .before in
     let a = o .args in
     let l = c .before .before .before .before .before .before .before .before .before .before .before .before .before .before .before .before .before .before .before .before .loop in
@@ -155,7 +155,7 @@ loop-again c =
     let a = o .args in
     let l = c .before .before .before .before .before .before .before .before .before .before .before .before .before .before .before .before .before .before .before .before .before .before .before .loop in
     let b = c .before .before .before .before .before .before .before .before .before .before .before .before .step in
-    let w = c .before .before .report2 .ensures in
+    let w = c .before .before .report .ensures in
     let e = sym (c .before .before .before .before .before .before .before .before .before .before .before .before .before .before .before .before .before .before .before .before .before .read-step .ensures) ∙ c .before .before .before .before .before .before .before .before .before .before .before .before .before .before .before .before .before .before .before .reading .given .1 in
     let i = inside (now (a .steps)) (l .at) (l .inv .0) e (c .before .before .before .before .before .before .before .before .before .before .before .before .before .before .before .before .before .size .ensures) in
     let far : l .end ≤ length (l .out) = omega (arith, o .pre .0 .room, o .pre .0 .short, l .inv .0, l .inv .1, l .inv .2, l .inv .6, c .before .before .before .before .before .before .before .before .before .before .before .before .before .before .before .before .before .before .before .before .before .before .loop-test .taken) in (
@@ -165,7 +165,7 @@ loop-again c =
       b .kept .0 ∙ l .inv .3,
       b .kept .1 .0 ∙ l .inv .4,
       b .kept .1 .1 .0 ∙ l .inv .5,
-      c .before .before .report2 .kept .0 ∙ l .inv .6,
+      c .before .before .report .kept .0 ∙ l .inv .6,
       playing-more (a .rules .table) (commandsOf (now (a .book))) (now (a .steps)) (now (a .out)) (a .from) (l .inv .7) far e (ap (λ (z : ℕ). l .at + z) (c .before .before .before .before .before .before .before .before .before .before .before .before .before .before .before .before .before .size .ensures)) (b .ensures .0) (w .0),
       b .ensures .1,
     )
@@ -203,7 +203,7 @@ play-on-spec =
     read-step-requires
     enum-known-reading
     enum-told
-    report-requires
+    put-refusal-requires
     same-length
     same-length-2
     same-length-3
@@ -212,7 +212,7 @@ play-on-spec =
     returns
     size-requires
     step-requires
-    report-requires-2
+    report-requires
     add-at
     add-number
     loop-less
