@@ -41,7 +41,7 @@ pub fn size(command: Command) -> usize
 }
 
 // The command at the front of some bytes.
-pub fn read_command(bytes: &[u8]) -> Reading
+fn read_command(bytes: &[u8]) -> Reading
     ensures { λ r. ⌜ r ≡ readCommand (now (bytes .entry)) ⌝ }
 {
     let n = bytes.len();

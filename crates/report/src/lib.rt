@@ -28,7 +28,7 @@ fn put_deliveries(out: &mut [u8], at: usize, site: &[u8], n: usize) -> usize
 }
 
 // The line of a lent site is written, under its number.
-pub fn put_site_line(out: &mut [u8], at: usize, number: usize, site: &[u8]) -> usize
+fn put_site_line(out: &mut [u8], at: usize, number: usize, site: &[u8]) -> usize
     requires { ⌜ Printable (now site) × (at + lineRoom ≤ length (now out)) ⌝ }
     ensures { λ r. ⌜ Wrote (now (out .exit)) r (now (out .entry)) at (lineOf number (now (site .entry))) × (r ≤ at + lineRoom) ⌝ }
 {
