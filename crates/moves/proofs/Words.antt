@@ -1,17 +1,16 @@
 -- The sets of a site in its bytes: as words and back, and within the book.
 -- Assumes nothing.
-use mathlib.Core.Path.{_≡_, refl, sym, ap, _∙_}
+use mathlib.Core.Path.{_≡_, refl, ap}
 use mathlib.Core.Bool.{Bool, true, false, _&&_, _||_, not}
 use mathlib.Core.List.{List}
-use mathlib.Core.Logic.{⊎-elim}
 use mathlib.Core.Option.{some}
 use Prim.Native.Nat.{ℕ, _≤_, _<_}
 use lib.Dec.{ltb}
 use lib.ListN.{length, getD}
 use Rattle.theory.specs.Sets as theory
-use Rattle.theory.specs.Counting.{lt-or-le, never, all-at, all-of}
+use Rattle.theory.specs.Counting.{never, all-at, all-of}
 use Rattle.sets.specs.Sets.{capacity, inSet, setOf}
-use Rattle.sets.proofs.Laws.{has-above, in-setOf, in-setOf-above}
+use Rattle.sets.proofs.Laws.{has-above, set-back}
 use Rattle.table.specs.declared.SiteTable.{SiteTable}
 use Rattle.register.specs.declared.Command.{Command}
 use Rattle.protocol.specs.Site.{undelivered, unacknowledged}
@@ -20,11 +19,6 @@ use Rattle.layout.specs.Layout.{headOf, view}
 use Rattle.layout.specs.Good.{Good}
 use Rattle.layout.proofs.Header.{fit}
 use Rattle.world.specs.World.{knownTo}
-
--- A set with nothing beyond its capacity is the word of its members.
-pub word-back : (p : theory.Set) → ((m : ℕ) → capacity ≤ m → p m ≡ false) → inSet (setOf capacity p) ≡ p
-word-back p h =
-    λ i m. ⊎-elim (λ l. in-setOf capacity p m l) (λ l. in-setOf-above capacity p m l ∙ sym (h m l)) (lt-or-le m capacity) i
 
 -- A part of a set that is known is known.
 known-part : (c : ℕ) (p q : theory.Set) → knownTo c (some p) ≡ true → ((m : ℕ) → p m ≡ false → q m ≡ false) → knownTo c (some q) ≡ true
@@ -50,13 +44,13 @@ module _ (t : SiteTable) (book : List Command) (b : List ℕ) (good : Good (t .s
   received-above m l = has-above 64 (headOf b .received .bits) m (fit b small (good .size) .received) l
 
   pub undelivered-word : inSet (setOf capacity (undelivered (dash t book) (view t book b))) ≡ undelivered (dash t book) (view t book b)
-  undelivered-word = word-back (undelivered (dash t book) (view t book b)) (λ m l. none-left (view t book b .received m) _ (received-above m l))
+  undelivered-word = set-back capacity (undelivered (dash t book) (view t book b)) (λ m l. none-left (view t book b .received m) _ (received-above m l))
 
   pub unacknowledged-word : inSet (setOf capacity (unacknowledged (dash t book) (view t book b))) ≡ unacknowledged (dash t book) (view t book b)
-  unacknowledged-word = word-back (unacknowledged (dash t book) (view t book b)) (λ m l. none-left (view t book b .received m) _ (received-above m l))
+  unacknowledged-word = set-back capacity (unacknowledged (dash t book) (view t book b)) (λ m l. none-left (view t book b .received m) _ (received-above m l))
 
   pub pending-word : inSet (setOf capacity (view t book b .pending)) ≡ view t book b .pending
-  pending-word = word-back (view t book b .pending) (λ m l. has-above 64 (headOf b .pending .bits) m (fit b small (good .size) .pending) l)
+  pending-word = set-back capacity (view t book b .pending) (λ m l. has-above 64 (headOf b .pending .bits) m (fit b small (good .size) .pending) l)
 
   -- What is undelivered is within the book.
   pub undelivered-known : knownTo (length book) (some (undelivered (dash t book) (view t book b))) ≡ true

@@ -10,23 +10,15 @@ use native.Mathlib.Omega.{arith}
 use lib.Dec.{leb}
 use lib.ListN.{length, getD}
 use borrow.Author.Tests.{lt-leb}
-use Rattle.theory.specs.Counting.{lt-or-le, any-of-none, count-of-none}
-use Rattle.sets.specs.Sets.{capacity, inSet, setOf}
-use Rattle.sets.proofs.Laws.{in-above, in-setOf, in-setOf-above}
+use Rattle.theory.specs.Counting.{any-of-none, count-of-none}
+use Rattle.sets.specs.Sets.{capacity, inSet}
+use Rattle.sets.proofs.Laws.{in-above, set-back}
 use Rattle.protocol.specs.System.{System}
 use Rattle.protocol.specs.Recovery.{Entry, Standing, absent, valid, excluded, ncOf, cOf, Tally, decide, ncSet, cSet}
 use Rattle.protocol.specs.StandingLaws.{Logged, logged-split, Backed, decided-backed}
 use Rattle.entries.specs.Entries.{entrySize, entryOf, viewEntry, logTo}
 use Rattle.entries.proofs.Bytes.{entry-fits}
 use Rattle.recovery.specs.Decisions.{setsOf}
-
--- Sets and predicates that agree below the capacity and are empty above it.
-members-of : (p : ℕ → Bool) → ((m : ℕ) → capacity ≤ m → p m ≡ false) → inSet (setOf capacity p) ≡ p
-members-of p h = λ i m. point m (lt-or-le m capacity) i
-  where
-    point : (m : ℕ) → (m < capacity) ⊎ (capacity ≤ m) → inSet (setOf capacity p) m ≡ p m
-    point m (inl l) = in-setOf capacity p m l
-    point m (inr l) = in-setOf-above capacity p m l ∙ sym (h m l)
 
 module _ (b : List ℕ) (small : (i : ℕ) → getD b i 0 < 256) where
   logged-bounded : (k : ℕ) → k * entrySize ≤ length b → (e : Entry) → Logged e (logTo b k) → (m : ℕ) → capacity ≤ m
@@ -57,13 +49,13 @@ module _ (b : List ℕ) (small : (i : ℕ) → getD b i 0 < 256) where
     -- NC of the answer is the protocol's NCSet,
     pub members-nc : 1 ≤ S .majority → inSet (setsOf S d .nc) ≡ ncSet S d
     members-nc g =
-        members-of (ncSet S d)
+        set-back capacity (ncSet S d)
         (λ m l. ap (leb (S .majority)) (count-of-none (S .sites) (λ j. ncOf (d j) m) (λ j _. valid-bounded j m l .0)) ∙ lt-leb (S .majority) 0 g)
 
     -- and C its CSet.
     pub members-c : inSet (setsOf S d .c) ≡ cSet S d
     members-c =
-        members-of (cSet S d)
+        set-back capacity (cSet S d)
         (λ m l. ap (λ (x : Bool). x && not (ncSet S d m))
         (any-of-none (S .sites) (λ j. ncOf (d j) m || cOf (d j) m)
         (λ j f. λ i. valid-bounded j m l .0 i || valid-bounded j m l .1 i)))

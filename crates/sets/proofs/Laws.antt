@@ -304,6 +304,10 @@ in-setOf = has-word
 pub in-setOf-above : (k : ℕ) (p : ℕ → Bool) (m : ℕ) → k ≤ m → inSet (setOf k p) m ≡ false
 in-setOf-above = has-word-above
 
+-- A predicate with nothing from k on is the membership of its set.
+pub set-back : (k : ℕ) (p : ℕ → Bool) → ((m : ℕ) → k ≤ m → p m ≡ false) → inSet (setOf k p) ≡ p
+set-back k p h = λ i m. ⊎-elim (λ l. in-setOf k p m l) (λ l. in-setOf-above k p m l ∙ sym (h m l)) (lt-or-le m k) i
+
 pub in-above : (s : Set) (m : ℕ) → s .bits < 2 ^ 64 → 64 ≤ m → inSet s m ≡ false
 in-above s m h l = has-above 64 (s .bits) m h l
 
