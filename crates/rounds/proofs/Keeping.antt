@@ -68,7 +68,7 @@ all-zero kept zeros r l =
     (zeros (at + 4) (omega arith)) (zeros (at + 5) (omega arith)) (zeros (at + 6) (omega arith))
 
 -- Words that are all zero keep nothing yet.
-pub kept-none : (t : SiteTable) (rows log kept : List ℕ) → length kept ≡ keptWords → ((i : ℕ) → i < keptWords → getD kept i 0 ≡ 0) → KeptTo t rows log 0 kept
+kept-none : (t : SiteTable) (rows log kept : List ℕ) → length kept ≡ keptWords → ((i : ℕ) → i < keptWords → getD kept i 0 ≡ 0) → KeptTo t rows log 0 kept
 kept-none t rows log kept size zeros =
     record {
       size = size;
@@ -89,7 +89,7 @@ kept-start t rows log =
 -- ---- one entry more
 
 -- The same entries keep the same;
-pub kept-same : (t : SiteTable) (rows a b : List ℕ) (k : ℕ) (kept : List ℕ) → ((i : ℕ) → i < k → entryOf a i ≡ entryOf b i)
+kept-same : (t : SiteTable) (rows a b : List ℕ) (k : ℕ) (kept : List ℕ) → ((i : ℕ) → i < k → entryOf a i ≡ entryOf b i)
     → KeptTo t rows a k kept → KeptTo t rows b k kept
 kept-same t rows a b k kept e h =
     record {
@@ -99,7 +99,7 @@ kept-same t rows a b k kept e h =
     }
 
 -- so writing the entry after them changes nothing.
-pub kept-written : (t : SiteTable) (rows log : List ℕ) (k : ℕ) (kept : List ℕ) (e : Entry) → k * entrySize + entrySize ≤ length log
+kept-written : (t : SiteTable) (rows log : List ℕ) (k : ℕ) (kept : List ℕ) (e : Entry) → k * entrySize + entrySize ≤ length log
     → KeptTo t rows log k kept → KeptTo t rows (writeEntry log k e) k kept
 kept-written t rows log k kept e room =
     kept-same t rows log (writeEntry log k e) k kept (λ i l. sym (entry-other log k e i room (λ q. omega arith)))
