@@ -40,7 +40,7 @@ use Rattle.judging.specs.declared.Judgement.{Judgement}
 use Rattle.judging.specs.declared.Judgement.the-variants as judgement
 use Rattle.judging.specs.Judging.{tableOf, systemOf, spanIn, siteIn, withSite, rulesOf, judgedAs, numberIn, forSite, forSiteAndLog, placesAfter}
 use Rattle.judging.proofs.Demands.{then-taken, then-refused, answered-refused}
-use Rattle.judging.proofs.Laws.{Judged, JudgedLog, site-judged, log-judged, site-noted, log-noted, past-places, good-taken, good-code, good-rules, refused-code}
+use Rattle.judging.proofs.Laws.{Judged, JudgedLog, site-judged, log-judged, site-noted, log-placed, good-taken, good-code, good-rules, refused-code}
 use Rattle.judging.proofs.Steps.{carried}
 use Rattle.delivering.specs.Delivering.{fastDeliveryCall, roundEndCall}
 
@@ -167,9 +167,7 @@ module _ (n f : ℕ) (book site log : List ℕ) {j : Judgement}
     module _ {after : List ℕ} (w : after ≡ placesAfter n f book (leb siteSize (length site)) noneNoted) where
       -- The commands are counted and their places noted, and no row yet.
       pub end-placed : (rowsIn after ≡ replicate maxCommands 0) × (x .commands ≡ length (commandsOf book)) × Placed book after
-      end-placed =
-          let room : maxCommands ≤ maxCommands + maxCommands = omega arith in
-          (past-places n f book true site noneNoted room w, ap (λ (y : Rules). y .commands) ruled, log-noted n f book true site noneNoted room w log end-code refl)
+      end-placed = log-placed n f book true site noneNoted (omega arith) w log e h
 
       pub end-ready : {noted : List ℕ} → noted ≡ take maxCommands after ++ conflictRows book
           → Good (x .table .sites) (x .commands) (take siteSize site) × (isGood (x .table) ≡ true) × Noted book noted × (length (commandsOf book) ≡ x .commands)

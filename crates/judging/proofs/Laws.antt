@@ -298,9 +298,16 @@ module _ (n f : ℕ) (book : List ℕ) (enough : Bool) (site places : List ℕ) 
   pub site-noted : {k : ℕ} → k ≡ codeOf (verdict (forSite n f book enough site)) → k ≡ 0 → Placed book after
   site-noted q z = noted (met (forSite n f book enough site) q z .0) (site-judged n f book enough site q z .1)
 
-  pub log-noted : (log : List ℕ) {k : ℕ} → k ≡ codeOf (verdict (forSiteAndLog n f book enough site log)) → k ≡ 0 → Placed book after
+  log-noted : (log : List ℕ) {k : ℕ} → k ≡ codeOf (verdict (forSiteAndLog n f book enough site log)) → k ≡ 0 → Placed book after
   log-noted log q z = noted (met (forSiteAndLog n f book enough site log) q z .0) (log-judged n f book enough site log q z .1)
 
   -- What is past the places is as it was.
-  pub past-places : drop maxCommands after ≡ drop maxCommands places
+  past-places : drop maxCommands after ≡ drop maxCommands places
   past-places = ap (drop {A = ℕ} maxCommands) e ∙ past-noted (isTaken (verdict (forFirst n f (enough && leb siteSize (length site))))) book places
+
+  -- A site and a log that are good: the commands are counted and their places noted, and nothing past these.
+  pub log-placed : (log : List ℕ) {j : Judgement} {x : Rules} → j ≡ judgedAs (verdict (forSiteAndLog n f book enough site log)) (rulesOf n f book) → j ≡ judgement.Good x
+      → (drop maxCommands after ≡ drop maxCommands places) × (x .commands ≡ length (commandsOf book)) × Placed book after
+  log-placed log q h =
+      let v = verdict (forSiteAndLog n f book enough site log) in
+      (past-places, good-rules n f book v q h .1, log-noted log (good-code v (rulesOf n f book) q h) refl)

@@ -54,7 +54,7 @@ use Rattle.judging.specs.declared.Judgement.{Judgement}
 use Rattle.judging.specs.declared.Judgement.the-variants as judgement
 use Rattle.judging.specs.Judging.{tableOf, systemOf, spanIn, siteIn, withSite, rulesOf, judgedAs, numberIn, forSiteAndLog, placesAfter}
 use Rattle.judging.proofs.Demands.{then-taken, then-refused, answered-refused}
-use Rattle.judging.proofs.Laws.{Judged, log-judged, log-noted, past-places, good-code, good-rules, refused-code}
+use Rattle.judging.proofs.Laws.{Judged, log-judged, log-placed, good-code, refused-code}
 use Rattle.judging.proofs.Steps.{written, as-before}
 use Rattle.turning.specs.Turning.{turnSize, buffers, TurnTaken, acknowledgmentBytes, proposalBytes, entryFor, entryOf, sentBytes, turned, sent, turnCall}
 
@@ -138,13 +138,7 @@ module _ (n f : ℕ) (book site log : List ℕ) (own : ℕ) (o : List ℕ) {j : 
     module _ {after : List ℕ} (w : after ≡ placesAfter n f book (leb turnSize (length o) && leb siteSize (length site)) noneNoted) where
       -- The commands are counted and their places noted, and no row yet.
       pub turn-placed : (rowsIn after ≡ replicate maxCommands 0) × (x .commands ≡ length (commandsOf book)) × Placed book after
-      turn-placed =
-          let enough = leb turnSize (length o) in
-          let room : maxCommands ≤ maxCommands + maxCommands = omega arith in (
-            past-places n f book enough site noneNoted room w,
-            good-rules n f book (verdict (forSiteAndLog n f book enough site log)) e h .1,
-            log-noted n f book enough site noneNoted room w log code refl,
-          )
+      turn-placed = log-placed n f book (leb turnSize (length o)) site noneNoted (omega arith) w log e h
 
       -- Then the rows, as a part of the noted words.
       pub turn-rows : {noted : List ℕ} → noted ≡ take maxCommands after ++ conflictRows book → take maxCommands (rowsIn noted) ≡ conflictRows book
