@@ -25,7 +25,7 @@ pub enum Measured {
 }
 
 // The bytes of a command.
-pub fn size(command: Command) -> usize
+fn size(command: Command) -> usize
     ensures { λ r. ⌜ r ≡ sizeOf command ⌝ }
 {
     match command {
