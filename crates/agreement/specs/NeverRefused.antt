@@ -188,21 +188,21 @@ module _ (S : System) (f : ℕ) (sizes : Sizes S f) where
         v = finish-traced S f sizes w i (decision S (w .site i) (w .log)) refl h (good .settled) (good .pending) (good .promises) (good .heard) (good .traced i)
 
     -- Refusal 9 is never met.
-    pub no-size : (t : Step) (r : Refusal) → judge S w t ≡ Refused r → isFull r ≡ false
-    no-size t r e = spared isFull (demands S w t) (sizes-spared t) r e
+    pub no-full : (t : Step) (r : Refusal) → judge S w t ≡ Refused r → isFull r ≡ false
+    no-full t r e = spared isFull (demands S w t) (full-spared t) r e
       where
-        sizes-spared : (t : Step) → Spared isFull (demands S w t)
-        sizes-spared (command i m) = unmentioned isFull (demands S w (command i m)) refl
-        sizes-spared (acknowledgment i j r a) = unmentioned isFull (demands S w (acknowledgment i j r a)) refl
-        sizes-spared (check i j r) = unmentioned isFull (demands S w (check i j r)) refl
-        sizes-spared (falseAcknowledgment i j r x) = unmentioned isFull (demands S w (falseAcknowledgment i j r x)) refl
-        sizes-spared (falseCheck i j r x) = unmentioned isFull (demands S w (falseCheck i j r x)) refl
-        sizes-spared (falseEntry j r nc c) = unmentioned isFull (demands S w (falseEntry j r nc c)) refl
-        sizes-spared (turn i) = unmentioned isFull (demands S w (turn i)) refl
-        sizes-spared (fastDelivery i m) =
+        full-spared : (t : Step) → Spared isFull (demands S w t)
+        full-spared (command i m) = unmentioned isFull (demands S w (command i m)) refl
+        full-spared (acknowledgment i j r a) = unmentioned isFull (demands S w (acknowledgment i j r a)) refl
+        full-spared (check i j r) = unmentioned isFull (demands S w (check i j r)) refl
+        full-spared (falseAcknowledgment i j r x) = unmentioned isFull (demands S w (falseAcknowledgment i j r x)) refl
+        full-spared (falseCheck i j r x) = unmentioned isFull (demands S w (falseCheck i j r x)) refl
+        full-spared (falseEntry j r nc c) = unmentioned isFull (demands S w (falseEntry j r nc c)) refl
+        full-spared (turn i) = unmentioned isFull (demands S w (turn i)) refl
+        full-spared (fastDelivery i m) =
             (quiet, λ a. (quiet, λ b. (quiet, λ c. (quiet, λ d. (quiet, λ e. (quiet, λ g. ((λ z. room-fast i m b d e), λ z. tt)))))))
-        sizes-spared (logRead i) = unmentioned isFull (demands S w (logRead i)) refl
-        sizes-spared (roundEnd i) = (quiet, λ a. (quiet, λ b. (quiet, λ c. (quiet, λ d. ((λ z. room-end i d), λ z. tt)))))
+        full-spared (logRead i) = unmentioned isFull (demands S w (logRead i)) refl
+        full-spared (roundEnd i) = (quiet, λ a. (quiet, λ b. (quiet, λ c. (quiet, λ d. ((λ z. room-end i d), λ z. tt)))))
 
     -- A correct site that acknowledges has no entry of its round in the log.
     unspoken : (i : ℕ) → correct S i ≡ true → isAcknowledging (w .site i .phase) ≡ true → entries i (w .site i .round) (w .log) ≡ 0
@@ -259,4 +259,4 @@ module _ (S : System) (f : ℕ) (sizes : Sizes S f) where
   never-refused law limits steps =
       let w = play S (start S) steps in
       let good = good-play S f sizes steps in
-      record { nine = no-size w good; third = no-third w good; eight = no-last-round w good law limits (brought-play S f sizes law steps) }
+      record { nine = no-full w good; third = no-third w good; eight = no-last-round w good law limits (brought-play S f sizes law steps) }
