@@ -10,7 +10,7 @@ ghost use Rattle.protocol.specs.World as protocol;
 ghost use Rattle.layout.specs.Layout.{siteSize, siteRounds};
 ghost use Rattle.site.specs.Steps.{Received, Heard};
 ghost use Rattle.entries.specs.Entries.{entrySize};
-ghost use Rattle.rounds.specs.Rounds.{entriesIn, Kept};
+ghost use Rattle.rounds.specs.Rounds.{keptEntries, Kept};
 ghost use Rattle.sent.specs.Sent.{GoodSent};
 ghost use Rattle.world.specs.Parts.{AtSite, Arrived, Entered};
 ghost use Rattle.arrivals.specs.Messages.{messageVerdict};
@@ -204,10 +204,10 @@ pub fn false_entry(
     nc: Set,
     c: Set,
 ) -> Verdict
-    requires { ⌜ ((entriesIn (now kept) + 1) * entrySize ≤ length (now log)) × (isGood (rules .table) ≡ true) × Kept (rules .table) (now rows) (now log) (now kept)
+    requires { ⌜ ((keptEntries (now kept) + 1) * entrySize ≤ length (now log)) × (isGood (rules .table) ≡ true) × Kept (rules .table) (now rows) (now log) (now kept)
         × (length (now rows) ≡ capacity) ⌝ }
-    ensures { λ v. ⌜ Entered (rules .table) (rules .commands) (protocol.falseEntry from round (inSet nc) (inSet c)) (now (log .entry)) (entriesIn (now (kept .entry))) v
-        (now (log .exit)) (entriesIn (now (kept .exit))) × Kept (rules .table) (now (rows .entry)) (now (log .exit)) (now (kept .exit)) ⌝ }
+    ensures { λ v. ⌜ Entered (rules .table) (rules .commands) (protocol.falseEntry from round (inSet nc) (inSet c)) (now (log .entry)) (keptEntries (now (kept .entry))) v
+        (now (log .exit)) (keptEntries (now (kept .exit))) × Kept (rules .table) (now (rows .entry)) (now (log .exit)) (now (kept .exit)) ⌝ }
 {
     let table = rules.table;
     let j = from as usize;

@@ -31,7 +31,7 @@ use Rattle.recovery.proofs.Within.{decision-within}
 use Rattle.fast.specs.Fast.{FastDelivered}
 use Rattle.ending.specs.Ending.{Told, RoundEnded}
 use Rattle.ending.proofs.Telling.{told}
-use Rattle.rounds.specs.Rounds.{keptRounds, entriesIn, Kept}
+use Rattle.rounds.specs.Rounds.{keptRounds, keptEntries, Kept}
 use Rattle.world.specs.World.{worldOf}
 use Rattle.world.specs.Parts.{lent, AtSite}
 use Rattle.world.proofs.Sites.{lent-part}
@@ -116,12 +116,12 @@ read-room t commands sites log entries i g a e = let p = g .position i a in let 
 -- What the decision kept of the log tells site i.
 module _ (t : SiteTable) (table : isGood t ≡ true) (bytes sites log : List ℕ) {kept : List ℕ} (good : KeptLog t bytes sites log kept) (i : ℕ) (a : i < t .sites)
     {k r : ℕ} (ek : k ≡ headOf (siteAt sites i) .position) (round : r ≡ headOf (siteAt sites i) .round)
-    {d : Decision} (looked-up : (t : SiteTable) (rows log : List ℕ) → Kept t rows log kept → k ≤ entriesIn kept → d ≡ decisionOf (rowsSystem t rows) (decide (rowsSystem t rows) r (logTo log k))) where
+    {d : Decision} (looked-up : (t : SiteTable) (rows log : List ℕ) → Kept t rows log kept → k ≤ keptEntries kept → d ≡ decisionOf (rowsSystem t rows) (decide (rowsSystem t rows) r (logTo log k))) where
   abbrev commands : ℕ
   commands = length (commandsOf bytes)
 
-  read : (k ≤ (entriesIn kept)) × (k * entrySize ≤ length log)
-  read = read-room t commands sites log (entriesIn kept) i (good .good) a ek
+  read : (k ≤ (keptEntries kept)) × (k * entrySize ≤ length log)
+  read = read-room t commands sites log (keptEntries kept) i (good .good) a ek
 
   abbrev rows : List ℕ
   rows = conflictRows bytes
@@ -132,14 +132,14 @@ module _ (t : SiteTable) (table : isGood t ≡ true) (bytes sites log : List ℕ
   logged-read : (p : ℕ) → p < k → inRangeOf (t .sites) commands (entryOf log p) ≡ true
   logged-read p l = good .good .logged p (let q = read .0 in omega arith)
 
-  same : decision (dash t (commandsOf bytes)) (view t (commandsOf bytes) (siteAt sites i)) (logTo log (entriesIn kept)) ≡ decide (dash t (commandsOf bytes)) r (logTo log k)
+  same : decision (dash t (commandsOf bytes)) (view t (commandsOf bytes) (siteAt sites i)) (logTo log (keptEntries kept)) ≡ decide (dash t (commandsOf bytes)) r (logTo log k)
   same =
-      (λ z. decide (dash t (commandsOf bytes)) (sym round z) (take (sym ek z) (logTo log (entriesIn kept))))
-      ∙ ap (decide (dash t (commandsOf bytes)) r) (log-take log k (entriesIn kept) (read .0))
+      (λ z. decide (dash t (commandsOf bytes)) (sym round z) (take (sym ek z) (logTo log (keptEntries kept))))
+      ∙ ap (decide (dash t (commandsOf bytes)) r) (log-take log k (keptEntries kept) (read .0))
 
-  pub site-told : Told t (commandsOf bytes) d (decision (dash t (commandsOf bytes)) (view t (commandsOf bytes) (siteAt sites i)) (logTo log (entriesIn kept))) (view t (commandsOf bytes) (siteAt sites i) .round)
+  pub site-told : Told t (commandsOf bytes) d (decision (dash t (commandsOf bytes)) (view t (commandsOf bytes) (siteAt sites i)) (logTo log (keptEntries kept))) (view t (commandsOf bytes) (siteAt sites i) .round)
   site-told =
-      told t table bytes rows log (good .bytes) k r (read .1) logged-read refl ed (view t (commandsOf bytes) (siteAt sites i)) (logTo log (entriesIn kept)) same (sym round)
+      told t table bytes rows log (good .bytes) k r (read .1) logged-read refl ed (view t (commandsOf bytes) (siteAt sites i)) (logTo log (keptEntries kept)) same (sym round)
 
   pub sets-fit : (n : ℕ) → commands ≡ n → DecisionWithin n d
   sets-fit n e = subst (λ (m : ℕ). DecisionWithin m d) e (decision-within t table bytes rows log (good .bytes) k r (read .1) logged-read refl ed)

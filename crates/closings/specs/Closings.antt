@@ -14,7 +14,7 @@ use Rattle.protocol.specs.World.{Step}
 use Rattle.layout.specs.Layout.{siteSize, headOf, siteAt}
 use Rattle.layout.specs.Good.{Good}
 use Rattle.entries.specs.Entries.{entrySize, entryOf, inRangeOf}
-use Rattle.rounds.specs.Rounds.{entriesIn, Kept}
+use Rattle.rounds.specs.Rounds.{keptEntries, Kept}
 use Rattle.world.specs.World.{GoodWorld, Outcome}
 use Rattle.world.specs.Parts.{lent}
 
@@ -31,7 +31,7 @@ pub record GoodLog (t : SiteTable) (commands : ℕ) (sites log : List ℕ) (entr
 
 -- A good log in bytes, and what is kept of it by the conflicts of a book.
 pub record KeptLog (t : SiteTable) (book sites log kept : List ℕ) : Type 0 where
-  pub good : GoodLog t (length (commandsOf book)) sites log (entriesIn kept)
+  pub good : GoodLog t (length (commandsOf book)) sites log (keptEntries kept)
   pub bytes : (k : ℕ) → getD log k 0 < 256
   pub words : Kept t (conflictRows book) log kept
 

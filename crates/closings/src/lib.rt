@@ -7,7 +7,7 @@ ghost use lib.ListN.{length};
 ghost use Rattle.table.specs.Table.{isGood};
 ghost use Rattle.commands.specs.Book.{commandsOf, Placed};
 ghost use Rattle.protocol.specs.World as protocol;
-ghost use Rattle.rounds.specs.Rounds.{entriesIn};
+ghost use Rattle.rounds.specs.Rounds.{keptEntries};
 ghost use Rattle.closings.specs.Closings.{GoodSites, KeptLog, Closed};
 use layout::Site;
 use refusals::Refusal;
@@ -55,7 +55,7 @@ pub fn round_end(
     requires { ⌜ GoodSites (rules .table) (rules .commands) (now sites) × ((log : List ℕ) × KeptLog (rules .table) (now book) (now sites) log (now kept))
         × (isGood (rules .table) ≡ true) × Placed (now book) (now places) × (length (commandsOf (now book)) ≡ rules .commands) ⌝ }
     ensures { λ v. ⌜ ((log : List ℕ) → KeptLog (rules .table) (now (book .entry)) (now (sites .entry)) log (now (kept .entry))
-        → Closed (rules .table) (commandsOf (now (book .entry))) (protocol.roundEnd site) log (entriesIn (now (kept .entry))) (now (sites .entry)) v (now (sites .exit))) ⌝ }
+        → Closed (rules .table) (commandsOf (now (book .entry))) (protocol.roundEnd site) log (keptEntries (now (kept .entry))) (now (sites .entry)) v (now (sites .exit))) ⌝ }
 {
     let table = rules.table;
     let commands = rules.commands;

@@ -40,7 +40,7 @@ use Rattle.layout.proofs.Finish.{alone, unchanged}
 use Rattle.site.specs.declared.Turn.{Turn}
 use Rattle.site.specs.declared.Turn.the-variants as turns
 use Rattle.site.specs.Steps.{undeliveredOf, TookTurn, Turned, answerTo}
-use Rattle.rounds.specs.Rounds.{entriesIn, Kept}
+use Rattle.rounds.specs.Rounds.{keptEntries, Kept}
 use Rattle.entries.specs.declared.Entry.{Entry}
 use Rattle.entries.specs.Entries.{logTo, writeEntry, viewEntry, inRangeOf}
 use Rattle.entries.proofs.Bytes.{Fits}
@@ -60,16 +60,16 @@ use Rattle.moves.proofs.Words.{undelivered-word, unacknowledged-word, p
 -- The conflict test by the rows and the number of entries by what is kept of the log are those that the turn asks for.
 pub turned-by : (rows kept : List ℕ) (i : ℕ) (b : List ℕ) {u : Set} {f third : Bool} {round : ℕ} {r : Turn} {after : List ℕ}
     → u ≡ undeliveredOf (headOf b) → f ≡ freeBy rows (inSet u) → round ≡ headOf b .round
-    → ((t : SiteTable) (rows log : List ℕ) → Kept t rows log kept → third ≡ not (ltb (recovery.entries i round (logTo log (entriesIn kept))) 2))
+    → ((t : SiteTable) (rows log : List ℕ) → Kept t rows log kept → third ≡ not (ltb (recovery.entries i round (logTo log (keptEntries kept))) 2))
     → TookTurn f third b r after → TurnedBy rows kept i r b after
 turned-by rows kept i b {u} eu ef er et took =
     λ t book log ec ek g.
-    took t (commandsOf book) i (logTo log (entriesIn kept)) g
+    took t (commandsOf book) i (logTo log (keptEntries kept)) g
     (ef
     ∙ (λ k. freeBy (ec k) (inSet u))
     ∙ free-rows book t (inSet u)
     ∙ ap (free (dash t (commandsOf book))) (ap inSet eu ∙ (λ k m. in-without (headOf b .received) (headOf b .delivered) m k)))
-    (ap not (et t rows log ek) ∙ not-not (ltb (recovery.entries i _ (logTo log (entriesIn kept))) 2) ∙ (λ k. ltb (recovery.entries i (er k) (logTo log (entriesIn kept))) 2))
+    (ap not (et t rows log ek) ∙ not-not (ltb (recovery.entries i _ (logTo log (keptEntries kept))) 2) ∙ (λ k. ltb (recovery.entries i (er k) (logTo log (keptEntries kept))) 2))
 
 -- ---- what an answer tells
 
@@ -148,7 +148,7 @@ module _ (t : SiteTable) (bytes rows : List ℕ) (b : Buffers) (i : ℕ) (ready 
         subst (λ (s : protocol.Site (dash t book)). knownTo (length book) (some (undelivered (dash t book) s)) ≡ true) (sym at)
         (undelivered-known t book (siteAt (b .sites) i) part-good part-small)
 
-    module _ {f : Bool} (ef : f ≡ faultyOf t i) (hf : f ≡ false) {r : Turn} {sites kept : List ℕ} (en : b .entries ≡ entriesIn kept) (ek : Kept t rows (b .log) kept)
+    module _ {f : Bool} (ef : f ≡ faultyOf t i) (hf : f ≡ false) {r : Turn} {sites kept : List ℕ} (en : b .entries ≡ keptEntries kept) (ek : Kept t rows (b .log) kept)
         (h : AtSite i (TurnedBy rows kept i r) (b .sites) sites) where
       turned : Turned t book i (world .log) (world .site i) (siteAt (b .sites) i) r (h .new)
       turned =

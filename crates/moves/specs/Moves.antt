@@ -18,7 +18,7 @@ use Rattle.layout.specs.Good.{Good}
 use Rattle.site.specs.declared.Turn.{Turn}
 use Rattle.site.specs.Steps.{Turned}
 use Rattle.entries.specs.Entries.{entrySize, logTo}
-use Rattle.rounds.specs.Rounds.{entriesIn, Kept}
+use Rattle.rounds.specs.Rounds.{keptEntries, Kept}
 use Rattle.sent.specs.Sent.{maxAcknowledgments}
 use Rattle.world.specs.World.{Buffers, GoodWorld, worldOf, Outcome}
 use Rattle.world.specs.Parts.{lent}
@@ -37,7 +37,7 @@ pub record Ready (t : SiteTable) (book rows : List ℕ) (b : Buffers) (u : Step)
 abbrev pub TurnedBy : List ℕ → List ℕ → ℕ → Turn → List ℕ → List ℕ → Type 0
 TurnedBy rows kept i r b after =
     (t : SiteTable) (book log : List ℕ) → rows ≡ conflictRows book → Kept t rows log kept → Good (t .sites) (length (commandsOf book)) b
-    → Turned t (commandsOf book) i (logTo log (entriesIn kept)) (view t (commandsOf book) b) b r after
+    → Turned t (commandsOf book) i (logTo log (keptEntries kept)) (view t (commandsOf book) b) b r after
 
 -- A log read, which changes a site only, of any log with so many entries.
 abbrev pub LogRead : SiteTable → ℕ → ℕ → List ℕ → Verdict → List ℕ → Type 0

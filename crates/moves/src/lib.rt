@@ -8,7 +8,7 @@ ghost use Rattle.table.specs.Table.{maxSites};
 ghost use Rattle.commands.specs.Book.{commandsOf};
 ghost use Rattle.protocol.specs.World as protocol;
 ghost use Rattle.layout.specs.Layout.{siteSize, headOf};
-ghost use Rattle.rounds.specs.Rounds.{keptRounds, keptWords, entriesIn, Kept};
+ghost use Rattle.rounds.specs.Rounds.{keptRounds, keptWords, keptEntries, Kept};
 ghost use Rattle.world.specs.World.{Outcome};
 ghost use Rattle.world.specs.Parts.{lent};
 ghost use Rattle.moves.specs.Moves.{Ready, TurnedBy, LogRead};
@@ -40,11 +40,11 @@ pub fn turn(
     rows: &[u64],
     site: u8,
 ) -> Verdict
-    requires { ⌜ ((book : List ℕ) × Ready (rules .table) book (now rows) (lent (now sites) (now log) (entriesIn (now kept)) (now sent)) (protocol.turn site))
+    requires { ⌜ ((book : List ℕ) × Ready (rules .table) book (now rows) (lent (now sites) (now log) (keptEntries (now kept)) (now sent)) (protocol.turn site))
         × Kept (rules .table) (now rows) (now log) (now kept) ⌝ }
-    ensures { λ v. ⌜ ((book : List ℕ) → Ready (rules .table) book (now (rows .entry)) (lent (now (sites .entry)) (now (log .entry)) (entriesIn (now (kept .entry))) (now (sent .entry))) (protocol.turn site)
-        → Outcome (rules .table) (commandsOf book) (protocol.turn site) (lent (now (sites .entry)) (now (log .entry)) (entriesIn (now (kept .entry))) (now (sent .entry)))
-        v (lent (now (sites .exit)) (now (log .exit)) (entriesIn (now (kept .exit))) (now (sent .exit))))
+    ensures { λ v. ⌜ ((book : List ℕ) → Ready (rules .table) book (now (rows .entry)) (lent (now (sites .entry)) (now (log .entry)) (keptEntries (now (kept .entry))) (now (sent .entry))) (protocol.turn site)
+        → Outcome (rules .table) (commandsOf book) (protocol.turn site) (lent (now (sites .entry)) (now (log .entry)) (keptEntries (now (kept .entry))) (now (sent .entry)))
+        v (lent (now (sites .exit)) (now (log .exit)) (keptEntries (now (kept .exit))) (now (sent .exit))))
         × Kept (rules .table) (now (rows .entry)) (now (log .exit)) (now (kept .exit)) ⌝ }
 {
     let table = rules.table;

@@ -6,7 +6,7 @@ ghost use Rattle.conflicts.specs.Conflicts.{rowsIn};
 ghost use Rattle.refusals.specs.declared.Verdict.the-variants.{Refused};
 ghost use Rattle.print.specs.Print.{Wrote};
 ghost use Rattle.runs.specs.Run as runs;
-ghost use Rattle.rounds.specs.Rounds.{entriesIn, Kept};
+ghost use Rattle.rounds.specs.Rounds.{keptEntries, Kept};
 ghost use Rattle.world.specs.Parts.{lent};
 ghost use Rattle.play.specs.Played.{lineRoom, Playable, PlayedAll};
 use refusals::Refusal;
@@ -48,7 +48,7 @@ fn play_on(
     out: &mut [u8],
     from: usize,
 ) -> usize
-    requires { ⌜ Playable rules (now book) (now noted) (now steps) (now out) from (lent (now sites) (now log) (entriesIn (now kept)) (now sent))
+    requires { ⌜ Playable rules (now book) (now noted) (now steps) (now out) from (lent (now sites) (now log) (keptEntries (now kept)) (now sent))
         × Kept (rules .table) (rowsIn (now noted)) (now log) (now kept) ⌝ }
     ensures { λ r. ⌜ PlayedAll (rules .table) (commandsOf (now (book .entry))) (now (steps .entry)) (now (out .entry)) (now (out .exit)) from r (now (sites .entry))
         (now (sites .exit)) (now (log .exit)) (now (sent .exit)) ⌝ }

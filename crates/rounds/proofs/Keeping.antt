@@ -26,7 +26,7 @@ use Rattle.recovery.specs.declared.Decision.{Decision}
 use Rattle.recovery.specs.declared.Decision.the-variants.{Undecided, Decided}
 use Rattle.recovery.specs.Decisions.{decisionOf}
 use Rattle.rounds.specs.declared.Round.{Round}
-use Rattle.rounds.specs.Rounds.{keptRounds, roundWords, entriesPlace, keptWords, entriesIn, roundIn, writeRound, answerAt, Counts, Decides, KeptTo, Kept}
+use Rattle.rounds.specs.Rounds.{keptRounds, roundWords, entriesPlace, keptWords, keptEntries, roundIn, writeRound, answerAt, Counts, Decides, KeptTo, Kept}
 use Rattle.rounds.proofs.Words.{same-round, length-written, round-written, round-other}
 use Rattle.rounds.proofs.Sites.{counts-other, counts-same}
 use Rattle.rounds.proofs.Answers.{answer-none, answer-later, answer-sets, decides-other, decides-same}
@@ -77,7 +77,7 @@ kept-none t rows log kept size zeros =
     }
 
 -- They say that the log has no entry.
-pub none-yet : entriesIn (replicate {A = ℕ} keptWords 0) ≡ 0
+pub none-yet : keptEntries (replicate {A = ℕ} keptWords 0) ≡ 0
 none-yet = getD-replicate {0} {A = ℕ} keptWords entriesPlace 0 0 (omega arith)
 
 pub kept-start : (t : SiteTable) (rows log : List ℕ) → Kept t rows log (replicate {A = ℕ} keptWords 0)
@@ -134,7 +134,7 @@ kept-more t rows log k r kept x good l er h hc hd ew =
 -- ---- an entry appended
 
 -- The number of entries is stored beside the rounds.
-stored : (kept : List ℕ) (n : ℕ) → length kept ≡ keptWords → entriesIn (set kept entriesPlace n) ≡ n
+stored : (kept : List ℕ) (n : ℕ) → length kept ≡ keptWords → keptEntries (set kept entriesPlace n) ≡ n
 stored kept n size = getD-set-same kept entriesPlace n 0 (omega arith)
 
 round-stored : (kept : List ℕ) (n r : ℕ) → r < keptRounds → roundIn (set kept entriesPlace n) r ≡ roundIn kept r
@@ -155,8 +155,8 @@ kept-stored t rows log k kept n h =
       decides = λ r l. subst (λ (x : Round). Decides log k r t rows x) (sym (round-stored kept n r l)) (h .decides r l);
     }
 
-module _ (t : SiteTable) (rows log kept : List ℕ) (e : Entry) (h : Kept t rows log kept) (room : entriesIn kept * entrySize + entrySize ≤ length log)
-    {k : ℕ} (ek : k ≡ entriesIn kept) {written : List ℕ} (ew : written ≡ writeEntry log k e) where
+module _ (t : SiteTable) (rows log kept : List ℕ) (e : Entry) (h : Kept t rows log kept) (room : keptEntries kept * entrySize + entrySize ≤ length log)
+    {k : ℕ} (ek : k ≡ keptEntries kept) {written : List ℕ} (ew : written ≡ writeEntry log k e) where
   -- Written after those that are kept, the entry leaves them,
   pub kept-before : KeptTo t rows written k kept
   kept-before =
@@ -169,7 +169,7 @@ module _ (t : SiteTable) (rows log kept : List ℕ) (e : Entry) (h : Kept t rows
 
   -- Taken in and counted, it is kept.
   pub kept-appended : {entered : List ℕ} {n : ℕ} → KeptTo t rows written (k + 1) entered → n ≡ k + 1
-      → (written ≡ writeEntry log (entriesIn kept) e) × (entriesIn (set entered entriesPlace n) ≡ entriesIn kept + 1) × Kept t rows written (set entered entriesPlace n)
+      → (written ≡ writeEntry log (keptEntries kept) e) × (keptEntries (set entered entriesPlace n) ≡ keptEntries kept + 1) × Kept t rows written (set entered entriesPlace n)
   kept-appended {entered} {n} g en =
       let q = stored entered n (g .size) in (
         ew ∙ ap (λ (i : ℕ). writeEntry log i e) ek,
@@ -180,27 +180,27 @@ module _ (t : SiteTable) (rows log kept : List ℕ) (e : Entry) (h : Kept t rows
 -- ---- what is looked up
 
 pub is-third : (kept : List ℕ) (site r : ℕ) → site < maxSites → r < keptRounds → {two : Set} {b : Bool} → two ≡ loadSet kept (r * roundWords + 1) → b ≡ inSet two site
-    → (t : SiteTable) (rows log : List ℕ) → Kept t rows log kept → b ≡ not (ltb (entries site r (logTo log (entriesIn kept))) 2)
+    → (t : SiteTable) (rows log : List ℕ) → Kept t rows log kept → b ≡ not (ltb (entries site r (logTo log (keptEntries kept))) 2)
 unfolding roundIn
 is-third kept site r l g e2 eb t rows log h = eb ∙ ap (λ (s : Set). inSet s site) e2 ∙ h .counts r g .twice site l
 
 module _ (kept : List ℕ) (r p : ℕ) (l : r < keptRounds) {x : Round} (ex : x ≡ roundIn kept r) where
   answered : {d : Decision} → d ≡ answerAt x p
-      → (t : SiteTable) (rows log : List ℕ) → Kept t rows log kept → p ≤ entriesIn kept
+      → (t : SiteTable) (rows log : List ℕ) → Kept t rows log kept → p ≤ keptEntries kept
       → d ≡ decisionOf (rowsSystem t rows) (decide (rowsSystem t rows) r (logTo log p))
   answered ed t rows log h g = ed ∙ ap (λ (w : Round). answerAt w p) ex ∙ sym (h .decides r l .answers p g)
 
   pub not-yet : x .decided ≡ 0
-      → (t : SiteTable) (rows log : List ℕ) → Kept t rows log kept → p ≤ entriesIn kept
+      → (t : SiteTable) (rows log : List ℕ) → Kept t rows log kept → p ≤ keptEntries kept
       → Undecided ≡ decisionOf (rowsSystem t rows) (decide (rowsSystem t rows) r (logTo log p))
   not-yet z = answered (answer-none x p z)
 
   pub only-later : p < x .decided
-      → (t : SiteTable) (rows log : List ℕ) → Kept t rows log kept → p ≤ entriesIn kept
+      → (t : SiteTable) (rows log : List ℕ) → Kept t rows log kept → p ≤ keptEntries kept
       → Undecided ≡ decisionOf (rowsSystem t rows) (decide (rowsSystem t rows) r (logTo log p))
   only-later g = answered (answer-later x p g)
 
   pub looked-up : 0 < x .decided → x .decided ≤ p
-      → (t : SiteTable) (rows log : List ℕ) → Kept t rows log kept → p ≤ entriesIn kept
+      → (t : SiteTable) (rows log : List ℕ) → Kept t rows log kept → p ≤ keptEntries kept
       → Decided (record { nc = x .nc; c = x .c }) ≡ decisionOf (rowsSystem t rows) (decide (rowsSystem t rows) r (logTo log p))
   looked-up g b = answered (answer-sets x p g b)

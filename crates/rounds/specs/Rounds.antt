@@ -35,8 +35,8 @@ abbrev pub keptWords : ℕ
 keptWords = entriesPlace + 1
 
 -- How many entries the log has.
-abbrev pub entriesIn : List ℕ → ℕ
-entriesIn kept = getD kept entriesPlace 0
+abbrev pub keptEntries : List ℕ → ℕ
+keptEntries kept = getD kept entriesPlace 0
 
 -- What the words of round r hold.
 unfoldable pub roundIn : List ℕ → ℕ → Round
@@ -128,4 +128,4 @@ pub record KeptTo (t : SiteTable) (rows log : List ℕ) (k : ℕ) (kept : List �
 
 -- The words say what the log does, with as many entries as they say that it has.
 abbrev pub Kept : SiteTable → (rows log kept : List ℕ) → Type 0
-Kept t rows log kept = KeptTo t rows log (entriesIn kept) kept
+Kept t rows log kept = KeptTo t rows log (keptEntries kept) kept

@@ -13,7 +13,7 @@ ghost use Rattle.protocol.specs.Recovery.{entries, decide};
 ghost use Rattle.calm.specs.Rows.{rowsSystem};
 ghost use Rattle.entries.specs.Entries.{entrySize, entryOf, writeEntry, logTo};
 ghost use Rattle.recovery.specs.Decisions.{foundSets, decisionOf};
-ghost use Rattle.rounds.specs.Rounds.{keptRounds, keptWords, entriesIn, roundIn, writeRound, notedOf, againOf, decidedOf, Counts, KeptTo, Kept};
+ghost use Rattle.rounds.specs.Rounds.{keptRounds, keptWords, keptEntries, roundIn, writeRound, notedOf, againOf, decidedOf, Counts, KeptTo, Kept};
 use entries::Entry;
 use recovery::Decision;
 use recovery::Sets;
@@ -170,17 +170,17 @@ fn enter(kept: &mut [u64], log: &[u8], k: usize, table: SiteTable, rows: &[u64])
 // How many entries the log has.
 pub fn entries(kept: &[u64]) -> usize
     requires { ⌜ length (now kept) ≡ keptWords ⌝ }
-    ensures { λ r. ⌜ r ≡ entriesIn (now (kept .entry)) ⌝ }
+    ensures { λ r. ⌜ r ≡ keptEntries (now (kept .entry)) ⌝ }
 {
     kept[ENTRIES] as usize
 }
 
 // An entry is written after those that the log has, and taken into what is kept.
 pub fn append(log: &mut [u8], kept: &mut [u64], entry: Entry, table: SiteTable, rows: &[u64])
-    requires { ⌜ (isGood table ≡ true) × Kept table (now rows) (now log) (now kept) × (entriesIn (now kept) * entrySize + entrySize ≤ length (now log))
+    requires { ⌜ (isGood table ≡ true) × Kept table (now rows) (now log) (now kept) × (keptEntries (now kept) * entrySize + entrySize ≤ length (now log))
         × (length (now rows) ≡ capacity) × (entry .site < table .sites) × (entry .round < keptRounds) ⌝ }
-    ensures { λ _. ⌜ (now (log .exit) ≡ writeEntry (now (log .entry)) (entriesIn (now (kept .entry))) entry)
-        × (entriesIn (now (kept .exit)) ≡ entriesIn (now (kept .entry)) + 1) × Kept table (now (rows .entry)) (now (log .exit)) (now (kept .exit)) ⌝ }
+    ensures { λ _. ⌜ (now (log .exit) ≡ writeEntry (now (log .entry)) (keptEntries (now (kept .entry))) entry)
+        × (keptEntries (now (kept .exit)) ≡ keptEntries (now (kept .entry)) + 1) × Kept table (now (rows .entry)) (now (log .exit)) (now (kept .exit)) ⌝ }
 {
     let k = entries(&kept[..]);
     entries::write_entry(log, k, entry);
@@ -193,7 +193,7 @@ pub fn append(log: &mut [u8], kept: &mut [u64], entry: Entry, table: SiteTable, 
 pub fn third(kept: &[u64], site: usize, round: usize) -> bool
     requires { ⌜ (length (now kept) ≡ keptWords) × (site < maxSites) × (round < keptRounds) ⌝ }
     ensures { λ r. ⌜ ((t : SiteTable) (rows log : List ℕ) → Kept t rows log (now (kept .entry))
-        → r ≡ not (ltb (entries site round (logTo log (entriesIn (now (kept .entry))))) 2)) ⌝ }
+        → r ≡ not (ltb (entries site round (logTo log (keptEntries (now (kept .entry))))) 2)) ⌝ }
 {
     let twice = Set::load(kept, round * ROUND_WORDS + 1);
     twice.has(site)
@@ -202,7 +202,7 @@ pub fn third(kept: &[u64], site: usize, round: usize) -> bool
 // The decision of a round at a log position.
 pub fn decision(kept: &[u64], round: usize, position: usize) -> Decision
     requires { ⌜ (length (now kept) ≡ keptWords) × (round < keptRounds) ⌝ }
-    ensures { λ r. ⌜ ((t : SiteTable) (rows log : List ℕ) → Kept t rows log (now (kept .entry)) → position ≤ entriesIn (now (kept .entry))
+    ensures { λ r. ⌜ ((t : SiteTable) (rows log : List ℕ) → Kept t rows log (now (kept .entry)) → position ≤ keptEntries (now (kept .entry))
         → r ≡ decisionOf (rowsSystem t rows) (decide (rowsSystem t rows) round (logTo log position))) ⌝ }
 {
     let x = read_round(kept, round);

@@ -16,7 +16,7 @@ use Rattle.register.specs.declared.Command.{Command}
 use Rattle.commands.specs.Book.{commandsOf}
 use Rattle.commands.proofs.Walk.{few-commands}
 use Rattle.conflicts.specs.Conflicts.{conflictRows}
-use Rattle.rounds.specs.Rounds.{entriesIn, Kept}
+use Rattle.rounds.specs.Rounds.{keptEntries, Kept}
 use Rattle.steps.specs.declared.Step.{Step}
 use Rattle.steps.specs.declared.Step.the-variants as kinds
 use Rattle.steps.specs.Meaning.{meaning}
@@ -80,7 +80,7 @@ module _ (t : SiteTable) (book : List ℕ) (commands : ℕ) (b : Buffers) (e : l
   pub good-sites : GoodSites t commands (b .sites)
   good-sites = subst (λ (n : ℕ). GoodSites t n (b .sites)) e (record { size = g .size; site = g .site })
 
-  pub kept-log : {rows kept : List ℕ} → rows ≡ conflictRows book → ((k : ℕ) → getD (b .log) k 0 < 256) → b .entries ≡ entriesIn kept → Kept t rows (b .log) kept
+  pub kept-log : {rows kept : List ℕ} → rows ≡ conflictRows book → ((k : ℕ) → getD (b .log) k 0 < 256) → b .entries ≡ keptEntries kept → Kept t rows (b .log) kept
       → KeptLog t book (b .sites) (b .log) kept
   kept-log er small en k =
       record {

@@ -9,7 +9,7 @@ ghost use Rattle.commands.specs.Book.{commandsOf, Placed};
 ghost use Rattle.conflicts.specs.Conflicts.{rowsIn};
 ghost use Rattle.steps.specs.Meaning.{meaning};
 ghost use Rattle.layout.specs.Layout.{siteSize};
-ghost use Rattle.rounds.specs.Rounds.{entriesIn, Kept};
+ghost use Rattle.rounds.specs.Rounds.{keptEntries, Kept};
 ghost use Rattle.sent.specs.Sent.{GoodSent};
 ghost use Rattle.world.specs.World.{Outcome};
 ghost use Rattle.world.specs.Parts.{lent, Arrived};
@@ -61,10 +61,10 @@ pub fn step(
     noted: &[u64],
     step: Step,
 ) -> Verdict
-    requires { ⌜ Ready (rules .table) (now book) (rowsIn (now noted)) (lent (now sites) (now log) (entriesIn (now kept)) (now sent)) (meaning step) × Placed (now book) (now noted)
+    requires { ⌜ Ready (rules .table) (now book) (rowsIn (now noted)) (lent (now sites) (now log) (keptEntries (now kept)) (now sent)) (meaning step) × Placed (now book) (now noted)
         × (length (commandsOf (now book)) ≡ rules .commands) × Kept (rules .table) (rowsIn (now noted)) (now log) (now kept) ⌝ }
-    ensures { λ v. ⌜ Outcome (rules .table) (commandsOf (now (book .entry))) (meaning step) (lent (now (sites .entry)) (now (log .entry)) (entriesIn (now (kept .entry))) (now (sent .entry)))
-        v (lent (now (sites .exit)) (now (log .exit)) (entriesIn (now (kept .exit))) (now (sent .exit)))
+    ensures { λ v. ⌜ Outcome (rules .table) (commandsOf (now (book .entry))) (meaning step) (lent (now (sites .entry)) (now (log .entry)) (keptEntries (now (kept .entry))) (now (sent .entry)))
+        v (lent (now (sites .exit)) (now (log .exit)) (keptEntries (now (kept .exit))) (now (sent .exit)))
         × Kept (rules .table) (rowsIn (now (noted .entry))) (now (log .exit)) (now (kept .exit)) ⌝ }
 {
     let rows = &noted[commands::MAX_COMMANDS..];

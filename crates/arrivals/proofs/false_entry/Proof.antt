@@ -7,7 +7,7 @@ use mathlib.Core.Path.{sym, _∙_}
 use Rattle.theory.specs.Counting.{not-false}
 use Rattle.table.proofs.Laws.{good-limits}
 use Rattle.entries.proofs.Judging.{in-range-told}
-use Rattle.rounds.specs.Rounds.{entriesIn}
+use Rattle.rounds.specs.Rounds.{keptEntries}
 use Rattle.arrivals.proofs.Entering.{entry-out, entry-correct, entry-third, entered}
 use Rattle.arrivals.proofs.false_entry.Statement.{statement}
 use Rattle.arrivals.proofs.false_entry.Tie as tie
@@ -19,7 +19,7 @@ returns : tie.Need-returns
 returns c =
     let o = c .before .before .before .before .before .before in
     let a = o .args in
-    (entry-out (a .rules .table) (a .rules .commands) (now (a .log)) (entriesIn (now (a .kept))) (a .from) (a .round) (a .nc) (a .c) (c .before .in-range .ensures) (c .if1 .taken), o .pre .2)
+    (entry-out (a .rules .table) (a .rules .commands) (now (a .log)) (keptEntries (now (a .kept))) (a .from) (a .round) (a .nc) (a .c) (c .before .in-range .ensures) (c .if1 .taken), o .pre .2)
 
 is-faulty-requires : tie.Need-is-faulty-requires
 is-faulty-requires c κs = search needs
@@ -28,7 +28,7 @@ returns-2 : tie.Need-returns-2
 returns-2 c =
     let o = c .before .before .before .before .before .before .before .before in
     let a = o .args in
-    (entry-correct (a .rules .table) (a .rules .commands) (now (a .log)) (entriesIn (now (a .kept))) (a .from) (a .round) (a .nc) (a .c) (c .before .before .before .in-range .ensures) (c .before .before .if1 .left) (c .before .is-faulty .ensures) (c .if2 .taken), o .pre .2)
+    (entry-correct (a .rules .table) (a .rules .commands) (now (a .log)) (keptEntries (now (a .kept))) (a .from) (a .round) (a .nc) (a .c) (c .before .before .before .in-range .ensures) (c .before .before .if1 .left) (c .before .is-faulty .ensures) (c .if2 .taken), o .pre .2)
 
 third-requires : tie.Need-third-requires
 third-requires c κs =
@@ -45,7 +45,7 @@ returns-3 : tie.Need-returns-3
 returns-3 c =
     let o = c .before .before .before .before .before .before .before .before .before .before .before in
     let a = o .args in (
-      entry-third (a .rules .table) (a .rules .commands) (now (a .log)) (entriesIn (now (a .kept))) (a .from) (a .round) (a .nc) (a .c) (c .before .before .before .before .before .before .in-range .ensures) (c .before .before .before .before .before .if1 .left) (c .before .before .before .before .is-faulty .ensures) (c .before .before .before .if2 .left)
+      entry-third (a .rules .table) (a .rules .commands) (now (a .log)) (keptEntries (now (a .kept))) (a .from) (a .round) (a .nc) (a .c) (c .before .before .before .before .before .before .in-range .ensures) (c .before .before .before .before .before .if1 .left) (c .before .before .before .before .is-faulty .ensures) (c .before .before .before .if2 .left)
           (c .before .third .ensures (a .rules .table) (now (a .rows)) (now (a .log)) (o .pre .2)) (c .if3 .taken),
       o .pre .2,
     )
@@ -70,7 +70,7 @@ returns-4 c =
     let e = c .before .before .before .before .append .ensures in
     let p = in-range-told (a .rules .table .sites) (a .rules .commands) (record { site = a .from; round = a .round; nc = a .nc; c = a .c }) (sym (c .before .before .before .before .before .before .before .before .before .before .before .before .before .in-range .ensures) ∙ not-false _ (c .before .before .before .before .before .before .before .before .before .before .before .before .if1 .left)) in
     let l = p .round in (
-      entered (a .rules .table) (a .rules .commands) (now (a .log)) (entriesIn (now (a .kept))) (a .from) (a .round) (a .nc) (a .c) (c .before .before .before .before .before .before .before .before .before .before .before .before .before .in-range .ensures) (c .before .before .before .before .before .before .before .before .before .before .before .before .if1 .left) (c .before .before .before .before .before .before .before .before .before .before .before .is-faulty .ensures) (c .before .before .before .before .before .before .before .before .before .before .if2 .left)
+      entered (a .rules .table) (a .rules .commands) (now (a .log)) (keptEntries (now (a .kept))) (a .from) (a .round) (a .nc) (a .c) (c .before .before .before .before .before .before .before .before .before .before .before .before .before .in-range .ensures) (c .before .before .before .before .before .before .before .before .before .before .before .before .if1 .left) (c .before .before .before .before .before .before .before .before .before .before .before .is-faulty .ensures) (c .before .before .before .before .before .before .before .before .before .before .if2 .left)
           (c .before .before .before .before .before .before .before .before .third .ensures (a .rules .table) (now (a .rows)) (now (a .log)) (o .pre .2)) (c .before .before .before .before .before .before .before .if3 .left)
           (record { site = omega arith; round = omega arith; nc = o .good .1 .1 .1 .1 .1 .1 .0 .1 .1 .0 .1; c = o .good .1 .1 .1 .1 .1 .1 .1 .0 .1 .1 .0 .1 }) (o .pre .0) (e .0) (e .1),
       e .2,

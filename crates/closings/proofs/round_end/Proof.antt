@@ -8,7 +8,7 @@ use Prim.Native.Nat.{_+_, _*_, _-_, _<_}
 use Rattle.commands.specs.Book.{commandsOf}
 use Rattle.layout.specs.Layout.{siteSize}
 use Rattle.ending.specs.Ending.{RoundEnded}
-use Rattle.rounds.specs.Rounds.{entriesIn}
+use Rattle.rounds.specs.Rounds.{keptEntries}
 use Rattle.world.proofs.Sites.{at-site, head-at}
 use Rattle.closings.proofs.Closing.{good-part, sites-room, round-kept, end-no-site, end-role, end-carried, site-told, sets-fit}
 use Rattle.closings.proofs.round_end.Statement.{statement}
@@ -17,7 +17,7 @@ use Rattle.closings.proofs.round_end.Tie as tie
 returns : tie.Need-returns
 returns c =
     let a = c .before .before .before .before .before .before .before .args in
-    λ log k. end-no-site (a .rules .table) (commandsOf (now (a .book))) (now (a .sites)) (λ n. c .before .before .before .before .before .before .slice-known .given n .fits) (a .site) log (entriesIn (now (a .kept))) (omega arith)
+    λ log k. end-no-site (a .rules .table) (commandsOf (now (a .book))) (now (a .sites)) (λ n. c .before .before .before .before .before .before .slice-known .given n .fits) (a .site) log (keptEntries (now (a .kept))) (omega arith)
 
 is-faulty-requires : tie.Need-is-faulty-requires
 is-faulty-requires c κs = search needs
@@ -26,7 +26,7 @@ returns-2 : tie.Need-returns-2
 returns-2 c =
     let a = c .before .before .before .before .before .before .before .before .before .args in
     let i : a .site < a .rules .table .sites = omega (arith, c .before .before .if1 .left) in
-    λ log k. end-role (a .rules .table) (commandsOf (now (a .book))) (now (a .sites)) (λ n. c .before .before .before .before .before .before .before .before .slice-known .given n .fits) (a .site) log (entriesIn (now (a .kept))) i (c .before .is-faulty .ensures) (c .if2 .taken)
+    λ log k. end-role (a .rules .table) (commandsOf (now (a .book))) (now (a .sites)) (λ n. c .before .before .before .before .before .before .before .before .slice-known .given n .fits) (a .site) log (keptEntries (now (a .kept))) i (c .before .is-faulty .ensures) (c .if2 .taken)
 
 mul-from : tie.Need-mul-from
 mul-from c = search needs
@@ -105,7 +105,7 @@ returns-3 c =
     let d = c .before .before .before .before .decision in
     let r = c .before .before .round-end in
     λ log g.
-    end-carried (a .rules .table) (commandsOf (now (a .book))) (now (a .sites)) (λ n. c .before .before .before .before .before .before .before .before .before .before .before .before .before .before .before .before .before .before .before .slice-known .given n .fits) (a .site) log (entriesIn (now (a .kept))) i (c .before .before .before .before .before .before .before .before .before .before .before .before .is-faulty .ensures) (c .before .before .before .before .before .before .before .before .before .before .before .if2 .left) (d .result)
+    end-carried (a .rules .table) (commandsOf (now (a .book))) (now (a .sites)) (λ n. c .before .before .before .before .before .before .before .before .before .before .before .before .before .before .before .before .before .before .before .slice-known .given n .fits) (a .site) log (keptEntries (now (a .kept))) i (c .before .before .before .before .before .before .before .before .before .before .before .before .is-faulty .ensures) (c .before .before .before .before .before .before .before .before .before .before .before .if2 .left) (d .result)
     (site-told (a .rules .table) (o .pre .2) (now (a .book)) (now (a .sites)) log g (a .site) i (c .before .before .before .before .before .before .before .before .position .ensures ∙ (λ z. h z .position)) (c .before .before .before .before .before .round .ensures ∙ (λ z. h z .round)) (d .ensures))
     (at-site (λ b after. RoundEnded (commandsOf (now (a .book))) (d .result) b (r .result) after) (now (a .sites)) (a .site) k _ (omega arith)
     (sites-room (a .rules .table) (a .rules .commands) (now (a .sites)) (a .site) (o .pre .0) i) (r .kept .0) (r .ensures))

@@ -7,7 +7,7 @@ use mathlib.Core.Path.{refl, ap, _∙_}
 use Prim.Native.Nat.{_+_, _*_, _-_, _<_}
 use lib.ListN.{length}
 use Rattle.layout.specs.Layout.{siteSize}
-use Rattle.rounds.specs.Rounds.{entriesIn}
+use Rattle.rounds.specs.Rounds.{keptEntries}
 use Rattle.world.specs.Parts.{lent}
 use Rattle.world.proofs.Sites.{at-site, length-part, head-at}
 use Rattle.conflicts.proofs.Laws.{rows-size}
@@ -20,7 +20,7 @@ returns : tie.Need-returns
 returns c =
     let o = c .before .before .before .before .before .before .before .before in
     let a = o .args in
-    let b = lent (now (a .sites)) (now (a .log)) (entriesIn (now (a .kept))) (now (a .sent)) in
+    let b = lent (now (a .sites)) (now (a .log)) (keptEntries (now (a .kept))) (now (a .sent)) in
     ((λ book ready. turn-range (a .rules .table) book (now (a .rows)) b (a .site) ready (λ k. c .before .before .before .before .before .before .before .slice-known .given k .fits) (omega arith)), o .pre .1)
 
 is-faulty-requires : tie.Need-is-faulty-requires
@@ -30,7 +30,7 @@ returns-2 : tie.Need-returns-2
 returns-2 c =
     let o = c .before .before .before .before .before .before .before .before .before .before in
     let a = o .args in
-    let b = lent (now (a .sites)) (now (a .log)) (entriesIn (now (a .kept))) (now (a .sent)) in
+    let b = lent (now (a .sites)) (now (a .log)) (keptEntries (now (a .kept))) (now (a .sent)) in
     ((λ book ready. turn-role (a .rules .table) book (now (a .rows)) b (a .site) ready (λ k. c .before .before .before .before .before .before .before .before .before .slice-known .given k .fits) (omega arith) (c .before .is-faulty .ensures) (c .if2 .taken)), o .pre .1)
 
 mul-from : tie.Need-mul-from
@@ -70,7 +70,7 @@ turn-by-requires : tie.Need-turn-by-requires
 turn-by-requires c κs =
     let o = c .before .before .before .before .before .before .before .before .before .before .before .before .before .before .before in
     let a = o .args in
-    let b = lent (now (a .sites)) (now (a .log)) (entriesIn (now (a .kept))) (now (a .sent)) in
+    let b = lent (now (a .sites)) (now (a .log)) (keptEntries (now (a .kept))) (now (a .sent)) in
     let i : a .site < a .rules .table .sites = omega (arith, c .before .before .before .before .before .before .before .if1 .left) in
     let e = c .before .before .round .ensures ∙ (λ z. head-at (now (a .sites)) (a .site) ((a .site * siteSize + siteSize) - a .site * siteSize) (omega arith) z .round) in
     let p = round-told (a .rules .table) (o .pre .0 .0) (now (a .rows)) b (a .site) (o .pre .0 .1) (λ k. c .before .before .before .before .before .before .before .before .before .before .before .before .before .before .slice-known .given k .fits) i e in (
@@ -91,7 +91,7 @@ add-acknowledgment-requires : tie.Need-add-acknowledgment-requires
 add-acknowledgment-requires c κs =
     let o = c .before .before .before .before .before .before .before .before .before .before .before .before .before .before .before .before .before .before .before .before .before .before in
     let a = o .args in
-    let b = lent (now (a .sites)) (now (a .log)) (entriesIn (now (a .kept))) (now (a .sent)) in
+    let b = lent (now (a .sites)) (now (a .log)) (keptEntries (now (a .kept))) (now (a .sent)) in
     let i : a .site < a .rules .table .sites = omega (arith, c .before .before .before .before .before .before .before .before .before .before .before .before .before .before .if1 .left) in
     let e = c .before .before .before .before .before .before .before .before .before .round .ensures ∙ (λ z. head-at (now (a .sites)) (a .site) ((a .site * siteSize + siteSize) - a .site * siteSize) (omega arith) z .round) in
     let p = round-told (a .rules .table) (o .pre .0 .0) (now (a .rows)) b (a .site) (o .pre .0 .1) (λ k. c .before .before .before .before .before .before .before .before .before .before .before .before .before .before .before .before .before .before .before .before .before .slice-known .given k .fits) i e in
@@ -111,7 +111,7 @@ put-check-requires : tie.Need-put-check-requires
 put-check-requires c κs =
     let o = c .before .before .before .before .before .before .before .before .before .before .before .before .before .before .before .before .before .before .before .before .before .before in
     let a = o .args in
-    let b = lent (now (a .sites)) (now (a .log)) (entriesIn (now (a .kept))) (now (a .sent)) in
+    let b = lent (now (a .sites)) (now (a .log)) (keptEntries (now (a .kept))) (now (a .sent)) in
     let i : a .site < a .rules .table .sites = omega (arith, c .before .before .before .before .before .before .before .before .before .before .before .before .before .before .if1 .left) in
     let e = c .before .before .before .before .before .before .before .before .before .round .ensures ∙ (λ z. head-at (now (a .sites)) (a .site) ((a .site * siteSize + siteSize) - a .site * siteSize) (omega arith) z .round) in
     let p = round-told (a .rules .table) (o .pre .0 .0) (now (a .rows)) b (a .site) (o .pre .0 .1) (λ k. c .before .before .before .before .before .before .before .before .before .before .before .before .before .before .before .before .before .before .before .before .before .slice-known .given k .fits) i e in
@@ -121,7 +121,7 @@ append-requires : tie.Need-append-requires
 append-requires c κs =
     let o = c .before .before .before .before .before .before .before .before .before .before .before .before .before .before .before .before .before .before .before .before .before .before .before .before .before .before .before .before .before in
     let a = o .args in
-    let b = lent (now (a .sites)) (now (a .log)) (entriesIn (now (a .kept))) (now (a .sent)) in
+    let b = lent (now (a .sites)) (now (a .log)) (keptEntries (now (a .kept))) (now (a .sent)) in
     let i : a .site < a .rules .table .sites = omega (arith, c .before .before .before .before .before .before .before .before .before .before .before .before .before .before .before .before .before .before .before .before .before .if1 .left) in
     let e = c .before .before .before .before .before .before .before .before .before .before .before .before .before .before .before .before .round .ensures ∙ (λ z. head-at (now (a .sites)) (a .site) ((a .site * siteSize + siteSize) - a .site * siteSize) (omega arith) z .round) in
     let p = round-told (a .rules .table) (o .pre .0 .0) (now (a .rows)) b (a .site) (o .pre .0 .1) (λ k. c .before .before .before .before .before .before .before .before .before .before .before .before .before .before .before .before .before .before .before .before .before .before .before .before .before .before .before .before .slice-known .given k .fits) i e in
@@ -137,7 +137,7 @@ returns-3 : tie.Need-returns-3
 returns-3 c =
     let o = c .before .before .before .before .before .before .before .before .before .before .before .before .before .before .before .before .before .before .before .before .before in
     let a = o .args in
-    let b = lent (now (a .sites)) (now (a .log)) (entriesIn (now (a .kept))) (now (a .sent)) in
+    let b = lent (now (a .sites)) (now (a .log)) (keptEntries (now (a .kept))) (now (a .sent)) in
     let i : a .site < a .rules .table .sites = omega (arith, c .before .before .before .before .before .before .before .before .before .before .before .before .before .if1 .left) in
     let h = at-site (TurnedBy (now (a .rows)) (now (a .kept)) (a .site) (c .before .before .before .before .before .turn-by .result)) (now (a .sites)) (a .site) ((a .site * siteSize + siteSize) - a .site * siteSize) _ (omega arith)
     (omega (arith, i, o .pre .0 .1 .world .size)) (c .before .before .before .before .before .turn-by .kept .0) (c .before .before .before .before .before .turn-by .ensures) in
@@ -156,7 +156,7 @@ returns-4 : tie.Need-returns-4
 returns-4 c =
     let o = c .before .before .before .before .before .before .before .before .before .before .before .before .before .before .before .before .before .before .before .before .before .before .before .before .before in
     let a = o .args in
-    let b = lent (now (a .sites)) (now (a .log)) (entriesIn (now (a .kept))) (now (a .sent)) in
+    let b = lent (now (a .sites)) (now (a .log)) (keptEntries (now (a .kept))) (now (a .sent)) in
     let i : a .site < a .rules .table .sites = omega (arith, c .before .before .before .before .before .before .before .before .before .before .before .before .before .before .before .before .before .if1 .left) in
     let e = c .before .before .before .before .before .before .before .before .before .before .before .before .round .ensures ∙ (λ z. head-at (now (a .sites)) (a .site) ((a .site * siteSize + siteSize) - a .site * siteSize) (omega arith) z .round) in
     let h = at-site (TurnedBy (now (a .rows)) (now (a .kept)) (a .site) (c .before .before .before .before .before .before .before .before .before .turn-by .result)) (now (a .sites)) (a .site) ((a .site * siteSize + siteSize) - a .site * siteSize) _ (omega arith)
@@ -182,7 +182,7 @@ returns-5 : tie.Need-returns-5
 returns-5 c =
     let o = c .before .before .before .before .before .before .before .before .before .before .before .before .before .before .before .before .before .before .before .before .before .before .before .before .before .before .before .before .before .before .before .before .before .before in
     let a = o .args in
-    let b = lent (now (a .sites)) (now (a .log)) (entriesIn (now (a .kept))) (now (a .sent)) in
+    let b = lent (now (a .sites)) (now (a .log)) (keptEntries (now (a .kept))) (now (a .sent)) in
     let i : a .site < a .rules .table .sites = omega (arith, c .before .before .before .before .before .before .before .before .before .before .before .before .before .before .before .before .before .before .before .before .before .before .before .before .before .before .if1 .left) in
     let e = c .before .before .before .before .before .before .before .before .before .before .before .before .before .before .before .before .before .before .before .before .before .round .ensures ∙ (λ z. head-at (now (a .sites)) (a .site) ((a .site * siteSize + siteSize) - a .site * siteSize) (omega arith) z .round) in
     let h = at-site (TurnedBy (now (a .rows)) (now (a .kept)) (a .site) (c .before .before .before .before .before .before .before .before .before .before .before .before .before .before .before .before .before .before .turn-by .result)) (now (a .sites)) (a .site) ((a .site * siteSize + siteSize) - a .site * siteSize) _ (omega arith)

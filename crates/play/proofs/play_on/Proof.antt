@@ -10,7 +10,7 @@ use Rattle.commands.specs.Book.{commandsOf}
 use Rattle.conflicts.specs.Conflicts.{rowsIn}
 use Rattle.steps.specs.Meaning.{meaning}
 use Rattle.steps.proofs.Walk.{inside}
-use Rattle.rounds.specs.Rounds.{entriesIn, Kept}
+use Rattle.rounds.specs.Rounds.{keptEntries, Kept}
 use Rattle.world.specs.Parts.{lent}
 use Rattle.play.specs.Played.{lineRoom}
 use Rattle.play.proofs.Laws.{Playing, playing-none, playing-more, playing-last, playing-end}
@@ -27,7 +27,7 @@ Inv-loop sites₀ log₀ sent₀ kept₀ rules book noted steps out₀ from end�
     × (length log ≡ length log₀)
     × (length sent ≡ length sent₀)
     × (length out ≡ length out₀)
-    × Playing (rules .table) (commandsOf book) steps out₀ from sites₀ (lent sites log (entriesIn kept) sent) out end at number
+    × Playing (rules .table) (commandsOf book) steps out₀ from sites₀ (lent sites log (keptEntries kept) sent) out end at number
     × Kept (rules .table) (rowsIn noted) log kept
 
 abbrev μ-loop : tie.MeasureT-loop

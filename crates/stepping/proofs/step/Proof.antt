@@ -7,7 +7,7 @@ use mathlib.Core.Path.{refl, sym, ap, _∙_}
 use lib.ListN.{length}
 use Rattle.commands.specs.Book.{commandsOf}
 use Rattle.conflicts.proofs.Laws.{rows-size, rows-room, rows-rest}
-use Rattle.rounds.specs.Rounds.{entriesIn}
+use Rattle.rounds.specs.Rounds.{keptEntries}
 use Rattle.world.specs.Parts.{lent}
 use Rattle.stepping.proofs.Arms.{is-arrival, arm, ready-as, kept-by, read-to, good-sites, kept-log, few}
 use Rattle.stepping.proofs.step.Statement.{statement}
@@ -29,7 +29,7 @@ false-entry-requires : tie.Need-false-entry-requires
 false-entry-requires c κs =
     let o = c .before .before .before .before .before .before .before .before .before .before .before .before in
     let a = o .args in
-    let b = lent (now (a .sites)) (now (a .log)) (entriesIn (now (a .kept))) (now (a .sent)) in
+    let b = lent (now (a .sites)) (now (a .log)) (keptEntries (now (a .kept))) (now (a .sent)) in
     let same = rows-rest (now (a .book)) (now (a .noted)) (o .pre .0 .conflicts) in
     (o .pre .0 .room, o .pre .0 .table, kept-by (a .rules .table) (now (a .log)) (sym same) (o .pre .3), ap length (same ∙ o .pre .0 .conflicts) ∙ rows-size (now (a .book)))
 
@@ -40,7 +40,7 @@ turn-requires : tie.Need-turn-requires
 turn-requires c κs =
     let o = c .before .before .before .before .before .before .before .before .before .before .before .before .before .before in
     let a = o .args in
-    let b = lent (now (a .sites)) (now (a .log)) (entriesIn (now (a .kept))) (now (a .sent)) in
+    let b = lent (now (a .sites)) (now (a .log)) (keptEntries (now (a .kept))) (now (a .sent)) in
     let same = rows-rest (now (a .book)) (now (a .noted)) (o .pre .0 .conflicts) in
     ((now (a .book), ready-as (a .rules .table) (now (a .book)) b (c .before .before .before .before .before .step2 .given .1) same (o .pre .0)), kept-by (a .rules .table) (now (a .log)) (sym same) (o .pre .3))
 
@@ -51,7 +51,7 @@ fast-delivery-requires : tie.Need-fast-delivery-requires
 fast-delivery-requires c κs =
     let o = c .before .before .before .before .before .before .before .before .before .before .before in
     let a = o .args in
-    let b = lent (now (a .sites)) (now (a .log)) (entriesIn (now (a .kept))) (now (a .sent)) in
+    let b = lent (now (a .sites)) (now (a .log)) (keptEntries (now (a .kept))) (now (a .sent)) in
     let same = rows-rest (now (a .book)) (now (a .noted)) (o .pre .0 .conflicts) in
     (good-sites (a .rules .table) (now (a .book)) (a .rules .commands) b (o .pre .2) (o .pre .0 .world), o .pre .0 .table, o .pre .1, o .pre .2)
 
@@ -65,7 +65,7 @@ log-read-requires : tie.Need-log-read-requires
 log-read-requires c κs =
     let o = c .before .before .before .before .before .before .before .before .before .before .before .before .before in
     let a = o .args in
-    let b = lent (now (a .sites)) (now (a .log)) (entriesIn (now (a .kept))) (now (a .sent)) in
+    let b = lent (now (a .sites)) (now (a .log)) (keptEntries (now (a .kept))) (now (a .sent)) in
     let same = rows-rest (now (a .book)) (now (a .noted)) (o .pre .0 .conflicts) in
     let w = o .pre .0 .world in
     (w .size, omega (arith, w .room, w .short, c .before .entries .ensures))
@@ -77,7 +77,7 @@ round-end-requires : tie.Need-round-end-requires
 round-end-requires c κs =
     let o = c .before .before .before .before .before .before .before .before .before .before .before .before in
     let a = o .args in
-    let b = lent (now (a .sites)) (now (a .log)) (entriesIn (now (a .kept))) (now (a .sent)) in
+    let b = lent (now (a .sites)) (now (a .log)) (keptEntries (now (a .kept))) (now (a .sent)) in
     let same = rows-rest (now (a .book)) (now (a .noted)) (o .pre .0 .conflicts) in
     (good-sites (a .rules .table) (now (a .book)) (a .rules .commands) b (o .pre .2) (o .pre .0 .world), (now (a .log), kept-log (a .rules .table) (now (a .book)) (a .rules .commands) b (o .pre .2) (o .pre .0 .world) (o .pre .0 .conflicts) (λ k. c .before .before .before .before .before .before .before .before .before .before .slice-known2 .given k .fits) refl (o .pre .3)), o .pre .0 .table, o .pre .1, o .pre .2)
 
@@ -85,7 +85,7 @@ arrive-requires : tie.Need-arrive-requires
 arrive-requires c κs =
     let o = c .before .before .before .before .before .before .before .before .before .before in
     let a = o .args in
-    let b = lent (now (a .sites)) (now (a .log)) (entriesIn (now (a .kept))) (now (a .sent)) in
+    let b = lent (now (a .sites)) (now (a .log)) (keptEntries (now (a .kept))) (now (a .sent)) in
     let same = rows-rest (now (a .book)) (now (a .noted)) (o .pre .0 .conflicts) in
     (o .pre .0 .world .size, o .pre .0 .table, o .pre .0 .world .sent, few (a .rules .table) (now (a .book)) (a .rules .commands) b (o .pre .2) (o .pre .0 .world))
 
@@ -99,7 +99,7 @@ returns : tie.Need-returns
 returns c =
     let o = c .before .before .before .before .before .before .before .before .before .before .before .before .before .before .before .before .before in
     let a = o .args in
-    let b = lent (now (a .sites)) (now (a .log)) (entriesIn (now (a .kept))) (now (a .sent)) in
+    let b = lent (now (a .sites)) (now (a .log)) (keptEntries (now (a .kept))) (now (a .sent)) in
     let same = rows-rest (now (a .book)) (now (a .noted)) (o .pre .0 .conflicts) in
     let e = c .before .before .before .before .false-entry .ensures in (
       arm (a .rules .table) (commandsOf (now (a .book))) b _ (c .before .before .before .before .before .before .before .before .step .given .1)
@@ -123,7 +123,7 @@ returns-2 : tie.Need-returns-2
 returns-2 c =
     let o = c .before .before .before .before .before .before .before .before .before .before .before .before .before .before .before .before .before .before .before .before .before .before .before in
     let a = o .args in
-    let b = lent (now (a .sites)) (now (a .log)) (entriesIn (now (a .kept))) (now (a .sent)) in
+    let b = lent (now (a .sites)) (now (a .log)) (keptEntries (now (a .kept))) (now (a .sent)) in
     let same = rows-rest (now (a .book)) (now (a .noted)) (o .pre .0 .conflicts) in
     let e = c .before .before .before .before .before .before .before .before .turn .ensures in
     (arm (a .rules .table) (commandsOf (now (a .book))) b _ (c .before .before .before .before .before .before .before .before .before .before .before .before .before .before .step2 .given .1) (e .0 (now (a .book)) (ready-as (a .rules .table) (now (a .book)) b (c .before .before .before .before .before .before .before .before .before .before .before .before .before .before .step2 .given .1) same (o .pre .0))), kept-by (a .rules .table) _ same (e .1))
@@ -135,9 +135,9 @@ returns-3 : tie.Need-returns-3
 returns-3 c =
     let o = c .before .before .before .before .before .before .before .before .before .before .before .before .before .before in
     let a = o .args in
-    let b = lent (now (a .sites)) (now (a .log)) (entriesIn (now (a .kept))) (now (a .sent)) in
+    let b = lent (now (a .sites)) (now (a .log)) (keptEntries (now (a .kept))) (now (a .sent)) in
     let same = rows-rest (now (a .book)) (now (a .noted)) (o .pre .0 .conflicts) in
-    (arm (a .rules .table) (commandsOf (now (a .book))) b _ (c .before .before .before .before .before .step3 .given .1) (c .before .before .fast-delivery .ensures (now (a .log)) (entriesIn (now (a .kept))) (now (a .sent)) (o .pre .0 .world)), o .pre .3)
+    (arm (a .rules .table) (commandsOf (now (a .book))) b _ (c .before .before .before .before .before .step3 .given .1) (c .before .before .fast-delivery .ensures (now (a .log)) (keptEntries (now (a .kept))) (now (a .sent)) (o .pre .0 .world)), o .pre .3)
 
 same-length-8 : tie.Need-same-length-8
 same-length-8 c = search needs
@@ -149,7 +149,7 @@ returns-4 : tie.Need-returns-4
 returns-4 c =
     let o = c .before .before .before .before .before .before .before .before .before .before .before .before .before .before .before .before in
     let a = o .args in
-    let b = lent (now (a .sites)) (now (a .log)) (entriesIn (now (a .kept))) (now (a .sent)) in
+    let b = lent (now (a .sites)) (now (a .log)) (keptEntries (now (a .kept))) (now (a .sent)) in
     let same = rows-rest (now (a .book)) (now (a .noted)) (o .pre .0 .conflicts) in
     (arm (a .rules .table) (commandsOf (now (a .book))) b _ (c .before .before .before .before .before .before .before .step4 .given .1) (read-to (a .rules .table) _ (now (a .sites)) _ (c .before .before .before .before .entries .ensures) (c .before .before .log-read .ensures) (commandsOf (now (a .book))) (now (a .log)) (now (a .sent)) (o .pre .0 .world)), o .pre .3)
 
@@ -163,7 +163,7 @@ returns-5 : tie.Need-returns-5
 returns-5 c =
     let o = c .before .before .before .before .before .before .before .before .before .before .before .before .before .before .before in
     let a = o .args in
-    let b = lent (now (a .sites)) (now (a .log)) (entriesIn (now (a .kept))) (now (a .sent)) in
+    let b = lent (now (a .sites)) (now (a .log)) (keptEntries (now (a .kept))) (now (a .sent)) in
     let same = rows-rest (now (a .book)) (now (a .noted)) (o .pre .0 .conflicts) in
     (arm (a .rules .table) (commandsOf (now (a .book))) b _ (c .before .before .before .before .before .before .step5 .given .1) (c .before .before .round-end .ensures (now (a .log)) (kept-log (a .rules .table) (now (a .book)) (a .rules .commands) b (o .pre .2) (o .pre .0 .world) (o .pre .0 .conflicts) (λ k. c .before .before .before .before .before .before .before .before .before .before .before .before .before .slice-known2 .given k .fits) refl (o .pre .3)) (now (a .sent)) (o .pre .0 .world)), o .pre .3)
 
@@ -177,9 +177,9 @@ returns-6 : tie.Need-returns-6
 returns-6 c =
     let o = c .before .before .before .before .before .before .before .before .before .before .before .before .before in
     let a = o .args in
-    let b = lent (now (a .sites)) (now (a .log)) (entriesIn (now (a .kept))) (now (a .sent)) in
+    let b = lent (now (a .sites)) (now (a .log)) (keptEntries (now (a .kept))) (now (a .sent)) in
     let same = rows-rest (now (a .book)) (now (a .noted)) (o .pre .0 .conflicts) in
-    (c .before .before .arrive .ensures (is-arrival (a .step) (c .before .before .before .before .before .match .keys6)) (commandsOf (now (a .book))) (now (a .log)) (entriesIn (now (a .kept))) (sym (o .pre .2)) (o .pre .0 .world), o .pre .3)
+    (c .before .before .arrive .ensures (is-arrival (a .step) (c .before .before .before .before .before .match .keys6)) (commandsOf (now (a .book))) (now (a .log)) (keptEntries (now (a .kept))) (sym (o .pre .2)) (o .pre .0 .world), o .pre .3)
 
 pub step-spec : {M : Type 1} → statement M
 step-spec =
