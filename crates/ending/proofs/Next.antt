@@ -9,10 +9,10 @@ use Rattle.sets.specs.declared.Set.{Set}
 use Rattle.sets.specs.Sets.{emptyOf, unionOf, writeSet}
 use Rattle.recovery.specs.declared.Sets.{Sets}
 use Rattle.layout.specs.declared.Site.{Site}
-use Rattle.layout.specs.Layout.{siteRounds, roundPlace, countPlace, deliveredPlace, pendingPlace, fastPlace, registerPlace, headOf, numbersBytes, setsBytes, headBytes, Headed, acknowledges}
+use Rattle.layout.specs.Layout.{siteRounds, roundPlace, countPlace, deliveredPlace, pendingPlace, fastPlace, registerPlace, headOf, numbersBytes, setsBytes, headBytes, Begins, Headed, acknowledges}
 use Rattle.layout.specs.Good.{Good}
 use Rattle.layout.proofs.Header.{fit}
-use Rattle.layout.proofs.Fields.{Begins, begins, begins-head, in-head}
+use Rattle.layout.proofs.Fields.{begins, begins-head, in-head}
 use Rattle.ending.specs.Ending.{ended}
 
 next-written : (h : Site) (b : List ℕ) (s : Sets) (n : ℕ) → Begins h b

@@ -13,10 +13,11 @@ use Rattle.wire.specs.Wire.{bytes, readLe, splice}
 use Rattle.wire.proofs.Laws.{part-before}
 use Rattle.sets.specs.declared.Set.{Set}
 use Rattle.sets.specs.Sets.{emptyOf, readSet, writeSet}
+use Rattle.layout.specs.declared.Proposal.{Proposal}
 use Rattle.layout.specs.declared.Phase.{Phase}
 use Rattle.layout.specs.declared.Phase.the-variants.{Waiting}
 use Rattle.layout.specs.declared.Site.{Site}
-use Rattle.layout.specs.Layout.{phasePlace, countPlace, spanPlace, positionPlace, receivedPlace, pendingPlace, fastPlace, ncPlace, cPlace, registerPlace, headOf, phaseFrom, isWaiting, numbersBytes, setsBytes, headBytes, waitsWith, acknowledges}
+use Rattle.layout.specs.Layout.{phasePlace, countPlace, spanPlace, positionPlace, receivedPlace, pendingPlace, fastPlace, ncPlace, cPlace, registerPlace, headOf, tagOf, proposalOf, Begins, phased, phaseFrom, isWaiting, numbersBytes, setsBytes, headBytes, waitsWith, acknowledges}
 use Rattle.layout.specs.Good.{Fit, Good}
 use Rattle.layout.proofs.Header.{length-head, head-back, head-bytes}
 
@@ -38,11 +39,12 @@ pub acknowledged : (b : List ℕ) {l₁ l₂ l₃ : List ℕ} → l₁ ≡ splic
     → l₃ ≡ acknowledges b
 acknowledged b e₁ e₂ e₃ = e₃ ∙ ap (λ (l : List ℕ). writeSet l cPlace emptyOf) (e₂ ∙ ap (λ (l : List ℕ). writeSet l ncPlace emptyOf) e₁)
 
--- ---- the header in front of the bytes
+pub phase-set : (b : List ℕ) (p : Phase) {n : ℕ} {q : Proposal} {l₁ l₂ l₃ : List ℕ} → q ≡ proposalOf p → n ≡ tagOf p
+    → l₁ ≡ splice b phasePlace (bytes 1 n) → l₂ ≡ writeSet l₁ ncPlace (q .nc) → l₃ ≡ writeSet l₂ cPlace (q .c) → l₃ ≡ phased b p
+phase-set b p eq en e₁ e₂ e₃ =
+    e₃ ∙ (λ i. writeSet ((e₂ ∙ (λ j. writeSet ((e₁ ∙ ap (λ (k : ℕ). splice b phasePlace (bytes 1 k)) en) j) ncPlace (eq j .nc))) i) cPlace (eq i .c))
 
--- The bytes begin with those of a header.
-abbrev pub Begins : Site → List ℕ → Type 0
-Begins h b = take registerPlace b ≡ headBytes h
+-- ---- the header in front of the bytes
 
 -- Good bytes begin with those of the header that is read of them.
 pub begins : {sites commands : ℕ} (b : List ℕ) → Good sites commands b → ((i : ℕ) → getD b i 0 < 256) → Begins (headOf b) b
@@ -181,6 +183,10 @@ module _ (h : Site) where
     pub waiting-written : (nc c : Set) → waitsWith b nc c ≡ splice b 0 (headBytes (withPhase (Waiting (record { nc = nc; c = c }))))
     unfolding writeSet splice numbersBytes setsBytes bytes
     waiting-written nc c = in-head (λ l. waitsWith l nc c) h (withPhase (Waiting (record { nc = nc; c = c }))) b (λ rest. refl) e
+
+    pub phase-written : (p : Phase) → phased b p ≡ splice b 0 (headBytes (withPhase p))
+    unfolding writeSet splice numbersBytes setsBytes bytes
+    phase-written p = in-head (λ l. phased l p) h (withPhase p) b (λ rest. refl) e
 
     pub fast-written : (n : ℕ) (x : Set) → splice (writeSet b fastPlace x) countPlace (bytes 2 n) ≡ splice b 0 (headBytes (withFast n x))
     unfolding writeSet splice numbersBytes setsBytes bytes

@@ -19,11 +19,11 @@ use Rattle.sets.specs.Sets.{has, withinOf, readSet}
 use Rattle.sets.proofs.Laws.{has-empty}
 use Rattle.register.specs.Register.{Within}
 use Rattle.layout.specs.declared.Site.{Site}
-use Rattle.layout.specs.Layout.{siteSize, spanPlace, registerPlace, deliveriesPlace, heardPlace, siteRounds, rowAt, inTable, cell, slot, headOf, heardIn, spanWith, emptied, reached}
+use Rattle.layout.specs.Layout.{siteSize, spanPlace, registerPlace, deliveriesPlace, heardPlace, siteRounds, rowAt, inTable, cell, slot, headOf, heardIn, Begins, spanWith, emptied, reached}
 use Rattle.layout.specs.Good.{GoodTables}
 use Rattle.wire.proofs.Agree.{Agree, agree-before, agree-after, agree-trans, agree-part}
 use Rattle.layout.proofs.Agree.{cell-inside, register-agree}
-use Rattle.layout.proofs.Fields.{Begins, begins-still, withSpan, span-begins}
+use Rattle.layout.proofs.Fields.{begins-still, withSpan, span-begins}
 use Rattle.layout.proofs.Senders.{in-table, table-bounds}
 use Rattle.layout.proofs.Tables.{within-empty}
 
@@ -192,14 +192,12 @@ reaches b small size r rows last = go (leb r (readLe 2 b spanPlace)) refl
 
 -- ---- what the code of reach does
 
-pub row-there : (b : List ℕ) (r : ℕ) {n : ℕ} → n ≡ headOf b .span → r ≤ n → b ≡ reached b r
-unfolding headOf
+pub row-there : (b : List ℕ) (r : ℕ) {n : ℕ} → n ≡ readLe 2 b spanPlace → r ≤ n → b ≡ reached b r
 row-there b r e l =
     ap (λ (t : Bool). pick t b (splice (emptied b (readLe 2 b spanPlace) r) spanPlace (bytes 2 r))) (sym (le-leb r (readLe 2 b spanPlace) (omega arith)))
 
-pub rows-new : (b : List ℕ) (r : ℕ) {n : ℕ} {l₁ l₂ : List ℕ} → n ≡ headOf b .span → n < r
+pub rows-new : (b : List ℕ) (r : ℕ) {n : ℕ} {l₁ l₂ : List ℕ} → n ≡ readLe 2 b spanPlace → n < r
     → l₁ ≡ emptied b n r → l₂ ≡ splice l₁ spanPlace (bytes 2 r) → l₂ ≡ reached b r
-unfolding headOf
 rows-new b r {n} e g e₁ e₂ =
     let k = readLe 2 b spanPlace in
     e₂

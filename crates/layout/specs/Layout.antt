@@ -198,6 +198,10 @@ setsBytes h =
 abbrev pub headBytes : Site → List ℕ
 headBytes h = numbersBytes h ++ setsBytes h
 
+-- The bytes begin with those of a header.
+abbrev pub Begins : Site → List ℕ → Type 0
+Begins h b = take registerPlace b ≡ headBytes h
+
 -- The bytes begin with those of the header that is read of them.
 abbrev pub Headed : List ℕ → Type 0
 Headed b = take registerPlace b ≡ headBytes (headOf b)
@@ -209,6 +213,10 @@ waitsWith b nc c = writeSet (writeSet (splice b phasePlace (bytes 1 1)) ncPlace 
 -- The bytes with the site acknowledging, and nothing proposed.
 abbrev pub acknowledges : List ℕ → List ℕ
 acknowledges b = writeSet (writeSet (splice b phasePlace (bytes 1 0)) ncPlace emptyOf) cPlace emptyOf
+
+-- The bytes with another phase.
+abbrev pub phased : List ℕ → Phase → List ℕ
+phased b p = writeSet (writeSet (splice b phasePlace (bytes 1 (tagOf p))) ncPlace (proposalOf p .nc)) cPlace (proposalOf p .c)
 
 -- The first n of the sets heard: that of sender 0 and round 1 first, then that of sender 1.
 unfoldable pub heardBytes : ℕ → (ℕ → ℕ → ℕ → Bool) → List ℕ

@@ -5,8 +5,9 @@ ghost use lib.ListN.{length};
 ghost use Rattle.wire.specs.Wire.{bytes, splice};
 ghost use Rattle.sets.specs.Sets.{capacity, readSet, writeSet};
 ghost use Rattle.table.specs.Table.{maxSites};
-ghost use Rattle.layout.specs.Layout.{siteSize, siteRounds, cell, slot, headOf, phaseFrom, deliveryOf, deliveryBytes, deliverySeen, emptied, reached, heardMore};
+ghost use Rattle.layout.specs.Layout.{siteSize, siteRounds, cell, slot, headOf, phaseFrom, tagOf, proposalOf, phased, deliveryOf, deliveryBytes, deliverySeen, emptied, reached, heardMore};
 ghost use Rattle.layout.specs.Layout.{roundPlace, countPlace, positionPlace, receivedPlace, deliveredPlace, pendingPlace, fastPlace, isWaiting, waitsWith, acknowledges};
+ghost use Rattle.layout.specs.Good.{goodPhase};
 use sets::Set;
 
 // What a site proposed.
@@ -19,6 +20,31 @@ pub struct Proposal {
 pub enum Phase {
     Acknowledging,
     Waiting(Proposal),
+}
+
+impl Phase {
+    // The byte that tells it.
+    fn tag(self) -> u8
+        ensures { λ r. ⌜ r ≡ tagOf self ⌝ }
+    {
+        match self {
+            Phase::Acknowledging => 0,
+            Phase::Waiting(_) => 1,
+        }
+    }
+
+    // The sets that the site waits with, empty while it acknowledges.
+    pub fn proposal(self) -> Proposal
+        ensures { λ r. ⌜ r ≡ proposalOf self ⌝ }
+    {
+        match self {
+            Phase::Acknowledging => Proposal {
+                nc: Set { bits: 0 },
+                c: Set { bits: 0 },
+            },
+            Phase::Waiting(proposal) => proposal,
+        }
+    }
 }
 
 // The header of a site; the sets heard, the register and the deliveries stay in the lent bytes.
@@ -258,6 +284,30 @@ pub fn acknowledge(site: &mut [u8])
     none.write(site, Site::C);
 }
 
+// The phase is written: its tag and the sets that the site waits with, empty while it acknowledges.
+pub fn set_phase(site: &mut [u8], phase: Phase)
+    requires { ⌜ length (now site) ≡ siteSize ⌝ }
+    ensures { λ _. ⌜ now (site .exit) ≡ phased (now (site .entry)) phase ⌝ }
+{
+    let proposal = phase.proposal();
+    let nc = proposal.nc;
+    let c = proposal.c;
+    wire::put1(site, Site::PHASE, phase.tag());
+    nc.write(site, Site::NC);
+    c.write(site, Site::C);
+}
+
+// Whether the tag of the phase is one, and nothing is proposed while the site acknowledges.
+pub fn judge_phase(site: &[u8]) -> bool
+    requires { ⌜ length (now site) ≡ siteSize ⌝ }
+    ensures { λ r. ⌜ r ≡ goodPhase (now (site .entry)) ⌝ }
+{
+    let tag = wire::get1(site, Site::PHASE);
+    let nc = wire::get8(site, Site::NC);
+    let c = wire::get8(site, Site::C);
+    (tag == 1) | (tag == 0) & (nc == 0) & (c == 0)
+}
+
 // The place of what a sender acknowledged in a round.
 fn heard_place(sender: usize, round: usize) -> usize
     requires { ⌜ (sender < maxSites) × (1 ≤ round) × (round ≤ siteRounds) ⌝ }
@@ -289,7 +339,7 @@ fn reach(site: &mut [u8], round: usize)
     requires { ⌜ (length (now site) ≡ siteSize) × (round ≤ siteRounds) ⌝ }
     ensures { λ _. ⌜ now (site .exit) ≡ reached (now (site .entry)) round ⌝ }
 {
-    let rows = span(&site[..]) as usize;
+    let rows = wire::get2(&site[..], Site::SPAN) as usize;
     if round <= rows {
         return;
     }

@@ -11,37 +11,11 @@ ghost use Rattle.table.specs.Table.{maxSites};
 ghost use Rattle.register.specs.declared.Command.{Command};
 ghost use Rattle.protocol.specs.Site as protocol;
 ghost use Rattle.system.specs.Dash.{dash};
-ghost use Rattle.layout.specs.Layout.{siteSize, siteRounds, spanPlace, proposalOf};
-ghost use Rattle.layout.specs.Good.{goodPhase, goodHead, goodCell, goodHeard, goodSlot, goodSite, Holds};
-use layout::Phase;
-use layout::Proposal;
+ghost use Rattle.layout.specs.Layout.{siteSize, siteRounds, spanPlace};
+ghost use Rattle.layout.specs.Good.{goodHead, goodCell, goodHeard, goodSlot, goodSite, Holds};
 use layout::Site;
 use sets::Set;
 use table::SiteTable;
-
-// Whether the tag of a phase is one, and nothing is proposed while the site acknowledges.
-fn judge_phase(site: &[u8]) -> bool
-    requires { ⌜ length (now site) ≡ siteSize ⌝ }
-    ensures { λ r. ⌜ r ≡ goodPhase (now (site .entry)) ⌝ }
-{
-    let tag = wire::get1(site, Site::PHASE);
-    let nc = wire::get8(site, Site::NC);
-    let c = wire::get8(site, Site::C);
-    (tag == 1) | (tag == 0) & (nc == 0) & (c == 0)
-}
-
-// The sets that a phase is waiting with, empty while it acknowledges.
-fn proposal_of(phase: Phase) -> Proposal
-    ensures { λ r. ⌜ r ≡ proposalOf phase ⌝ }
-{
-    match phase {
-        Phase::Waiting(proposal) => proposal,
-        Phase::Acknowledging => Proposal {
-            nc: Set { bits: 0 },
-            c: Set { bits: 0 },
-        },
-    }
-}
 
 // Whether the numbers of a header are in range, and its sets within the book.
 fn judge_header(header: Site, commands: usize) -> bool
@@ -55,7 +29,7 @@ fn judge_header(header: Site, commands: usize) -> bool
     let pending = header.pending;
     let fast = header.fast;
     let phase = header.phase;
-    let proposal = proposal_of(phase);
+    let proposal = phase.proposal();
     let nc = proposal.nc;
     let c = proposal.c;
     (1 <= round)
@@ -139,7 +113,7 @@ pub fn judge(site: &[u8], sites: usize, commands: usize, entries: usize) -> bool
     if position > entries {
         return false;
     }
-    if !judge_phase(site) {
+    if !layout::judge_phase(site) {
         return false;
     }
     if !judge_header(header, commands) {

@@ -18,10 +18,10 @@ use Rattle.register.specs.declared.Command.{Command}
 use Rattle.protocol.specs.Site as protocol
 use Rattle.system.specs.Dash.{dash}
 use Rattle.layout.specs.declared.Site.{Site}
-use Rattle.layout.specs.Layout.{siteSize, spanPlace, receivedPlace, registerPlace, deliveriesPlace, heardPlace, siteRounds, cell, slot, headOf, heardOf, spanWith, reached, heardMore, phaseSeen, view}
+use Rattle.layout.specs.Layout.{siteSize, spanPlace, receivedPlace, registerPlace, deliveriesPlace, heardPlace, siteRounds, cell, slot, headOf, Begins, heardOf, spanWith, reached, heardMore, phaseSeen, view}
 use Rattle.layout.specs.Good.{Fit, GoodHead, HoldsOver}
 use Rattle.layout.proofs.Header.{fit}
-use Rattle.layout.proofs.Fields.{Begins, begins, begins-still, withReceived, withSpan, received-written}
+use Rattle.layout.proofs.Fields.{begins, begins-still, withReceived, withSpan, received-written}
 use Rattle.wire.proofs.Agree.{Agree, agree-trans, agree-part}
 use Rattle.layout.proofs.Agree.{register-agree, deliveries-agree}
 use Rattle.layout.proofs.Senders.{heard-set}

@@ -6,8 +6,8 @@ use denote.Ref.{now}
 use Rattle.layout.proofs.reach.Statement.{statement}
 use Rattle.layout.proofs.reach.Tie as tie
 
-span-requires : tie.Need-span-requires
-span-requires c κs = search needs
+get2-requires : tie.Need-get2-requires
+get2-requires c κs = search needs
 
 cast-rows : tie.Need-cast-rows
 cast-rows c = search needs
@@ -17,7 +17,7 @@ same-length c = search needs
 
 returns : tie.Need-returns
 returns c =
-    let a = c .before .before .before .before .args in row-there (now (a .site)) (a .round) (c .before .span .ensures) (c .if1 .taken)
+    let a = c .before .before .before .before .args in row-there (now (a .site)) (a .round) (c .before .get2 .ensures) (c .if1 .taken)
 
 clear-rows-requires : tie.Need-clear-rows-requires
 clear-rows-requires c κs = search needs
@@ -33,13 +33,13 @@ same-length-2 c = search needs
 
 returns-2 : tie.Need-returns-2
 returns-2 c =
-    let a = c .before .before .before .before .before .before .before .before .before .before .before .before .args in rows-new (now (a .site)) (a .round) (c .before .before .before .before .before .before .before .before .before .span .ensures) (c .before .before .before .before .before .before .before .before .if1 .left) (c .before .before .before .before .before .before .clear-rows .ensures) (c .before .before .put2 .ensures)
+    let a = c .before .before .before .before .before .before .before .before .before .before .before .before .args in rows-new (now (a .site)) (a .round) (c .before .before .before .before .before .before .before .before .before .get2 .ensures) (c .before .before .before .before .before .before .before .before .if1 .left) (c .before .before .before .before .before .before .clear-rows .ensures) (c .before .before .put2 .ensures)
 
 pub reach-spec : {M : Type 1} → statement M
 reach-spec =
     tie.close
     (tie.spec
-    span-requires
+    get2-requires
     cast-rows
     same-length
     returns

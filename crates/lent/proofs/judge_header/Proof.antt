@@ -19,8 +19,8 @@ cast-deliveries c = search needs
 cast-span : tie.Need-cast-span
 cast-span c = search needs
 
-proposal-of-requires : tie.Need-proposal-of-requires
-proposal-of-requires c κs = search needs
+proposal-requires : tie.Need-proposal-requires
+proposal-requires c κs = search needs
 
 within-requires : tie.Need-within-requires
 within-requires c κs = search needs
@@ -45,7 +45,7 @@ unfolding goodHead
 returns c =
     let h = c .before .before .before .before .before .before .before .before .before .before .before .before .before .before .before .before .args .header in
     let n = c .before .before .before .before .before .before .before .before .before .before .before .before .before .before .before .before .args .commands in
-    let p = c .before .before .before .before .before .before .before .before .proposal-of .ensures in
+    let p = c .before .before .before .before .before .before .before .before .proposal .ensures in
     λ i. leb 1 (h .round) && leb (h .round) 33 && leb (h .deliveries) n && leb (h .deliveries) 64 && leb (h .span) 33
     && c .before .before .before .before .before .within .ensures i && c .before .before .before .before .within2 .ensures i && c .before .before .before .within3 .ensures i && c .before .before .within4 .ensures i
     && (c .before .within5 .ensures ∙ ap (λ (x : Proposal). withinOf (x .nc) n) p) i && (c .within6 .ensures ∙ ap (λ (x : Proposal). withinOf (x .c) n) p) i
@@ -57,7 +57,7 @@ judge-header-spec =
     cast-round
     cast-deliveries
     cast-span
-    proposal-of-requires
+    proposal-requires
     within-requires
     within-requires-2
     within-requires-3

@@ -1,10 +1,10 @@
--- `lent::judge_phase`: the tag and the sets proposed are those that stand there.
+-- `layout::judge_phase`: the tag and the sets proposed are those that stand there.
 -- Assumes nothing.
 use mathlib.Core.Bool.{_&&_, _||_}
 use lib.Dec.{eqb}
 use borrow.Author.Needs.{needs}
-use Rattle.lent.proofs.judge_phase.Statement.{statement}
-use Rattle.lent.proofs.judge_phase.Tie as tie
+use Rattle.layout.proofs.judge_phase.Statement.{statement}
+use Rattle.layout.proofs.judge_phase.Tie as tie
 
 get1-requires : tie.Need-get1-requires
 get1-requires c κs = search needs
