@@ -5,6 +5,7 @@ use mathlib.Core.Bool.{Bool, true, false, not}
 use mathlib.Core.List.{List}
 use Prim.Native.Nat.{ℕ, _+_, _<_}
 use native.Mathlib.Numerals.{add-one}
+use native.Mathlib.Omega.{arith}
 use lib.ListN.{getD, take}
 use Rattle.refusals.specs.declared.Refusal.the-variants.{Disabled, ThirdEntry}
 use Rattle.refusals.specs.declared.Verdict.the-variants.{Taken, Refused}
@@ -13,11 +14,16 @@ use Rattle.sets.specs.Sets.{inSet}
 use Rattle.protocol.specs.System.{granted, _else_⨾_, verdict}
 use Rattle.protocol.specs.Site as protocol
 use Rattle.system.specs.Dash.{dash}
+use Rattle.layout.specs.declared.Site.{Site}
 use Rattle.layout.specs.Layout.{positionPlace, headOf, heardOf, phaseSeen, view}
 use Rattle.layout.proofs.Header.{fit}
 use Rattle.layout.proofs.Fields.{begins, withPosition, position-written}
 use Rattle.layout.proofs.Finish.{finish, refused, taken}
 use Rattle.site.specs.Steps.{ReadEntry}
+
+-- The position of a header that was read has room for one more.
+pub position-fits : (b : List ℕ) {h : Site} → h ≡ headOf b → headOf b .position < 65535 → h .position + 1 < 65536
+position-fits b e l = let p = ap (λ (x : Site). x .position) e in omega arith
 
 module _ (b : List ℕ) (small : (i : ℕ) → getD b i 0 < 256) (left third : Bool) where
   pub nothing-left : left ≡ false → ReadEntry left third b (Refused Disabled) b

@@ -5,7 +5,6 @@ use mathlib.Core.Bool.{Bool, true, false, _&&_, _||_, not}
 use mathlib.Core.Logic.{_⊎_, inl, inr, ⊎-elim}
 use mathlib.Core.List.{List}
 use Prim.Native.Nat.{ℕ, _^_, _≤_, _<_}
-use native.Mathlib.Omega.{arith}
 use lib.Dec.{leb, ltb}
 use lib.ListN.{length, getD}
 use borrow.Author.Tests.{lt-ltb, le-ltb, le-leb, lt-leb}
@@ -29,58 +28,53 @@ use Rattle.layout.specs.declared.Proposal.{Proposal}
 use Rattle.layout.specs.declared.Phase.{Phase}
 use Rattle.layout.specs.declared.Phase.the-variants.{Acknowledging, Waiting}
 use Rattle.layout.specs.declared.Site.{Site}
-use Rattle.layout.specs.Layout.{pendingPlace, headOf, heardOf, phaseSeen, isWaiting, waitsWith, siteOf, view}
+use Rattle.layout.specs.Layout.{pendingPlace, headOf, heardOf, phaseSeen, phased, siteOf, view}
 use Rattle.layout.specs.Good.{Fit, GoodHead, Good, HoldsOver}
 use Rattle.layout.proofs.Header.{fit}
-use Rattle.layout.proofs.Fields.{begins, withPending, withPhase, pending-written, waiting-written}
+use Rattle.layout.proofs.Fields.{begins, withPending, withPhase, pending-written, phase-written}
 use Rattle.layout.proofs.Tables.{within-without}
 use Rattle.layout.proofs.Finish.{finish, unchanged}
 use Rattle.site.specs.declared.Turn.{Turn}
 use Rattle.site.specs.declared.Turn.the-variants as turn
-use Rattle.site.specs.Steps.{undeliveredOf, newOf, chosen, answerTo, Turned}
+use Rattle.site.specs.Steps.{undeliveredOf, newOf, chosenIn, chosen, answerTo, Turned}
 
 -- ---- the paths of the code
 
-pub undelivered-is : (h : Site) {r d u : Set} → r ≡ h .received → d ≡ h .delivered → u ≡ withoutOf r d → u ≡ undeliveredOf h
-undelivered-is h er ed eu = eu ∙ (λ i. withoutOf (er i) (ed i))
-
--- What the code makes of what is new.
-new-is : (h : Site) {u p n : Set} → u ≡ undeliveredOf h → p ≡ h .pending → n ≡ withoutOf u p → n ≡ newOf h
-new-is h eu ep en = en ∙ (λ i. withoutOf (eu i) (ep i))
-
-module _ (h : Site) (free third : Bool) {w : Bool} (ew : w ≡ isWaiting (h .phase)) where
-  pub choose-waiting : w ≡ true → turn.Refused Disabled ≡ chosen h free third
+module _ (h : Site) (free third : Bool) where
+  pub choose-waiting : (p : Proposal) → h .phase ≡ Waiting p → turn.Refused Disabled ≡ chosen h free third
   unfolding chosen
-  choose-waiting e = let is : isWaiting (h .phase) ≡ true = sym ew ∙ e in simp is
+  choose-waiting p e = ap (λ (x : Phase). chosenIn x h free third) (sym e)
 
-  module _ (e : w ≡ false) {u p n : Set} {v : Bool} (eu : u ≡ undeliveredOf h) (ep : p ≡ h .pending) (en : n ≡ withoutOf u p) (ev : v ≡ isEmptyOf n) where
-    tests : {x : Bool} → v ≡ x → (isWaiting (h .phase) ≡ false) × (isEmptyOf (newOf h) ≡ x)
-    tests ex = (sym ew ∙ e, ap isEmptyOf (sym (new-is h eu ep en)) ∙ sym ev ∙ ex)
+  module _ (e : h .phase ≡ Acknowledging) {u n : Set} {v : Bool} (eu : u ≡ undeliveredOf h) (en : n ≡ withoutOf u (h .pending)) (ev : v ≡ isEmptyOf n) where
+    -- What the code makes of what is new.
+    new-is : n ≡ newOf h
+    new-is = en ∙ ap (λ (x : Set). withoutOf x (h .pending)) eu
+
+    empty-is : {x : Bool} → v ≡ x → isEmptyOf (newOf h) ≡ x
+    empty-is ex = ap isEmptyOf (sym new-is) ∙ sym ev ∙ ex
 
     pub choose-nothing : v ≡ true → turn.Refused Disabled ≡ chosen h free third
     unfolding chosen
-    choose-nothing ex = let t = tests ex in simp (t .0, t .1)
+    choose-nothing ex = simp (e, empty-is ex)
 
     module _ (ex : v ≡ false) where
       pub choose-free : free ≡ true → turn.Acknowledged u ≡ chosen h free third
       unfolding chosen
-      choose-free f = let t = tests ex in simp (t .0, t .1, f, eu)
+      choose-free f = simp (e, empty-is ex, f, eu)
 
       pub choose-third : free ≡ false → third ≡ true → turn.Refused ThirdEntry ≡ chosen h free third
       unfolding chosen
-      choose-third f o = let t = tests ex in simp (t .0, t .1, f, o)
+      choose-third f o = simp (e, empty-is ex, f, o)
 
-      module _ (f : free ≡ false) (o : third ≡ false) {r : ℕ} (er : r ≡ h .round) where
-        pub choose-last : lastRound < r → turn.Refused LastRound ≡ chosen h free third
+      module _ (f : free ≡ false) (o : third ≡ false) where
+        pub choose-last : lastRound < h .round → turn.Refused LastRound ≡ chosen h free third
         unfolding chosen
-        choose-last l = let t = tests ex in let k : leb (h .round) lastRound ≡ false = lt-leb (h .round) lastRound (omega arith) in simp (t .0, t .1, f, o, k)
+        choose-last l = simp (e, empty-is ex, f, o, lt-leb (h .round) lastRound l)
 
-        pub choose-propose : r ≤ lastRound → turn.Proposed u (record { nc = p; c = n }) ≡ chosen h free third
+        pub choose-propose : h .round ≤ lastRound → turn.Proposed u (record { nc = h .pending; c = n }) ≡ chosen h free third
         unfolding chosen
         choose-propose l =
-            let t = tests ex in
-            let k : leb (h .round) lastRound ≡ true = le-leb (h .round) lastRound (omega arith) in
-            (λ i. turn.Proposed (eu i) (record { nc = ep i; c = new-is h eu ep en i })) ∙ simp (t .0, t .1, f, o, k)
+            (λ i. turn.Proposed (eu i) (record { nc = h .pending; c = new-is i })) ∙ simp (e, empty-is ex, f, o, le-leb (h .round) lastRound l)
 
 -- ---- the choice is the verdict
 
@@ -90,17 +84,16 @@ answered Taken true u p = turn.Acknowledged u
 answered Taken false u p = turn.Proposed u p
 answered (Refused r) free u p = turn.Refused r
 
--- By the tests alone.
-by-tests : (p : Phase) (empty free third low : Bool) (u : Set) (q : Proposal)
-    → pick (isWaiting p) (turn.Refused Disabled) (pick empty (turn.Refused Disabled) (pick free (turn.Acknowledged u) (pick third (turn.Refused ThirdEntry) (pick low (turn.Proposed u q) (turn.Refused LastRound)))))
-    ≡ answered (verdict (protocol.isAcknowledging (phaseSeen p) else Disabled ⨾ not empty else Disabled ⨾ free || not third else ThirdEntry ⨾ free || low else LastRound ⨾ granted)) free u q
+-- By the tests of an acknowledging site alone.
+by-tests : (empty free third low : Bool) (u : Set) (p : Proposal)
+    → pick empty (turn.Refused Disabled) (pick free (turn.Acknowledged u) (pick third (turn.Refused ThirdEntry) (pick low (turn.Proposed u p) (turn.Refused LastRound))))
+    ≡ answered (verdict (not empty else Disabled ⨾ free || not third else ThirdEntry ⨾ free || low else LastRound ⨾ granted)) free u p
 unfolding answered
-by-tests Acknowledging true free third low u q = refl
-by-tests Acknowledging false true third low u q = refl
-by-tests Acknowledging false false false true u q = refl
-by-tests Acknowledging false false false false u q = refl
-by-tests Acknowledging false false true low u q = refl
-by-tests (Waiting p) empty free third low u q = refl
+by-tests true free third low u p = refl
+by-tests false true third low u p = refl
+by-tests false false false true u p = refl
+by-tests false false false false u p = refl
+by-tests false false true low u p = refl
 
 -- What is in one set and neither of two others.
 neither : (r d p : Bool) → (r && not d && not p) ≡ (r && not (d || p))
@@ -155,9 +148,9 @@ module _ (t : SiteTable) (book : List Command) (h : Site) (heard : ℕ → ℕ �
   choice : (free third : Bool) (i : ℕ) (log : Log) → free ≡ protocol.acknowledges (dash t book) (siteOf t book h heard ledger) → not third ≡ ltb (entries i (h .round) log) 2
       → chosen h free third
       ≡ answered (verdict (protocol.forTurn (dash t book) i (siteOf t book h heard ledger) log)) (protocol.acknowledges (dash t book) (siteOf t book h heard ledger)) (undeliveredOf h) entry
-  unfolding chosen entry
+  unfolding chosen answered entry
   choice free third i log ef eo =
-      by-tests (h .phase) (isEmptyOf (newOf h)) free third (leb (h .round) lastRound) (undeliveredOf h) entry
+      by-phase (h .phase)
       ∙ (λ k.
       answered
       (verdict
@@ -167,6 +160,18 @@ module _ (t : SiteTable) (book : List Command) (h : Site) (heard : ℕ → ℕ �
       ⨾ ef k || leb (h .round) lastRound else LastRound
       ⨾ granted))
       (ef k) (undeliveredOf h) entry)
+    where
+      by-phase : (p : Phase) → chosenIn p h free third
+          ≡ answered
+          (verdict
+          (protocol.isAcknowledging (phaseSeen p) else Disabled
+          ⨾ not (isEmptyOf (newOf h)) else Disabled
+          ⨾ free || not third else ThirdEntry
+          ⨾ free || leb (h .round) lastRound else LastRound
+          ⨾ granted))
+          free (undeliveredOf h) entry
+      by-phase Acknowledging = by-tests (isEmptyOf (newOf h)) free third (leb (h .round) lastRound) (undeliveredOf h) entry
+      by-phase (Waiting p) = refl
 
   undelivered-set : undeliveredOf h ≡ setOf capacity (protocol.undelivered (dash t book) (siteOf t book h heard ledger))
   undelivered-set = sym (set-of-members (undeliveredOf h) undelivered-fits) ∙ (λ k. setOf capacity (λ m. in-without (h .received) (h .delivered) m k))
@@ -180,16 +185,12 @@ module _ (t : SiteTable) (book : List Command) (h : Site) (heard : ℕ → ℕ �
   sent Taken false = λ k. turn.Proposed (undelivered-set k) (record { nc = sym (set-of-members (h .pending) (f .pending)) k; c = new-set k })
   sent (Refused r) free = refl
 
-acknowledging : (p : Phase) → not (isWaiting p) ≡ protocol.isAcknowledging (phaseSeen p)
-acknowledging Acknowledging = refl
-acknowledging (Waiting p) = refl
-
 -- ---- the bytes after a turn
 
 -- What a turn that answers so writes.
 abbrev pub writtenBy : Turn → List ℕ → List ℕ
 writtenBy (turn.Acknowledged x) b = writeSet b pendingPlace x
-writtenBy (turn.Proposed x p) b = waitsWith b (p .nc) (p .c)
+writtenBy (turn.Proposed x p) b = phased b (Waiting p)
 writtenBy (turn.Refused r) b = b
 
 -- An answer that is known.
@@ -250,7 +251,7 @@ module _ (t : SiteTable) (book : List Command) (b : List ℕ) (small : (i : ℕ)
         let g = good .head in
         let h = headOf b in
         finish t book b b (withPhase h (Waiting (record { nc = h .pending; c = newOf h }))) (good .size)
-        (eb ∙ ap (λ (x : Proposal). waitsWith b (x .nc) (x .c)) ep ∙ waiting-written h b (begins b good small) (h .pending) (newOf h)) small′
+        (eb ∙ ap (λ (x : Proposal). phased b (Waiting x)) ep ∙ phase-written h b (begins b good small) (Waiting (record { nc = h .pending; c = newOf h }))) small′
         (record {
           round = f .round;
           deliveries = f .deliveries;

@@ -19,9 +19,11 @@ use Rattle.protocol.specs.System.{verdict}
 use Rattle.protocol.specs.Recovery.{Log, entries}
 use Rattle.protocol.specs.Site as protocol
 use Rattle.system.specs.Dash.{dash, lastRound}
+use Rattle.layout.specs.declared.Phase.{Phase}
+use Rattle.layout.specs.declared.Phase.the-variants.{Acknowledging, Waiting}
 use Rattle.layout.specs.declared.Site.{Site}
 use Rattle.wire.specs.Wire.{readLe}
-use Rattle.layout.specs.Layout.{spanPlace, isWaiting, spanWith, view}
+use Rattle.layout.specs.Layout.{spanPlace, spanWith, view}
 use Rattle.layout.specs.Good.{Good, Holds, HoldsOver}
 use Rattle.layout.specs.Step.{Carried}
 use Rattle.site.specs.declared.Turn.{Turn}
@@ -36,14 +38,18 @@ undeliveredOf h = withoutOf (h .received) (h .delivered)
 abbrev pub newOf : Site → Set
 newOf h = withoutOf (undeliveredOf h) (h .pending)
 
--- What a turn answers, by the header, the conflict test and whether the site has two entries of its round.
-unfoldable pub chosen : Site → Bool → Bool → Turn
-chosen h free third =
-    pick (isWaiting (h .phase)) (turn.Refused Disabled)
-    (pick (isEmptyOf (newOf h)) (turn.Refused Disabled)
+-- What a turn answers in a phase, by the header, the conflict test and whether the site has two entries of its round.
+abbrev pub chosenIn : Phase → Site → Bool → Bool → Turn
+chosenIn (Waiting p) h free third = turn.Refused Disabled
+chosenIn Acknowledging h free third =
+    pick (isEmptyOf (newOf h)) (turn.Refused Disabled)
     (pick free (turn.Acknowledged (undeliveredOf h))
     (pick third (turn.Refused ThirdEntry)
-    (pick (leb (h .round) lastRound) (turn.Proposed (undeliveredOf h) (record { nc = h .pending; c = newOf h })) (turn.Refused LastRound)))))
+    (pick (leb (h .round) lastRound) (turn.Proposed (undeliveredOf h) (record { nc = h .pending; c = newOf h })) (turn.Refused LastRound))))
+
+-- The phase is the header's.
+unfoldable pub chosen : Site → Bool → Bool → Turn
+chosen h free third = chosenIn (h .phase) h free third
 
 -- ---- the steps
 

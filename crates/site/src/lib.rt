@@ -7,7 +7,9 @@ ghost use Rattle.sets.specs.Sets.{capacity};
 ghost use Rattle.table.specs.Table.{maxSites};
 ghost use Rattle.layout.specs.Layout.{siteSize, siteRounds, headOf};
 ghost use Rattle.site.specs.Steps.{undeliveredOf, chosen, Received, Commanded, Heard, TookTurn, ReadEntry};
+use layout::Phase;
 use layout::Proposal;
+use layout::Site;
 use refusals::Refusal;
 use refusals::Verdict;
 use sets::Set;
@@ -27,7 +29,8 @@ pub fn receive(site: &mut [u8], set: Set)
     requires { ⌜ length (now site) ≡ siteSize ⌝ }
     ensures { λ _. ⌜ Received set (now (site .entry)) (now (site .exit)) ⌝ }
 {
-    let received = layout::received(&site[..]);
+    let header = Site::read(&site[..]);
+    let received = header.received;
     layout::set_received(site, received.union(set));
 }
 
@@ -44,48 +47,60 @@ pub fn hear(site: &mut [u8], sender: usize, round: usize, set: Set)
     requires { ⌜ (length (now site) ≡ siteSize) × (sender < maxSites) × (1 ≤ round) × (round ≤ siteRounds) ⌝ }
     ensures { λ _. ⌜ Heard sender round set (now (site .entry)) (now (site .exit)) ⌝ }
 {
-    let received = layout::received(&site[..]);
+    let header = Site::read(&site[..]);
+    let received = header.received;
     layout::hear(site, sender, round, set);
     layout::set_received(site, received.union(set));
 }
 
 // What was received and is not delivered.
+fn undelivered_of(header: Site) -> Set
+    ensures { λ r. ⌜ r ≡ undeliveredOf header ⌝ }
+{
+    let received = header.received;
+    let delivered = header.delivered;
+    received.without(delivered)
+}
+
+// The same of lent bytes.
 pub fn undelivered(site: &[u8]) -> Set
     requires { ⌜ length (now site) ≡ siteSize ⌝ }
     ensures { λ r. ⌜ r ≡ undeliveredOf (headOf (now (site .entry))) ⌝ }
 {
-    layout::received(site).without(layout::delivered(site))
+    undelivered_of(Site::read(site))
 }
 
 // What a turn does, by the conflict test of what is undelivered and whether the site has two entries of its round.
-fn choose(site: &[u8], free: bool, third: bool) -> Turn
-    requires { ⌜ length (now site) ≡ siteSize ⌝ }
-    ensures { λ r. ⌜ r ≡ chosen (headOf (now (site .entry))) free third ⌝ }
+fn choose(header: Site, free: bool, third: bool) -> Turn
+    ensures { λ r. ⌜ r ≡ chosen header free third ⌝ }
 {
-    if layout::is_waiting(site) {
-        return Turn::Refused(Refusal::Disabled);
-    }
-    let check = undelivered(site);
-    let pending = layout::pending(site);
-    let new = check.without(pending);
-    if new.is_empty() {
-        return Turn::Refused(Refusal::Disabled);
-    }
-    if free {
-        return Turn::Acknowledged(check);
-    }
-    if third {
-        return Turn::Refused(Refusal::ThirdEntry);
-    }
-    if layout::round(site) > LAST_ROUND {
-        return Turn::Refused(Refusal::LastRound);
-    }
-    Turn::Proposed {
-        check,
-        entry: Proposal {
-            nc: pending,
-            c: new,
-        },
+    let phase = header.phase;
+    match phase {
+        Phase::Waiting(_) => Turn::Refused(Refusal::Disabled),
+        Phase::Acknowledging => {
+            let check = undelivered_of(header);
+            let pending = header.pending;
+            let new = check.without(pending);
+            if new.is_empty() {
+                return Turn::Refused(Refusal::Disabled);
+            }
+            if free {
+                return Turn::Acknowledged(check);
+            }
+            if third {
+                return Turn::Refused(Refusal::ThirdEntry);
+            }
+            if header.round > LAST_ROUND {
+                return Turn::Refused(Refusal::LastRound);
+            }
+            Turn::Proposed {
+                check,
+                entry: Proposal {
+                    nc: pending,
+                    c: new,
+                },
+            }
+        }
     }
 }
 
@@ -94,21 +109,22 @@ pub fn take_turn(site: &mut [u8], free: bool, third: bool) -> Turn
     requires { ⌜ length (now site) ≡ siteSize ⌝ }
     ensures { λ r. ⌜ TookTurn free third (now (site .entry)) r (now (site .exit)) ⌝ }
 {
-    let answer = choose(&site[..], free, third);
+    let header = Site::read(&site[..]);
+    let answer = choose(header, free, third);
     match answer {
         Turn::Acknowledged(raised) => {
             layout::set_pending(site, raised);
             answer
         }
         Turn::Proposed { check: _, entry } => {
-            layout::wait_with(site, entry.nc, entry.c);
+            layout::set_phase(site, Phase::Waiting(entry));
             answer
         }
         Turn::Refused(_) => answer,
     }
 }
 
-// The next entry of the log is read: whether one is left, and whether it is a third of its site and round, is told.
+// The next entry of the log is read, in either phase: whether one is left, and whether it is a third of its site and round, is told.
 pub fn read_entry(site: &mut [u8], left: bool, third: bool) -> Verdict
     requires { ⌜ (length (now site) ≡ siteSize) × (left ≡ true → headOf (now site) .position < 65535) ⌝ }
     ensures { λ r. ⌜ ReadEntry left third (now (site .entry)) r (now (site .exit)) ⌝ }
@@ -119,7 +135,7 @@ pub fn read_entry(site: &mut [u8], left: bool, third: bool) -> Verdict
     if third {
         return Verdict::Refused(Refusal::ThirdEntry);
     }
-    let position = layout::position(&site[..]);
-    layout::set_position(site, position + 1);
+    let header = Site::read(&site[..]);
+    layout::set_position(site, header.position + 1);
     Verdict::Taken
 }

@@ -5,17 +5,14 @@ use Rattle.site.proofs.Turning.{choose-waiting, choose-nothing, choose-
 use Rattle.site.proofs.choose.Statement.{statement}
 use Rattle.site.proofs.choose.Tie as tie
 
-is-waiting-requires : tie.Need-is-waiting-requires
-is-waiting-requires c κs = search needs
+enum-told : tie.Need-enum-told
+enum-told c = search needs
 
-returns : tie.Need-returns
-returns c = choose-waiting _ _ _ (c .before .is-waiting .ensures) (c .if1 .taken)
+enum-told-2 : tie.Need-enum-told-2
+enum-told-2 c = search needs
 
-undelivered-requires : tie.Need-undelivered-requires
-undelivered-requires c κs = search needs
-
-pending-requires : tie.Need-pending-requires
-pending-requires c κs = search needs
+undelivered-of-requires : tie.Need-undelivered-of-requires
+undelivered-of-requires c κs = search needs
 
 without-requires : tie.Need-without-requires
 without-requires c κs = search needs
@@ -23,47 +20,41 @@ without-requires c κs = search needs
 is-empty-requires : tie.Need-is-empty-requires
 is-empty-requires c κs = search needs
 
+returns : tie.Need-returns
+returns c =
+    choose-nothing (c .before .before .before .before .before .before .before .args .header) _ _ (c .before .before .before .before .before .enum-told2 .given .1) (c .before .before .before .before .undelivered-of .ensures) (c .before .before .without .ensures) (c .before .is-empty .ensures) (c .if1 .taken)
+
 returns-2 : tie.Need-returns-2
 returns-2 c =
-    choose-nothing _ _ _ (c .before .before .before .before .before .before .is-waiting .ensures) (c .before .before .before .before .before .if1 .left) (c .before .before .before .before .undelivered .ensures) (c .before .before .before .pending .ensures)
-    (c .before .before .without .ensures) (c .before .is-empty .ensures) (c .if2 .taken)
+    choose-free (c .before .before .before .before .before .before .before .before .args .header) _ _ (c .before .before .before .before .before .before .enum-told2 .given .1) (c .before .before .before .before .before .undelivered-of .ensures) (c .before .before .before .without .ensures) (c .before .before .is-empty .ensures) (c .before .if1 .left) (c .if2 .taken)
 
 returns-3 : tie.Need-returns-3
 returns-3 c =
-    choose-free _ _ _ (c .before .before .before .before .before .before .before .is-waiting .ensures) (c .before .before .before .before .before .before .if1 .left) (c .before .before .before .before .before .undelivered .ensures) (c .before .before .before .before .pending .ensures)
-    (c .before .before .before .without .ensures) (c .before .before .is-empty .ensures) (c .before .if2 .left) (c .if3 .taken)
+    choose-third (c .before .before .before .before .before .before .before .before .before .args .header) _ _ (c .before .before .before .before .before .before .before .enum-told2 .given .1) (c .before .before .before .before .before .before .undelivered-of .ensures) (c .before .before .before .before .without .ensures) (c .before .before .before .is-empty .ensures) (c .before .before .if1 .left) (c .before .if2 .left) (c .if3 .taken)
 
 returns-4 : tie.Need-returns-4
 returns-4 c =
-    choose-third _ _ _ (c .before .before .before .before .before .before .before .before .is-waiting .ensures) (c .before .before .before .before .before .before .before .if1 .left) (c .before .before .before .before .before .before .undelivered .ensures) (c .before .before .before .before .before .pending .ensures)
-    (c .before .before .before .before .without .ensures) (c .before .before .before .is-empty .ensures) (c .before .before .if2 .left) (c .before .if3 .left) (c .if4 .taken)
-
-round-requires : tie.Need-round-requires
-round-requires c κs = search needs
+    choose-last (c .before .before .before .before .before .before .before .before .before .before .before .args .header) _ _ (c .before .before .before .before .before .before .before .before .before .enum-told2 .given .1) (c .before .before .before .before .before .before .before .before .undelivered-of .ensures) (c .before .before .before .before .before .before .without .ensures) (c .before .before .before .before .before .is-empty .ensures) (c .before .before .before .before .if1 .left) (c .before .before .before .if2 .left) (c .before .before .if3 .left) (c .if4 .taken)
 
 returns-5 : tie.Need-returns-5
-returns-5 c =
-    choose-last _ _ _ (c .before .before .before .before .before .before .before .before .before .before .is-waiting .ensures) (c .before .before .before .before .before .before .before .before .before .if1 .left) (c .before .before .before .before .before .before .before .before .undelivered .ensures) (c .before .before .before .before .before .before .before .pending .ensures)
-    (c .before .before .before .before .before .before .without .ensures) (c .before .before .before .before .before .is-empty .ensures) (c .before .before .before .before .if2 .left) (c .before .before .before .if3 .left) (c .before .before .if4 .left) (c .before .round .ensures) (c .if5 .taken)
+returns-5 c = choose-waiting (c .before .before .args .header) _ _ _ (c .enum-told .given .1)
 
 returns-6 : tie.Need-returns-6
 returns-6 c =
-    choose-propose _ _ _ (c .before .before .before .before .before .before .before .before .before .before .is-waiting .ensures) (c .before .before .before .before .before .before .before .before .before .if1 .left) (c .before .before .before .before .before .before .before .before .undelivered .ensures) (c .before .before .before .before .before .before .before .pending .ensures)
-    (c .before .before .before .before .before .before .without .ensures) (c .before .before .before .before .before .is-empty .ensures) (c .before .before .before .before .if2 .left) (c .before .before .before .if3 .left) (c .before .before .if4 .left) (c .before .round .ensures) (c .if5 .left)
+    choose-propose (c .before .before .before .before .before .before .before .before .before .before .before .args .header) _ _ (c .before .before .before .before .before .before .before .before .before .enum-told2 .given .1) (c .before .before .before .before .before .before .before .before .undelivered-of .ensures) (c .before .before .before .before .before .before .without .ensures) (c .before .before .before .before .before .is-empty .ensures) (c .before .before .before .before .if1 .left) (c .before .before .before .if2 .left) (c .before .before .if3 .left) (c .if4 .left)
 
 pub choose-spec : {M : Type 1} → statement M
 choose-spec =
     tie.close
     (tie.spec
-    is-waiting-requires
-    returns
-    undelivered-requires
-    pending-requires
+    enum-told
+    enum-told-2
+    undelivered-of-requires
     without-requires
     is-empty-requires
+    returns
     returns-2
     returns-3
     returns-4
-    round-requires
     returns-5
     returns-6)

@@ -1,24 +1,19 @@
--- `site::undelivered`: what was received without what was delivered.
+-- `site::undelivered`: that of the header.
 -- Assumes nothing.
+use mathlib.Core.Path.{ap, _∙_}
 use borrow.Author.Needs.{needs}
-use denote.Ref.{now}
-use Rattle.layout.specs.Layout.{headOf}
-use Rattle.site.proofs.Turning.{undelivered-is}
+use Rattle.site.specs.Steps.{undeliveredOf}
 use Rattle.site.proofs.undelivered.Statement.{statement}
 use Rattle.site.proofs.undelivered.Tie as tie
 
-received-requires : tie.Need-received-requires
-received-requires c κs = search needs
+read-requires : tie.Need-read-requires
+read-requires c κs = search needs
 
-delivered-requires : tie.Need-delivered-requires
-delivered-requires c κs = search needs
-
-without-requires : tie.Need-without-requires
-without-requires c κs = search needs
+undelivered-of-requires : tie.Need-undelivered-of-requires
+undelivered-of-requires c κs = search needs
 
 returns : tie.Need-returns
-returns c = undelivered-is (headOf (now (c .before .before .before .before .args .site))) (c .before .before .received .ensures) (c .before .delivered .ensures) (c .without .ensures)
+returns c = c .undelivered-of .ensures ∙ ap undeliveredOf (c .before .read .ensures)
 
 pub undelivered-spec : {M : Type 1} → statement M
-undelivered-spec =
-    tie.close (tie.spec received-requires delivered-requires without-requires returns)
+undelivered-spec = tie.close (tie.spec read-requires undelivered-of-requires returns)
