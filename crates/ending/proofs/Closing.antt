@@ -43,7 +43,6 @@ use Rattle.deliver.proofs.Order.{order-within}
 use Rattle.deliver.proofs.Ledger.{delivered-append}
 use Rattle.ending.specs.Ending.{dueOf, moreOf, ended, judgedEnd, ToldSets, Told, EndedBy, RoundEnded}
 use Rattle.ending.proofs.Verdicts.{end-taken, same-verdict, verdict-undecided}
-use Rattle.ending.proofs.Next.{head-still}
 
 -- The size of a set is the number of its commands in order.
 pub size-order : (x : Set) {n : ℕ} → n ≡ sizeOf x → n ≡ length (inOrder x)
@@ -53,9 +52,9 @@ pub size-small : (x : Set) {n : ℕ} → n ≡ sizeOf x → n ≤ 64
 size-small x e = let l = count-le capacity (inSet x) in omega arith
 
 -- A round end that the code takes has room for what it delivers.
-pub ready : (h : Site) (commands : ℕ) (s : Sets) {x y : Set} {n : ℕ} {r : Verdict} → r ≡ judgedEnd h commands s → r ≡ Taken
-    → n ≡ h .deliveries → x ≡ dueOf h (s .nc) → y ≡ dueOf h (s .c) → n + length (inOrder x) + length (inOrder y) ≤ commands
-ready h commands s {x} {y} er et en ex ey =
+pub ready : (h : Site) (commands : ℕ) (s : Sets) {x y : Set} {r : Verdict} → r ≡ judgedEnd h commands s → r ≡ Taken
+    → x ≡ dueOf h (s .nc) → y ≡ dueOf h (s .c) → h .deliveries + length (inOrder x) + length (inOrder y) ≤ commands
+ready h commands s {x} {y} er et ex ey =
     let a : length (inOrder x) ≡ sizeOf (dueOf h (s .nc)) = ap (λ (z : Set). length (inOrder z)) ex ∙ sym (size-order (dueOf h (s .nc)) refl) in
     let b : length (inOrder y) ≡ sizeOf (dueOf h (s .c)) = ap (λ (z : Set). length (inOrder z)) ey ∙ sym (size-order (dueOf h (s .c)) refl) in
     let room = end-taken h commands s (sym er ∙ et) in
@@ -204,29 +203,30 @@ module _ (t : SiteTable) (book : List Command) (few : length book ≤ capacity) 
         })
 
   -- What the code of round_end does, in one step: where the round does not end, and where it does.
-  module _ {commands : ℕ} {r : Verdict} (en : length book ≡ commands) (er : r ≡ judgedEnd (headOf b) commands s) where
+  module _ {commands : ℕ} {h : Site} {r : Verdict} (en : length book ≡ commands) (eh : h ≡ headOf b) (er : r ≡ judgedEnd h commands s) where
     verdict-is : r ≡ verdict (protocol.forRoundEnd (dash t book) (view t book b) log)
-    verdict-is = er ∙ (λ i. judgedEnd (headOf b) (sym en i) s) ∙ end-verdict
+    verdict-is = er ∙ (λ i. judgedEnd (eh i) (sym en i) s) ∙ end-verdict
 
     pub round-refused : (z : Refusal) → r ≡ Refused z → EndedBy t book log b r b
     round-refused z ez =
         subst (λ (y : Verdict). EndedBy t book log b y b) (sym ez)
         (refused t book (verdict (protocol.forRoundEnd (dash t book) (view t book b) log)) z (sym verdict-is ∙ ez) good small)
 
-    pub round-taken : {x y : Set} {k₀ k n : ℕ} {b₁ b₂ b₃ : List ℕ} → r ≡ Taken → k₀ ≡ headOf b .deliveries → x ≡ dueOf (headOf b) (s .nc) → y ≡ dueOf (headOf b) (s .c)
-        → k ≡ k₀ + length (inOrder x) → Delivered book k₀ (inOrder x) b b₁
-        → n ≡ k + length (inOrder y) → Delivered book k (inOrder y) b₁ b₂ → b₃ ≡ splice b₂ 0 (headBytes (ended (headOf b₂) s n)) → ((i : ℕ) → getD b₃ i 0 < 256)
+    pub round-taken : {x y : Set} {k n : ℕ} {b₁ b₂ b₃ : List ℕ} → r ≡ Taken → x ≡ dueOf h (s .nc) → y ≡ dueOf h (s .c)
+        → k ≡ h .deliveries + length (inOrder x) → Delivered book (h .deliveries) (inOrder x) b b₁
+        → n ≡ k + length (inOrder y) → Delivered book k (inOrder y) b₁ b₂ → b₃ ≡ splice b₂ 0 (headBytes (ended h s n)) → ((i : ℕ) → getD b₃ i 0 < 256)
         → EndedBy t book log b Taken b₃
-    round-taken {x} {y} {k₀} {k} {n} {b₁} {b₂} {b₃} et e₀ ex ey ek d₁ em d₂ eb small′ =
-        let room = ready (headOf b) commands s er et e₀ ex ey in
+    round-taken {x} {y} {k} {n} {b₁} {b₂} {b₃} et ex ey ek d₁ em d₂ eb small′ =
+        let room = ready h commands s er et ex ey in
         let a = length-append (inOrder x) (inOrder y) in
-        let all : Delivered book k₀ (inOrder x ++ inOrder y) b b₂ =
-        delivered-append book k₀ (inOrder x) (inOrder y) d₁ (subst (λ (j : ℕ). Delivered book j (inOrder y) b₁ b₂) ek d₂) in
-        let list : inOrder x ++ inOrder y ≡ inOrder (dueOf (headOf b) (s .nc)) ++ inOrder (dueOf (headOf b) (s .c)) = λ i. inOrder (ex i) ++ inOrder (ey i) in
-        let total : n ≡ k₀ + length (inOrder x ++ inOrder y) = omega arith in
-        let same : k₀ + length (inOrder x ++ inOrder y) ≡ headOf b .deliveries + length (inOrder (dueOf (headOf b) (s .nc)) ++ inOrder (dueOf (headOf b) (s .c))) =
-        λ i. e₀ i + length (list i) in
+        let all : Delivered book (h .deliveries) (inOrder x ++ inOrder y) b b₂ =
+        delivered-append book (h .deliveries) (inOrder x) (inOrder y) d₁ (subst (λ (j : ℕ). Delivered book j (inOrder y) b₁ b₂) ek d₂) in
+        let list : inOrder x ++ inOrder y ≡ inOrder (dueOf (headOf b) (s .nc)) ++ inOrder (dueOf (headOf b) (s .c)) =
+        (λ i. inOrder (ex i) ++ inOrder (ey i)) ∙ (λ i. inOrder (dueOf (eh i) (s .nc)) ++ inOrder (dueOf (eh i) (s .c))) in
+        let total : n ≡ h .deliveries + length (inOrder x ++ inOrder y) = omega arith in
+        let same : h .deliveries + length (inOrder x ++ inOrder y) ≡ headOf b .deliveries + length (inOrder (dueOf (headOf b) (s .nc)) ++ inOrder (dueOf (headOf b) (s .c))) =
+        λ i. eh i .deliveries + length (list i) in
         taken t book (verdict (protocol.forRoundEnd (dash t book) (view t book b) log)) (sym verdict-is ∙ et)
         (end-holds (omega arith) (total ∙ same)
-        (subst (λ (l : List ℕ). Delivered book (headOf b .deliveries) l b b₂) list (subst (λ (j : ℕ). Delivered book j (inOrder x ++ inOrder y) b b₂) e₀ all))
-        (ap (λ (y : Site). ended y s n) (head-still b good small b₂ (d₂ .header ∙ d₁ .header))) eb small′)
+        (subst (λ (l : List ℕ). Delivered book (headOf b .deliveries) l b b₂) list (subst (λ (z : Site). Delivered book (z .deliveries) (inOrder x ++ inOrder y) b b₂) eh all))
+        (ap (λ (z : Site). ended z s n) eh) eb small′)

@@ -1,6 +1,7 @@
 -- The end of a round: the header after it, the code's verdict, and what the step promises.
 -- Assumes nothing.
 use mathlib.Core.Path.{_≡_}
+use mathlib.Core.Bool.{Bool}
 use mathlib.Core.List.{List}
 use mathlib.Core.Option.{Option, none, some}
 use Prim.Native.Nat.{ℕ, _+_, _≤_}
@@ -8,6 +9,7 @@ use lib.Dec.{leb}
 use lib.ListN.{length}
 use Rattle.refusals.specs.declared.Refusal.the-variants.{Disabled, Full}
 use Rattle.refusals.specs.declared.Verdict.{Verdict}
+use Rattle.refusals.specs.declared.Verdict.the-variants.{Refused}
 use Rattle.sets.specs.declared.Set.{Set}
 use Rattle.sets.specs.Sets.{inSet, emptyOf, unionOf, withoutOf, sizeOf}
 use Rattle.table.specs.declared.SiteTable.{SiteTable}
@@ -19,9 +21,10 @@ use Rattle.system.specs.Dash.{dash, lastRound}
 use Rattle.recovery.specs.declared.Sets.{Sets}
 use Rattle.recovery.specs.declared.Decision.{Decision}
 use Rattle.recovery.specs.declared.Decision.the-variants.{Undecided, Decided}
-use Rattle.layout.specs.declared.Phase.the-variants.{Acknowledging}
+use Rattle.layout.specs.declared.Phase.{Phase}
+use Rattle.layout.specs.declared.Phase.the-variants.{Acknowledging, Waiting}
 use Rattle.layout.specs.declared.Site.{Site}
-use Rattle.layout.specs.Layout.{isWaiting, view}
+use Rattle.layout.specs.Layout.{view}
 use Rattle.layout.specs.Good.{Good}
 use Rattle.layout.specs.Step.{Carried}
 
@@ -48,9 +51,14 @@ ended h x n =
       fast = emptyOf;
     }
 
--- The verdict, where the round is decided.
+-- The verdict in a phase, where the round is decided and the record has room for what is due or not.
+abbrev pub judgedIn : Phase → Bool → Verdict
+judgedIn Acknowledging room = Refused Disabled
+judgedIn (Waiting p) room = verdict (room else Full ⨾ granted)
+
+-- The phase and the room are the header's.
 unfoldable pub judgedEnd : Site → ℕ → Sets → Verdict
-judgedEnd h commands x = verdict (isWaiting (h .phase) else Disabled ⨾ leb (h .deliveries + moreOf h x) commands else Full ⨾ granted)
+judgedEnd h commands x = judgedIn (h .phase) (leb (h .deliveries + moreOf h x) commands)
 
 module _ (t : SiteTable) (book : List Command) where
   -- The sets are those of the protocol's decision of a round; the last round has no entries.

@@ -1,16 +1,10 @@
--- `ending::next_round`: each field of the header is that of the definition.
+-- `ending::next_round`: what stands there after each field is written is that of the definition.
 -- Rests on Next.
 use borrow.Author.Needs.{needs}
 use denote.Ref.{now}
 use Rattle.ending.proofs.Next.{next-is}
 use Rattle.ending.proofs.next_round.Statement.{statement}
 use Rattle.ending.proofs.next_round.Tie as tie
-
-round-requires : tie.Need-round-requires
-round-requires c κs = search needs
-
-delivered-requires : tie.Need-delivered-requires
-delivered-requires c κs = search needs
 
 add-set-round : tie.Need-add-set-round
 add-set-round c = search needs
@@ -36,25 +30,24 @@ set-pending-requires c κs = search needs
 set-fast-requires : tie.Need-set-fast-requires
 set-fast-requires c κs = search needs
 
-acknowledge-requires : tie.Need-acknowledge-requires
-acknowledge-requires c κs = search needs
+set-phase-requires : tie.Need-set-phase-requires
+set-phase-requires c κs = search needs
 
 same-length : tie.Need-same-length
 same-length c = search needs
 
 returns : tie.Need-returns
 returns c =
-    let s = c .before .before .before .before .before .before .before .before .before .before .before .before .before .before .before .before .before .before .before .before .before .before .before .before .before .before .before .before .before .before .before in
-    next-is (now (s .args .site)) (s .args .sets) (s .args .deliveries) (s .pre .2) (c .before .before .before .before .before .before .before .before .before .before .before .before .before .before .before .before .before .before .before .before .before .before .before .before .before .before .before .before .round .ensures) (c .before .before .before .before .before .before .before .before .before .before .before .before .before .before .before .before .before .before .before .before .before .before .before .before .before .before .delivered .ensures)
-    (c .before .before .before .before .before .before .before .before .before .before .before .before .before .before .before .before .before .before .before .before .before .before .before .before .set-round .ensures) (c .before .before .before .before .before .before .before .before .before .before .before .before .before .before .before .before .before .before .before .before .set-count .ensures) (c .before .before .before .before .before .before .before .before .before .before .before .before .before .before .before .before .union .ensures) (c .before .before .before .before .before .before .before .before .before .before .before .before .before .before .before .union2 .ensures) (c .before .before .before .before .before .before .before .before .before .before .before .before .before .before .set-delivered .ensures)
-    (c .before .before .before .before .before .before .before .before .before .before .set-pending .ensures) (c .before .before .before .before .before .before .set-fast .ensures) (c .before .before .acknowledge .ensures)
+    let s = c .before .before .before .before .before .before .before .before .before .before .before .before .before .before .before .before .before .before .before .before .before .before .before .before .before .before .before .before .before in
+    let a = s .args in
+    next-is (now (a .site)) (a .header) (a .sets) (a .deliveries) (s .pre .2) (c .before .before .before .before .before .before .before .before .before .before .before .before .before .before .before .before .before .before .before .before .before .before .before .before .set-round .ensures) (c .before .before .before .before .before .before .before .before .before .before .before .before .before .before .before .before .before .before .before .before .set-count .ensures)
+    (c .before .before .before .before .before .before .before .before .before .before .before .before .before .before .before .before .union .ensures) (c .before .before .before .before .before .before .before .before .before .before .before .before .before .before .before .union2 .ensures) (c .before .before .before .before .before .before .before .before .before .before .before .before .before .before .set-delivered .ensures)
+    (c .before .before .before .before .before .before .before .before .before .before .set-pending .ensures) (c .before .before .before .before .before .before .set-fast .ensures) (c .before .before .set-phase .ensures)
 
 pub next-round-spec : {M : Type 1} → statement M
 next-round-spec =
     tie.close
     (tie.spec
-    round-requires
-    delivered-requires
     add-set-round
     set-round-requires
     set-count-requires
@@ -63,6 +56,6 @@ next-round-spec =
     set-delivered-requires
     set-pending-requires
     set-fast-requires
-    acknowledge-requires
+    set-phase-requires
     same-length
     returns)
