@@ -23,6 +23,7 @@ use Rattle.register.specs.declared.Command.{Command}
 use Rattle.protocol.specs.System.{granted, _else_⨾_, verdict}
 use Rattle.protocol.specs.Site as protocol
 use Rattle.system.specs.Dash.{dash}
+use Rattle.layout.specs.declared.Site.{Site}
 use Rattle.layout.specs.Layout.{countPlace, spanPlace, inTable, cell, headOf, heardIn, heardOf, deliveriesOf, view}
 use Rattle.layout.specs.Good.{Good}
 use Rattle.layout.proofs.Senders.{in-table, table-bounds}
@@ -148,18 +149,19 @@ module _ (t : SiteTable) (book : List Command) (b : List ℕ) (m : ℕ) where
       let l = leb-true (length (deliveriesOf (readLe 2 b countPlace) b) + 1) (length book) (has-room pending fast enough room (same-verdict ∙ h)) in
       omega arith
 
-  -- What the code reads and tests, in its order.
-  module _ {p f o : Set} {x : Bool} (ep : p ≡ headOf b .pending) (ef : f ≡ headOf b .fast) (eo : o ≡ withoutOf p f) (ex : x ≡ inSet o m) where
+  -- What the code tests of the header that it read, in its order.
+  module _ {h : Site} (eh : h ≡ headOf b) {o : Set} {x : Bool} (eo : o ≡ withoutOf (h .pending) (h .fast)) (ex : x ≡ inSet o m) where
     is-open : {v : Bool} → x ≡ v → (pending && not fast) ≡ v
     unfolding pending fast
     is-open hx =
         sym (in-without (headOf b .pending) (headOf b .fast) m)
-        ∙ sym (ex ∙ ap (λ (s : Set). inSet s m) (eo ∙ (λ i. withoutOf (ep i) (ef i)))) ∙ hx
+        ∙ sym (ex ∙ ap (λ (s : Set). inSet s m) (eo ∙ (λ i. withoutOf (eh i .pending) (eh i .fast)))) ∙ hx
 
     pub not-open : x ≡ false → Refused Disabled ≡ verdict (protocol.forFastDelivery (dash t book) m (view t book b))
     not-open hx = closed pending fast enough room (is-open hx) ∙ same-verdict
 
-    module _ (hx : x ≡ true) {r k : ℕ} {q : Bool} (er : r ≡ headOf b .round) (ek : k ≡ nAckOf t) (eq : q ≡ leb k (count (t .sites) (λ j. heardOf b j r m))) where
+    module _ (hx : x ≡ true) {k : ℕ} {q : Bool} (ek : k ≡ nAckOf t) (eq : q ≡ leb k (count maxSites (λ j. heardOf b j (h .round) m)))
+        (silent : count maxSites (λ j. heardOf b j (h .round) m) ≡ count (t .sites) (λ j. heardOf b j (h .round) m)) where
       is-pending : true ≡ pending
       is-pending = sym (left pending (not fast) (is-open hx))
 
@@ -168,20 +170,20 @@ module _ (t : SiteTable) (book : List Command) (b : List ℕ) (m : ℕ) where
 
       is-enough : {v : Bool} → q ≡ v → v ≡ enough
       unfolding enough
-      is-enough e = sym e ∙ eq ∙ (λ i. leb (ek i) (count (t .sites) (λ j. heardOf b j (er i) m)))
+      is-enough e = sym e ∙ eq ∙ ap (leb k) silent ∙ (λ i. leb (ek i) (count (t .sites) (λ j. heardOf b j (eh i .round) m)))
 
       pub too-few : q ≡ false → Refused Disabled ≡ verdict (protocol.forFastDelivery (dash t book) m (view t book b))
       too-few e = (λ i. fastVerdict (is-pending i) (is-fast i) (is-enough e i) room) ∙ same-verdict
 
-      module _ (l : q ≡ true) {c : ℕ} (ec : c ≡ headOf b .deliveries) where
-        is-room : {v : Bool} → leb (c + 1) (length book) ≡ v → v ≡ room
+      module _ (l : q ≡ true) where
+        is-room : {v : Bool} → leb (h .deliveries + 1) (length book) ≡ v → v ≡ room
         unfolding room
-        is-room e = sym e ∙ (λ i. leb ((ec ∙ sym recorded) i + 1) (length book))
+        is-room e = sym e ∙ (λ i. leb ((ap (λ (z : Site). z .deliveries) eh ∙ sym recorded) i + 1) (length book))
 
-        pub no-room : length book ≤ c → Refused Full ≡ verdict (protocol.forFastDelivery (dash t book) m (view t book b))
+        pub no-room : length book ≤ h .deliveries → Refused Full ≡ verdict (protocol.forFastDelivery (dash t book) m (view t book b))
         no-room o =
-            (λ i. fastVerdict (is-pending i) (is-fast i) (is-enough l i) (is-room (lt-leb (c + 1) (length book) (omega arith)) i)) ∙ same-verdict
+            (λ i. fastVerdict (is-pending i) (is-fast i) (is-enough l i) (is-room (lt-leb (h .deliveries + 1) (length book) (omega arith)) i)) ∙ same-verdict
 
-        pub all-met : c < length book → Taken ≡ verdict (protocol.forFastDelivery (dash t book) m (view t book b))
+        pub all-met : h .deliveries < length book → Taken ≡ verdict (protocol.forFastDelivery (dash t book) m (view t book b))
         all-met o =
-            (λ i. fastVerdict (is-pending i) (is-fast i) (is-enough l i) (is-room (le-leb (c + 1) (length book) (omega arith)) i)) ∙ same-verdict
+            (λ i. fastVerdict (is-pending i) (is-fast i) (is-enough l i) (is-room (le-leb (h .deliveries + 1) (length book) (omega arith)) i)) ∙ same-verdict

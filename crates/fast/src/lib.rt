@@ -13,9 +13,10 @@ ghost use Rattle.commands.specs.Book.{commandsOf, Placed};
 ghost use Rattle.protocol.specs.System.{verdict};
 ghost use Rattle.protocol.specs.Site as protocol;
 ghost use Rattle.system.specs.Dash.{dash};
-ghost use Rattle.layout.specs.Layout.{siteSize, siteRounds, heardOf, view};
+ghost use Rattle.layout.specs.Layout.{siteSize, siteRounds, headOf, heardOf, view};
 ghost use Rattle.layout.specs.Good.{Good};
 ghost use Rattle.fast.specs.Fast.{FastDelivered};
+use layout::Site;
 use refusals::Refusal;
 use refusals::Verdict;
 use table::SiteTable;
@@ -26,13 +27,14 @@ fn one(test: bool) -> usize
     if test { 1 } else { 0 }
 }
 
-// Whether so many senders have acknowledged a command in a round. Of those that there are not nothing was heard.
+// Whether so many senders have acknowledged a command in the site's round. Of those that there are not nothing was heard.
 // They are looked at one by one, and no more than are needed.
-fn has_senders(site: &[u8], round: usize, m: usize, needed: usize) -> bool
-    requires { ⌜ (length (now site) ≡ siteSize) × (1 ≤ round) × (round ≤ siteRounds) × (m < capacity) × (1 ≤ needed) ⌝ }
-    ensures { λ r. ⌜ r ≡ leb needed (count maxSites (λ j. heardOf (now (site .entry)) j round m)) ⌝ }
+fn has_senders(site: &[u8], header: Site, m: usize, needed: usize) -> bool
+    requires { ⌜ (length (now site) ≡ siteSize) × (header ≡ headOf (now site)) × (1 ≤ header .round) × (header .round ≤ siteRounds) × (m < capacity) × (1 ≤ needed) ⌝ }
+    ensures { λ r. ⌜ r ≡ leb needed (count maxSites (λ j. heardOf (now (site .entry)) j (header .round) m)) ⌝ }
 {
-    if round > layout::span(site) as usize {
+    let round = header.round as usize;
+    if round > header.span as usize {
         return false;
     }
     let mut n = 0;
@@ -48,21 +50,21 @@ fn has_senders(site: &[u8], round: usize, m: usize, needed: usize) -> bool
     false
 }
 
-// Whether a command may be delivered fast, and else the refusal.
-fn judge(site: &[u8], table: SiteTable, commands: usize, m: usize) -> Verdict
-    requires { ⌜ Good (table .sites) commands (now site) × (isGood table ≡ true) × (m < capacity) ⌝ }
+// Whether a command may be delivered fast, in either phase, and else the refusal.
+fn judge(site: &[u8], header: Site, table: SiteTable, commands: usize, m: usize) -> Verdict
+    requires { ⌜ Good (table .sites) commands (now site) × (header ≡ headOf (now site)) × (isGood table ≡ true) × (m < capacity) ⌝ }
     ensures { λ r. ⌜ ((book : List Command) → length book ≡ commands → r ≡ verdict (protocol.forFastDelivery (dash table book) m (view table book (now (site .entry))))) ⌝ }
 {
-    let open = layout::pending(site).without(layout::fast(site));
+    let pending = header.pending;
+    let fast = header.fast;
+    let open = pending.without(fast);
     if !open.holds(m) {
         return Verdict::Refused(Refusal::Disabled);
     }
-    let round = layout::round(site) as usize;
-    let needed = table.n_ack();
-    if !has_senders(site, round, m, needed) {
+    if !has_senders(site, header, m, table.n_ack()) {
         return Verdict::Refused(Refusal::Disabled);
     }
-    let recorded = layout::count(site) as usize;
+    let recorded = header.deliveries as usize;
     if recorded >= commands {
         return Verdict::Refused(Refusal::Full);
     }
@@ -82,12 +84,13 @@ pub fn fast_delivery(
         × (length (commandsOf (now book)) ≡ commands) × (m < commands) ⌝ }
     ensures { λ r. ⌜ FastDelivered table (commandsOf (now (book .entry))) m (now (site .entry)) r (now (site .exit)) ⌝ }
 {
-    let judged = judge(&site[..], table, commands, m);
+    let header = Site::read(&site[..]);
+    let judged = judge(&site[..], header, table, commands, m);
     if let Verdict::Refused(_) = judged {
         return judged;
     }
-    let recorded = layout::count(&site[..]);
-    let fast = layout::fast(&site[..]);
+    let recorded = header.deliveries;
+    let fast = header.fast;
     deliver::deliver(site, book, places, recorded as usize, m);
     layout::set_fast(site, fast.with(m));
     layout::set_count(site, recorded + 1);

@@ -8,6 +8,7 @@ use denote.Ref.{now}
 use Rattle.theory.specs.Sets.{count}
 use Rattle.theory.specs.Counting.{count-none}
 use Rattle.table.specs.Table.{maxSites}
+use Rattle.layout.specs.declared.Site.{Site}
 use Rattle.layout.specs.Layout.{heardOf}
 use Rattle.layout.proofs.Encode.{spanned}
 use Rattle.fast.proofs.Judging.{past-rows, sender-more, sender-few, enough-senders, few-senders}
@@ -15,22 +16,23 @@ use Rattle.fast.proofs.has_senders.Statement.{statement}
 use Rattle.fast.proofs.has_senders.Tie as tie
 
 abbrev Inv-loop : tie.InvT-loop
-Inv-loop site round m needed n₀ sender₀ n sender = (sender ≤ maxSites) × (n ≡ count sender (λ j. heardOf site j round m)) × (n < needed)
+Inv-loop site m needed round n₀ sender₀ n sender = (sender ≤ maxSites) × (n ≡ count sender (λ j. heardOf site j round m)) × (n < needed)
 
 abbrev μ-loop : tie.MeasureT-loop
-μ-loop site round m needed n₀ sender₀ n sender = maxSites - sender
+μ-loop site m needed round n₀ sender₀ n sender = maxSites - sender
 
-span-requires : tie.Need-span-requires Inv-loop μ-loop
-span-requires c κs = search needs
+cast-round : tie.Need-cast-round Inv-loop μ-loop
+cast-round c = search needs
 
 cast-if1 : tie.Need-cast-if1 Inv-loop μ-loop
 cast-if1 c = search needs
 
 returns : tie.Need-returns Inv-loop μ-loop
 returns c =
-    let a = c .before .before .before .args in
-    let none = past-rows (now (a .site)) (a .round) (a .m) (c .before .span .ensures) (c .if1 .taken) in
-    few-senders (now (a .site)) (a .round) (a .m) (a .needed) none (search needs)
+    let s = c .before .before .before .before in
+    let a = s .args in
+    let none = past-rows (now (a .site)) (a .header .round) (a .m) (ap (λ (h : Site). h .span) (s .pre .1)) (c .if1 .taken) in
+    few-senders (now (a .site)) (a .header .round) (a .m) (a .needed) none (search needs)
 
 loop-holds : tie.Need-loop-holds Inv-loop μ-loop
 loop-holds c = (search needs, sym (count-none _), search needs)
@@ -50,11 +52,11 @@ add-n c = let l = c .before .before .before .before .loop in let f = sender-few 
 returns-2 : tie.Need-returns-2 Inv-loop μ-loop
 returns-2 c =
     let l = c .before .before .before .before .before .loop in
-    let a = c .before .before .before .before .before .before .before .before .before .args in
-    let e = c .before .before .before .before .before .before .before .span .ensures in
+    let a = c .before .before .before .before .before .before .before .before .before .before .args in
+    let e = ap (λ (h : Site). h .span) (c .before .before .before .before .before .before .before .before .before .before .pre .1) in
     let k = spanned (now (a .site)) in
-    let more = sender-more (now (a .site)) (a .round) (a .m) (l .sender) (omega arith) (omega arith) (omega arith) (l .inv .1) (c .before .before .before .heard .ensures) (c .before .before .holds .ensures) (c .before .one .ensures .0) in
-    enough-senders (now (a .site)) (a .round) (a .m) (l .sender) (a .needed) (omega arith) more (let h = c .if2 .taken in omega arith)
+    let more = sender-more (now (a .site)) (a .header .round) (a .m) (l .sender) (omega arith) (omega arith) (omega arith) (l .inv .1) (c .before .before .before .heard .ensures) (c .before .before .holds .ensures) (c .before .one .ensures .0) in
+    enough-senders (now (a .site)) (a .header .round) (a .m) (l .sender) (a .needed) (omega arith) more (let h = c .if2 .taken in omega arith)
 
 add-sender : tie.Need-add-sender Inv-loop μ-loop
 add-sender c = omega arith
@@ -65,20 +67,20 @@ loop-less c = omega arith
 loop-again : tie.Need-loop-again Inv-loop μ-loop
 loop-again c =
     let l = c .before .before .before .before .before .loop in
-    let a = c .before .before .before .before .before .before .before .before .before .args in
-    let e = c .before .before .before .before .before .before .before .span .ensures in
+    let a = c .before .before .before .before .before .before .before .before .before .before .args in
+    let e = ap (λ (h : Site). h .span) (c .before .before .before .before .before .before .before .before .before .before .pre .1) in
     let k = spanned (now (a .site)) in (
       omega arith,
-      sender-more (now (a .site)) (a .round) (a .m) (l .sender) (omega arith) (omega arith) (omega arith) (l .inv .1) (c .before .before .before .heard .ensures) (c .before .before .holds .ensures) (c .before .one .ensures .0),
+      sender-more (now (a .site)) (a .header .round) (a .m) (l .sender) (omega arith) (omega arith) (omega arith) (l .inv .1) (c .before .before .before .heard .ensures) (c .before .before .holds .ensures) (c .before .one .ensures .0),
       omega arith,
     )
 
 returns-3 : tie.Need-returns-3 Inv-loop μ-loop
 returns-3 c =
     let l = c .before .loop in
-    let a = c .before .before .before .before .before .args in
+    let a = c .before .before .before .before .before .before .args in
     let e : l .sender ≡ maxSites = omega arith in
-    few-senders (now (a .site)) (a .round) (a .m) (a .needed) (l .inv .1 ∙ ap (λ (n : ℕ). count n (λ j. heardOf (now (a .site)) j (a .round) (a .m))) e) (l .inv .2)
+    few-senders (now (a .site)) (a .header .round) (a .m) (a .needed) (l .inv .1 ∙ ap (λ (n : ℕ). count n (λ j. heardOf (now (a .site)) j (a .header .round) (a .m))) e) (l .inv .2)
 
 pub has-senders-spec : {M : Type 1} → statement M
 has-senders-spec =
@@ -86,7 +88,7 @@ has-senders-spec =
     (tie.spec
     Inv-loop
     μ-loop
-    span-requires
+    cast-round
     cast-if1
     returns
     loop-holds
