@@ -68,8 +68,9 @@ pub fn round_end(
     }
     let from = i * Site::SIZE;
     let to = from + Site::SIZE;
-    let position = layout::position(&sites[from..to]) as usize;
-    let round = layout::round(&sites[from..to]) as usize;
+    let header = Site::read(&sites[from..to]);
+    let position = header.position as usize;
+    let round = header.round as usize;
     let decision = rounds::decision(kept, round, position);
     ending::round_end(&mut sites[from..to], book, places, commands, decision)
 }

@@ -24,9 +24,9 @@ fn turn_by(site: &mut [u8], kept: &[u64], rows: &[u64], i: usize) -> Turn
     requires { ⌜ (length (now site) ≡ siteSize) × (length (now kept) ≡ keptWords) × (length (now rows) ≡ capacity) × (i < maxSites) × (headOf (now site) .round < keptRounds) ⌝ }
     ensures { λ r. ⌜ TurnedBy (now (rows .entry)) (now (kept .entry)) i r (now (site .entry)) (now (site .exit)) ⌝ }
 {
+    let header = Site::read(&site[..]);
     let free = calm::is_free(rows, site::undelivered(&site[..]));
-    let round = layout::round(&site[..]) as usize;
-    let third = rounds::third(kept, i, round);
+    let third = rounds::third(kept, i, header.round as usize);
     site::take_turn(site, free, third)
 }
 
@@ -57,7 +57,8 @@ pub fn turn(
     }
     let from = i * Site::SIZE;
     let to = from + Site::SIZE;
-    let round = layout::round(&sites[from..to]) as usize;
+    let header = Site::read(&sites[from..to]);
+    let round = header.round as usize;
     let answer = turn_by(&mut sites[from..to], &kept[..], rows, i);
     match answer {
         Turn::Refused(refusal) => Verdict::Refused(refusal),
@@ -96,6 +97,7 @@ pub fn log_read(sites: &mut [u8], entries: usize, rules: Rules, site: u8) -> Ver
     }
     let from = i * Site::SIZE;
     let to = from + Site::SIZE;
-    let position = layout::position(&sites[from..to]) as usize;
+    let header = Site::read(&sites[from..to]);
+    let position = header.position as usize;
     site::read_entry(&mut sites[from..to], position < entries, false)
 }

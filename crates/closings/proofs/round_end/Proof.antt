@@ -2,10 +2,11 @@
 -- Assumes nothing.
 use borrow.Author.Needs.{needs}
 use denote.Ref.{now}
-use mathlib.Core.Path.{_∙_}
+use mathlib.Core.Path.{ap, _∙_}
 use native.Mathlib.Omega.{arith}
 use Prim.Native.Nat.{_+_, _*_, _-_, _<_}
 use Rattle.commands.specs.Book.{commandsOf}
+use Rattle.layout.specs.declared.Site.{Site}
 use Rattle.layout.specs.Layout.{siteSize}
 use Rattle.ending.specs.Ending.{RoundEnded}
 use Rattle.rounds.specs.Rounds.{keptEntries}
@@ -34,41 +35,29 @@ mul-from c = search needs
 add-to : tie.Need-add-to
 add-to c = search needs
 
-sub-position : tie.Need-sub-position
-sub-position c = search needs
+sub-read : tie.Need-sub-read
+sub-read c = search needs
 
-part-position-start : tie.Need-part-position-start
-part-position-start c = search needs
+part-read-start : tie.Need-part-read-start
+part-read-start c = search needs
 
-part-position-end : tie.Need-part-position-end
-part-position-end c = search needs
+part-read-end : tie.Need-part-read-end
+part-read-end c = search needs
 
-position-requires : tie.Need-position-requires
-position-requires c κs = search needs
+read-requires : tie.Need-read-requires
+read-requires c κs = search needs
 
 cast-position : tie.Need-cast-position
 cast-position c = search needs
-
-sub-round : tie.Need-sub-round
-sub-round c = search needs
-
-part-round-start : tie.Need-part-round-start
-part-round-start c = search needs
-
-part-round-end : tie.Need-part-round-end
-part-round-end c = search needs
-
-round-requires : tie.Need-round-requires
-round-requires c κs = search needs
 
 cast-round : tie.Need-cast-round
 cast-round c = search needs
 
 decision-requires : tie.Need-decision-requires
 decision-requires c κs =
-    let o = c .before .before .before .before .before .before .before .before .before .before .before .before .before .before .before in
+    let o = c .before .before .before .before .before .before .before .before .before .before .before .before .before .before in
     let a = o .args in
-    (o .pre .1 .1 .words .size, round-kept (a .rules .table) (a .rules .commands) (now (a .sites)) (a .site) (o .pre .0) (omega arith) (c .round .ensures ∙ (λ z. head-at (now (a .sites)) (a .site) ((a .site * siteSize + siteSize) - a .site * siteSize) (omega arith) z .round)))
+    (o .pre .1 .1 .words .size, round-kept (a .rules .table) (a .rules .commands) (now (a .sites)) (a .site) (o .pre .0) (omega arith) (ap (λ (h : Site). h .round) (c .before .before .read .ensures ∙ head-at (now (a .sites)) (a .site) ((a .site * siteSize + siteSize) - a .site * siteSize) (omega arith))))
 
 sub-round-end : tie.Need-sub-round-end
 sub-round-end c = search needs
@@ -77,19 +66,19 @@ part-round-end-start : tie.Need-part-round-end-start
 part-round-end-start c = search needs
 
 part-round-end-end : tie.Need-part-round-end-end
-part-round-end-end c = search needs
+part-round-end-end c = omega (arith, c .before .before .before .before .before .before .before .before .if1 .left, c .before .before .before .before .before .before .before .before .before .before .before .before .before .before .before .pre .0 .size)
 
 round-end-requires : tie.Need-round-end-requires
 round-end-requires c κs =
-    let o = c .before .before .before .before .before .before .before .before .before .before .before .before .before .before .before .before .before in
+    let o = c .before .before .before .before .before .before .before .before .before .before .before .before .before .before .before .before in
     let a = o .args in
-    let i : a .site < a .rules .table .sites = omega (arith, c .before .before .before .before .before .before .before .before .before .before .if1 .left) in
+    let i : a .site < a .rules .table .sites = omega (arith, c .before .before .before .before .before .before .before .before .before .if1 .left) in
     let k = (a .site * siteSize + siteSize) - a .site * siteSize in
-    let h = head-at (now (a .sites)) (a .site) k (omega arith) in (
+    let h = c .before .before .before .before .read .ensures ∙ head-at (now (a .sites)) (a .site) k (omega arith) in (
       (a .rules .table .sites, good-part (a .rules .table) (a .rules .commands) (now (a .sites)) (a .site) k (o .pre .0) i (omega arith)),
       o .pre .3,
       o .pre .4,
-      sets-fit (a .rules .table) (o .pre .2) (now (a .book)) (now (a .sites)) (o .pre .1 .0) (o .pre .1 .1) (a .site) i (c .before .before .before .before .before .position .ensures ∙ (λ z. h z .position)) (c .before .before .round .ensures ∙ (λ z. h z .round)) (c .before .decision .ensures) (a .rules .commands) (o .pre .4),
+      sets-fit (a .rules .table) (o .pre .2) (now (a .book)) (now (a .sites)) (o .pre .1 .0) (o .pre .1 .1) (a .site) i (λ z. h z .position) (λ z. h z .round) (c .before .decision .ensures) (a .rules .commands) (o .pre .4),
     )
 
 same-length : tie.Need-same-length
@@ -97,16 +86,16 @@ same-length c = search needs
 
 returns-3 : tie.Need-returns-3
 returns-3 c =
-    let o = c .before .before .before .before .before .before .before .before .before .before .before .before .before .before .before .before .before .before .before .before in
+    let o = c .before .before .before .before .before .before .before .before .before .before .before .before .before .before .before .before .before .before .before in
     let a = o .args in
-    let i : a .site < a .rules .table .sites = omega (arith, c .before .before .before .before .before .before .before .before .before .before .before .before .before .if1 .left) in
+    let i : a .site < a .rules .table .sites = omega (arith, c .before .before .before .before .before .before .before .before .before .before .before .before .if1 .left) in
     let k = (a .site * siteSize + siteSize) - a .site * siteSize in
-    let h = head-at (now (a .sites)) (a .site) k (omega arith) in
+    let h = c .before .before .before .before .before .before .before .read .ensures ∙ head-at (now (a .sites)) (a .site) k (omega arith) in
     let d = c .before .before .before .before .decision in
     let r = c .before .before .round-end in
     λ log g.
-    end-carried (a .rules .table) (commandsOf (now (a .book))) (now (a .sites)) (λ n. c .before .before .before .before .before .before .before .before .before .before .before .before .before .before .before .before .before .before .before .slice-known .given n .fits) (a .site) log (keptEntries (now (a .kept))) i (c .before .before .before .before .before .before .before .before .before .before .before .before .is-faulty .ensures) (c .before .before .before .before .before .before .before .before .before .before .before .if2 .left) (d .result)
-    (site-told (a .rules .table) (o .pre .2) (now (a .book)) (now (a .sites)) log g (a .site) i (c .before .before .before .before .before .before .before .before .position .ensures ∙ (λ z. h z .position)) (c .before .before .before .before .before .round .ensures ∙ (λ z. h z .round)) (d .ensures))
+    end-carried (a .rules .table) (commandsOf (now (a .book))) (now (a .sites)) (λ n. c .before .before .before .before .before .before .before .before .before .before .before .before .before .before .before .before .before .before .slice-known .given n .fits) (a .site) log (keptEntries (now (a .kept))) i (c .before .before .before .before .before .before .before .before .before .before .before .is-faulty .ensures) (c .before .before .before .before .before .before .before .before .before .before .if2 .left) (d .result)
+    (site-told (a .rules .table) (o .pre .2) (now (a .book)) (now (a .sites)) log g (a .site) i (λ z. h z .position) (λ z. h z .round) (d .ensures))
     (at-site (λ b after. RoundEnded (commandsOf (now (a .book))) (d .result) b (r .result) after) (now (a .sites)) (a .site) k _ (omega arith)
     (sites-room (a .rules .table) (a .rules .commands) (now (a .sites)) (a .site) (o .pre .0) i) (r .kept .0) (r .ensures))
 
@@ -119,15 +108,11 @@ round-end-spec =
     returns-2
     mul-from
     add-to
-    sub-position
-    part-position-start
-    part-position-end
-    position-requires
+    sub-read
+    part-read-start
+    part-read-end
+    read-requires
     cast-position
-    sub-round
-    part-round-start
-    part-round-end
-    round-requires
     cast-round
     decision-requires
     sub-round-end

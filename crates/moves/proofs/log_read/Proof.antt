@@ -3,10 +3,11 @@
 use borrow.Author.Needs.{needs}
 use native.Mathlib.Omega.{arith}
 use denote.Ref.{now}
-use mathlib.Core.Path.{_∙_}
+use mathlib.Core.Path.{ap, _∙_}
 use Prim.Native.Nat.{_+_, _*_, _-_}
 use lib.Dec.{ltb}
 use mathlib.Core.Bool.{false}
+use Rattle.layout.specs.declared.Site.{Site}
 use Rattle.layout.specs.Layout.{siteSize}
 use Rattle.site.specs.Steps.{ReadEntry}
 use Rattle.world.proofs.Sites.{at-site, head-at}
@@ -33,17 +34,17 @@ mul-from c = search needs
 add-to : tie.Need-add-to
 add-to c = search needs
 
-sub-position : tie.Need-sub-position
-sub-position c = search needs
+sub-read : tie.Need-sub-read
+sub-read c = search needs
 
-part-position-start : tie.Need-part-position-start
-part-position-start c = search needs
+part-read-start : tie.Need-part-read-start
+part-read-start c = search needs
 
-part-position-end : tie.Need-part-position-end
-part-position-end c = search needs
+part-read-end : tie.Need-part-read-end
+part-read-end c = search needs
 
-position-requires : tie.Need-position-requires
-position-requires c κs = search needs
+read-requires : tie.Need-read-requires
+read-requires c κs = search needs
 
 cast-position : tie.Need-cast-position
 cast-position c = search needs
@@ -59,19 +60,19 @@ part-read-entry-end c = search needs
 
 read-entry-requires : tie.Need-read-entry-requires
 read-entry-requires c κs =
-    let o = c .before .before .before .before .before .before .before .before .before .before in
-    (search needs, λ h. position-room (o .args .entries) (o .pre .1) (c .before .position .ensures) h)
+    let o = c .before .before .before .before .before .before .before .before .before .before .before in
+    (search needs, λ h. position-room (o .args .entries) (o .pre .1) (ap (λ (x : Site). x .position) (c .before .before .read .ensures)) h)
 
 same-length : tie.Need-same-length
 same-length c = search needs
 
 returns-3 : tie.Need-returns-3
 returns-3 c =
-    let o = c .before .before .before .before .before .before .before .before .before .before .before .before .before in
+    let o = c .before .before .before .before .before .before .before .before .before .before .before .before .before .before in
     let a = o .args in
-    read-carried (a .rules .table) (a .site) (a .entries) (now (a .sites)) (λ k. c .before .before .before .before .before .before .before .before .before .before .before .before .slice-known .given k .fits) (omega arith) (c .before .before .before .before .before .before .before .before .is-faulty .ensures) (c .before .before .before .before .before .before .before .if2 .left)
-    (c .before .before .before .before .position .ensures ∙ (λ z. head-at (now (a .sites)) (a .site) ((a .site * siteSize + siteSize) - a .site * siteSize) (omega arith) z .position))
-    (at-site (λ b new. ReadEntry (ltb (c .before .before .before .before .position .result) (a .entries)) false b (c .before .before .read-entry .result) new) (now (a .sites)) (a .site) ((a .site * siteSize + siteSize) - a .site * siteSize) _ (omega arith) (omega arith)
+    read-carried (a .rules .table) (a .site) (a .entries) (now (a .sites)) (λ k. c .before .before .before .before .before .before .before .before .before .before .before .before .before .slice-known .given k .fits) (omega arith) (c .before .before .before .before .before .before .before .before .before .is-faulty .ensures) (c .before .before .before .before .before .before .before .before .if2 .left)
+    (ap (λ (h : Site). h .position) (c .before .before .before .before .before .read .ensures ∙ head-at (now (a .sites)) (a .site) ((a .site * siteSize + siteSize) - a .site * siteSize) (omega arith)))
+    (at-site (λ b new. ReadEntry (ltb (c .before .before .before .before .before .read .result .position) (a .entries)) false b (c .before .before .read-entry .result) new) (now (a .sites)) (a .site) ((a .site * siteSize + siteSize) - a .site * siteSize) _ (omega arith) (omega arith)
     (c .before .before .read-entry .kept .0) (c .before .before .read-entry .ensures))
 
 pub log-read-spec : {M : Type 1} → statement M
@@ -83,10 +84,10 @@ log-read-spec =
     returns-2
     mul-from
     add-to
-    sub-position
-    part-position-start
-    part-position-end
-    position-requires
+    sub-read
+    part-read-start
+    part-read-end
+    read-requires
     cast-position
     sub-read-entry
     part-read-entry-start

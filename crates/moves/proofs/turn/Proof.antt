@@ -6,6 +6,7 @@ use denote.Ref.{now}
 use mathlib.Core.Path.{refl, ap, _∙_}
 use Prim.Native.Nat.{_+_, _*_, _-_, _<_}
 use lib.ListN.{length}
+use Rattle.layout.specs.declared.Site.{Site}
 use Rattle.layout.specs.Layout.{siteSize}
 use Rattle.rounds.specs.Rounds.{keptEntries}
 use Rattle.world.specs.Parts.{lent}
@@ -39,17 +40,17 @@ mul-from c = search needs
 add-to : tie.Need-add-to
 add-to c = let z = c .before .before .before .before .before .before .before .before .before .before .pre .0 .1 .world .size in search needs
 
-sub-round : tie.Need-sub-round
-sub-round c = search needs
+sub-read : tie.Need-sub-read
+sub-read c = search needs
 
-part-round-start : tie.Need-part-round-start
-part-round-start c = omega (arith, c .before .before .before .before .before .before .before .before .before .before .before .pre .0 .1 .world .size)
+part-read-start : tie.Need-part-read-start
+part-read-start c = omega (arith, c .before .before .before .before .before .before .before .before .before .before .before .pre .0 .1 .world .size)
 
-part-round-end : tie.Need-part-round-end
-part-round-end c = omega (arith, c .before .before .before .before .before .before .before .before .before .before .before .pre .0 .1 .world .size)
+part-read-end : tie.Need-part-read-end
+part-read-end c = omega (arith, c .before .before .before .before .before .before .before .before .before .before .before .pre .0 .1 .world .size)
 
-round-requires : tie.Need-round-requires
-round-requires c κs =
+read-requires : tie.Need-read-requires
+read-requires c κs =
     let o = c .before .before .before .before .before .before .before .before .before .before .before .before in
     let a = o .args in
     length-part (now (a .sites)) (a .site) ((a .site * siteSize + siteSize) - a .site * siteSize) (omega arith) (omega (arith, o .pre .0 .1 .world .size))
@@ -64,21 +65,21 @@ part-turn-by-start : tie.Need-part-turn-by-start
 part-turn-by-start c = search needs
 
 part-turn-by-end : tie.Need-part-turn-by-end
-part-turn-by-end c = search needs
+part-turn-by-end c = omega (arith, c .before .before .before .before .before .before .if1 .left, c .before .before .before .before .before .before .before .before .before .before .before .before .before .before .pre .0 .1 .world .size)
 
 turn-by-requires : tie.Need-turn-by-requires
 turn-by-requires c κs =
-    let o = c .before .before .before .before .before .before .before .before .before .before .before .before .before .before .before in
+    let o = c .before .before .before .before .before .before .before .before .before .before .before .before .before .before .before .before in
     let a = o .args in
     let b = lent (now (a .sites)) (now (a .log)) (keptEntries (now (a .kept))) (now (a .sent)) in
-    let i : a .site < a .rules .table .sites = omega (arith, c .before .before .before .before .before .before .before .if1 .left) in
-    let e = c .before .before .round .ensures ∙ (λ z. head-at (now (a .sites)) (a .site) ((a .site * siteSize + siteSize) - a .site * siteSize) (omega arith) z .round) in
-    let p = round-told (a .rules .table) (o .pre .0 .0) (now (a .rows)) b (a .site) (o .pre .0 .1) (λ k. c .before .before .before .before .before .before .before .before .before .before .before .before .before .before .slice-known .given k .fits) i e in (
+    let i : a .site < a .rules .table .sites = omega (arith, c .before .before .before .before .before .before .before .before .if1 .left) in
+    let e = ap (λ (h : Site). h .round) (c .before .before .before .read .ensures ∙ head-at (now (a .sites)) (a .site) ((a .site * siteSize + siteSize) - a .site * siteSize) (omega arith)) in
+    let p = round-told (a .rules .table) (o .pre .0 .0) (now (a .rows)) b (a .site) (o .pre .0 .1) (λ k. c .before .before .before .before .before .before .before .before .before .before .before .before .before .before .before .slice-known .given k .fits) i e in (
       length-part (now (a .sites)) (a .site) ((a .site * siteSize + siteSize) - a .site * siteSize) (omega arith) (omega (arith, o .pre .0 .1 .world .size)),
       o .pre .1 .size,
       ap length (o .pre .0 .1 .conflicts) ∙ rows-size (o .pre .0 .0),
       p .2,
-      omega (arith, p .1, c .before .before .round .ensures),
+      omega (arith, p .1, ap (λ (h : Site). h .round) (c .before .before .before .read .ensures)),
     )
 
 enum-known-answer : tie.Need-enum-known-answer
@@ -89,19 +90,19 @@ enum-known-answer-2 c = search needs
 
 add-acknowledgment-requires : tie.Need-add-acknowledgment-requires
 add-acknowledgment-requires c κs =
-    let o = c .before .before .before .before .before .before .before .before .before .before .before .before .before .before .before .before .before .before .before .before .before .before in
+    let o = c .before .before .before .before .before .before .before .before .before .before .before .before .before .before .before .before .before .before .before .before .before .before .before in
     let a = o .args in
     let b = lent (now (a .sites)) (now (a .log)) (keptEntries (now (a .kept))) (now (a .sent)) in
-    let i : a .site < a .rules .table .sites = omega (arith, c .before .before .before .before .before .before .before .before .before .before .before .before .before .before .if1 .left) in
-    let e = c .before .before .before .before .before .before .before .before .before .round .ensures ∙ (λ z. head-at (now (a .sites)) (a .site) ((a .site * siteSize + siteSize) - a .site * siteSize) (omega arith) z .round) in
-    let p = round-told (a .rules .table) (o .pre .0 .0) (now (a .rows)) b (a .site) (o .pre .0 .1) (λ k. c .before .before .before .before .before .before .before .before .before .before .before .before .before .before .before .before .before .before .before .before .before .slice-known .given k .fits) i e in
+    let i : a .site < a .rules .table .sites = omega (arith, c .before .before .before .before .before .before .before .before .before .before .before .before .before .before .before .if1 .left) in
+    let e = ap (λ (h : Site). h .round) (c .before .before .before .before .before .before .before .before .before .before .read .ensures ∙ head-at (now (a .sites)) (a .site) ((a .site * siteSize + siteSize) - a .site * siteSize) (omega arith)) in
+    let p = round-told (a .rules .table) (o .pre .0 .0) (now (a .rows)) b (a .site) (o .pre .0 .1) (λ k. c .before .before .before .before .before .before .before .before .before .before .before .before .before .before .before .before .before .before .before .before .before .before .slice-known .given k .fits) i e in
     let h = at-site (TurnedBy (now (a .rows)) (now (a .kept)) (a .site) (c .before .before .before .before .before .before .turn-by .result)) (now (a .sites)) (a .site) ((a .site * siteSize + siteSize) - a .site * siteSize) _ (omega arith)
     (omega (arith, i, o .pre .0 .1 .world .size)) (c .before .before .before .before .before .before .turn-by .kept .0) (c .before .before .before .before .before .before .turn-by .ensures) in (
       o .pre .0 .1 .world .sent,
       p .2,
       p .0,
       p .1,
-      room-told (a .rules .table) (o .pre .0 .0) (now (a .rows)) b (a .site) (o .pre .0 .1) (λ k. c .before .before .before .before .before .before .before .before .before .before .before .before .before .before .before .before .before .before .before .before .before .slice-known .given k .fits) i (c .before .before .before .before .before .before .before .before .before .before .before .before .before .is-faulty .ensures) (c .before .before .before .before .before .before .before .before .before .before .before .before .if2 .left) refl (o .pre .1) h _ (c .before .before .answer2 .given .1) _ e,
+      room-told (a .rules .table) (o .pre .0 .0) (now (a .rows)) b (a .site) (o .pre .0 .1) (λ k. c .before .before .before .before .before .before .before .before .before .before .before .before .before .before .before .before .before .before .before .before .before .before .slice-known .given k .fits) i (c .before .before .before .before .before .before .before .before .before .before .before .before .before .before .is-faulty .ensures) (c .before .before .before .before .before .before .before .before .before .before .before .before .before .if2 .left) refl (o .pre .1) h _ (c .before .before .answer2 .given .1) _ e,
     )
 
 enum-known-answer-3 : tie.Need-enum-known-answer-3
@@ -109,22 +110,22 @@ enum-known-answer-3 c = search needs
 
 put-check-requires : tie.Need-put-check-requires
 put-check-requires c κs =
-    let o = c .before .before .before .before .before .before .before .before .before .before .before .before .before .before .before .before .before .before .before .before .before .before in
+    let o = c .before .before .before .before .before .before .before .before .before .before .before .before .before .before .before .before .before .before .before .before .before .before .before in
     let a = o .args in
     let b = lent (now (a .sites)) (now (a .log)) (keptEntries (now (a .kept))) (now (a .sent)) in
-    let i : a .site < a .rules .table .sites = omega (arith, c .before .before .before .before .before .before .before .before .before .before .before .before .before .before .if1 .left) in
-    let e = c .before .before .before .before .before .before .before .before .before .round .ensures ∙ (λ z. head-at (now (a .sites)) (a .site) ((a .site * siteSize + siteSize) - a .site * siteSize) (omega arith) z .round) in
-    let p = round-told (a .rules .table) (o .pre .0 .0) (now (a .rows)) b (a .site) (o .pre .0 .1) (λ k. c .before .before .before .before .before .before .before .before .before .before .before .before .before .before .before .before .before .before .before .before .before .slice-known .given k .fits) i e in
+    let i : a .site < a .rules .table .sites = omega (arith, c .before .before .before .before .before .before .before .before .before .before .before .before .before .before .before .if1 .left) in
+    let e = ap (λ (h : Site). h .round) (c .before .before .before .before .before .before .before .before .before .before .read .ensures ∙ head-at (now (a .sites)) (a .site) ((a .site * siteSize + siteSize) - a .site * siteSize) (omega arith)) in
+    let p = round-told (a .rules .table) (o .pre .0 .0) (now (a .rows)) b (a .site) (o .pre .0 .1) (λ k. c .before .before .before .before .before .before .before .before .before .before .before .before .before .before .before .before .before .before .before .before .before .before .slice-known .given k .fits) i e in
     (o .pre .0 .1 .world .sent, p .2, p .0, p .1)
 
 append-requires : tie.Need-append-requires
 append-requires c κs =
-    let o = c .before .before .before .before .before .before .before .before .before .before .before .before .before .before .before .before .before .before .before .before .before .before .before .before .before .before .before .before .before in
+    let o = c .before .before .before .before .before .before .before .before .before .before .before .before .before .before .before .before .before .before .before .before .before .before .before .before .before .before .before .before .before .before in
     let a = o .args in
     let b = lent (now (a .sites)) (now (a .log)) (keptEntries (now (a .kept))) (now (a .sent)) in
-    let i : a .site < a .rules .table .sites = omega (arith, c .before .before .before .before .before .before .before .before .before .before .before .before .before .before .before .before .before .before .before .before .before .if1 .left) in
-    let e = c .before .before .before .before .before .before .before .before .before .before .before .before .before .before .before .before .round .ensures ∙ (λ z. head-at (now (a .sites)) (a .site) ((a .site * siteSize + siteSize) - a .site * siteSize) (omega arith) z .round) in
-    let p = round-told (a .rules .table) (o .pre .0 .0) (now (a .rows)) b (a .site) (o .pre .0 .1) (λ k. c .before .before .before .before .before .before .before .before .before .before .before .before .before .before .before .before .before .before .before .before .before .before .before .before .before .before .before .before .slice-known .given k .fits) i e in
+    let i : a .site < a .rules .table .sites = omega (arith, c .before .before .before .before .before .before .before .before .before .before .before .before .before .before .before .before .before .before .before .before .before .before .if1 .left) in
+    let e = ap (λ (h : Site). h .round) (c .before .before .before .before .before .before .before .before .before .before .before .before .before .before .before .before .before .read .ensures ∙ head-at (now (a .sites)) (a .site) ((a .site * siteSize + siteSize) - a .site * siteSize) (omega arith)) in
+    let p = round-told (a .rules .table) (o .pre .0 .0) (now (a .rows)) b (a .site) (o .pre .0 .1) (λ k. c .before .before .before .before .before .before .before .before .before .before .before .before .before .before .before .before .before .before .before .before .before .before .before .before .before .before .before .before .before .slice-known .given k .fits) i e in
     (o .pre .0 .1 .table, o .pre .1, omega (arith, o .pre .0 .1 .room), ap length (o .pre .0 .1 .conflicts) ∙ rows-size (o .pre .0 .0), i, omega (arith, p .1))
 
 same-length : tie.Need-same-length
@@ -135,13 +136,13 @@ same-length-2 c = search needs
 
 returns-3 : tie.Need-returns-3
 returns-3 c =
-    let o = c .before .before .before .before .before .before .before .before .before .before .before .before .before .before .before .before .before .before .before .before .before in
+    let o = c .before .before .before .before .before .before .before .before .before .before .before .before .before .before .before .before .before .before .before .before .before .before in
     let a = o .args in
     let b = lent (now (a .sites)) (now (a .log)) (keptEntries (now (a .kept))) (now (a .sent)) in
-    let i : a .site < a .rules .table .sites = omega (arith, c .before .before .before .before .before .before .before .before .before .before .before .before .before .if1 .left) in
+    let i : a .site < a .rules .table .sites = omega (arith, c .before .before .before .before .before .before .before .before .before .before .before .before .before .before .if1 .left) in
     let h = at-site (TurnedBy (now (a .rows)) (now (a .kept)) (a .site) (c .before .before .before .before .before .turn-by .result)) (now (a .sites)) (a .site) ((a .site * siteSize + siteSize) - a .site * siteSize) _ (omega arith)
     (omega (arith, i, o .pre .0 .1 .world .size)) (c .before .before .before .before .before .turn-by .kept .0) (c .before .before .before .before .before .turn-by .ensures) in
-    ((λ book ready. turn-refused (a .rules .table) book (now (a .rows)) b (a .site) ready (λ k. c .before .before .before .before .before .before .before .before .before .before .before .before .before .before .before .before .before .before .before .before .slice-known .given k .fits) i (c .before .before .before .before .before .before .before .before .before .before .before .before .is-faulty .ensures) (c .before .before .before .before .before .before .before .before .before .before .before .if2 .left) refl (o .pre .1) h _ (c .before .answer .given .1)), o .pre .1)
+    ((λ book ready. turn-refused (a .rules .table) book (now (a .rows)) b (a .site) ready (λ k. c .before .before .before .before .before .before .before .before .before .before .before .before .before .before .before .before .before .before .before .before .before .slice-known .given k .fits) i (c .before .before .before .before .before .before .before .before .before .before .before .before .before .is-faulty .ensures) (c .before .before .before .before .before .before .before .before .before .before .before .before .if2 .left) refl (o .pre .1) h _ (c .before .answer .given .1)), o .pre .1)
 
 same-length-3 : tie.Need-same-length-3
 same-length-3 c = search needs
@@ -154,14 +155,14 @@ same-length-5 c = search needs
 
 returns-4 : tie.Need-returns-4
 returns-4 c =
-    let o = c .before .before .before .before .before .before .before .before .before .before .before .before .before .before .before .before .before .before .before .before .before .before .before .before .before in
+    let o = c .before .before .before .before .before .before .before .before .before .before .before .before .before .before .before .before .before .before .before .before .before .before .before .before .before .before in
     let a = o .args in
     let b = lent (now (a .sites)) (now (a .log)) (keptEntries (now (a .kept))) (now (a .sent)) in
-    let i : a .site < a .rules .table .sites = omega (arith, c .before .before .before .before .before .before .before .before .before .before .before .before .before .before .before .before .before .if1 .left) in
-    let e = c .before .before .before .before .before .before .before .before .before .before .before .before .round .ensures ∙ (λ z. head-at (now (a .sites)) (a .site) ((a .site * siteSize + siteSize) - a .site * siteSize) (omega arith) z .round) in
+    let i : a .site < a .rules .table .sites = omega (arith, c .before .before .before .before .before .before .before .before .before .before .before .before .before .before .before .before .before .before .if1 .left) in
+    let e = ap (λ (h : Site). h .round) (c .before .before .before .before .before .before .before .before .before .before .before .before .before .read .ensures ∙ head-at (now (a .sites)) (a .site) ((a .site * siteSize + siteSize) - a .site * siteSize) (omega arith)) in
     let h = at-site (TurnedBy (now (a .rows)) (now (a .kept)) (a .site) (c .before .before .before .before .before .before .before .before .before .turn-by .result)) (now (a .sites)) (a .site) ((a .site * siteSize + siteSize) - a .site * siteSize) _ (omega arith)
     (omega (arith, i, o .pre .0 .1 .world .size)) (c .before .before .before .before .before .before .before .before .before .turn-by .kept .0) (c .before .before .before .before .before .before .before .before .before .turn-by .ensures) in (
-      (λ book ready. acknowledged (a .rules .table) book (now (a .rows)) b (a .site) ready (λ k. c .before .before .before .before .before .before .before .before .before .before .before .before .before .before .before .before .before .before .before .before .before .before .before .before .slice-known .given k .fits) i (c .before .before .before .before .before .before .before .before .before .before .before .before .before .before .before .before .is-faulty .ensures) (c .before .before .before .before .before .before .before .before .before .before .before .before .before .before .before .if2 .left) refl (o .pre .1) h _ (c .before .before .before .before .before .answer2 .given .1) _ e
+      (λ book ready. acknowledged (a .rules .table) book (now (a .rows)) b (a .site) ready (λ k. c .before .before .before .before .before .before .before .before .before .before .before .before .before .before .before .before .before .before .before .before .before .before .before .before .before .slice-known .given k .fits) i (c .before .before .before .before .before .before .before .before .before .before .before .before .before .before .before .before .before .is-faulty .ensures) (c .before .before .before .before .before .before .before .before .before .before .before .before .before .before .before .before .if2 .left) refl (o .pre .1) h _ (c .before .before .before .before .before .answer2 .given .1) _ e
           (c .before .before .add-acknowledgment .ensures)),
       o .pre .1,
     )
@@ -180,15 +181,15 @@ same-length-9 c = search needs
 
 returns-5 : tie.Need-returns-5
 returns-5 c =
-    let o = c .before .before .before .before .before .before .before .before .before .before .before .before .before .before .before .before .before .before .before .before .before .before .before .before .before .before .before .before .before .before .before .before .before .before in
+    let o = c .before .before .before .before .before .before .before .before .before .before .before .before .before .before .before .before .before .before .before .before .before .before .before .before .before .before .before .before .before .before .before .before .before .before .before in
     let a = o .args in
     let b = lent (now (a .sites)) (now (a .log)) (keptEntries (now (a .kept))) (now (a .sent)) in
-    let i : a .site < a .rules .table .sites = omega (arith, c .before .before .before .before .before .before .before .before .before .before .before .before .before .before .before .before .before .before .before .before .before .before .before .before .before .before .if1 .left) in
-    let e = c .before .before .before .before .before .before .before .before .before .before .before .before .before .before .before .before .before .before .before .before .before .round .ensures ∙ (λ z. head-at (now (a .sites)) (a .site) ((a .site * siteSize + siteSize) - a .site * siteSize) (omega arith) z .round) in
+    let i : a .site < a .rules .table .sites = omega (arith, c .before .before .before .before .before .before .before .before .before .before .before .before .before .before .before .before .before .before .before .before .before .before .before .before .before .before .before .if1 .left) in
+    let e = ap (λ (h : Site). h .round) (c .before .before .before .before .before .before .before .before .before .before .before .before .before .before .before .before .before .before .before .before .before .before .read .ensures ∙ head-at (now (a .sites)) (a .site) ((a .site * siteSize + siteSize) - a .site * siteSize) (omega arith)) in
     let h = at-site (TurnedBy (now (a .rows)) (now (a .kept)) (a .site) (c .before .before .before .before .before .before .before .before .before .before .before .before .before .before .before .before .before .before .turn-by .result)) (now (a .sites)) (a .site) ((a .site * siteSize + siteSize) - a .site * siteSize) _ (omega arith)
     (omega (arith, i, o .pre .0 .1 .world .size)) (c .before .before .before .before .before .before .before .before .before .before .before .before .before .before .before .before .before .before .turn-by .kept .0) (c .before .before .before .before .before .before .before .before .before .before .before .before .before .before .before .before .before .before .turn-by .ensures) in
     let w = c .before .before .before .before .append .ensures in (
-      (λ book ready. proposed (a .rules .table) book (now (a .rows)) b (a .site) ready (λ k. c .before .before .before .before .before .before .before .before .before .before .before .before .before .before .before .before .before .before .before .before .before .before .before .before .before .before .before .before .before .before .before .before .before .slice-known .given k .fits) i (c .before .before .before .before .before .before .before .before .before .before .before .before .before .before .before .before .before .before .before .before .before .before .before .before .before .is-faulty .ensures) (c .before .before .before .before .before .before .before .before .before .before .before .before .before .before .before .before .before .before .before .before .before .before .before .before .if2 .left) refl (o .pre .1) h _ _ (c .before .before .before .before .before .before .before .before .before .before .before .before .before .before .answer3 .given .1) _ e
+      (λ book ready. proposed (a .rules .table) book (now (a .rows)) b (a .site) ready (λ k. c .before .before .before .before .before .before .before .before .before .before .before .before .before .before .before .before .before .before .before .before .before .before .before .before .before .before .before .before .before .before .before .before .before .before .slice-known .given k .fits) i (c .before .before .before .before .before .before .before .before .before .before .before .before .before .before .before .before .before .before .before .before .before .before .before .before .before .before .is-faulty .ensures) (c .before .before .before .before .before .before .before .before .before .before .before .before .before .before .before .before .before .before .before .before .before .before .before .before .before .if2 .left) refl (o .pre .1) h _ _ (c .before .before .before .before .before .before .before .before .before .before .before .before .before .before .answer3 .given .1) _ e
           (c .before .before .before .before .before .before .before .before .before .before .before .put-check .ensures) (w .0) (w .1)),
       w .2,
     )
@@ -202,10 +203,10 @@ turn-spec =
     returns-2
     mul-from
     add-to
-    sub-round
-    part-round-start
-    part-round-end
-    round-requires
+    sub-read
+    part-read-start
+    part-read-end
+    read-requires
     cast-round
     sub-turn-by
     part-turn-by-start
