@@ -1,43 +1,22 @@
 -- Laws of single fields: a field written where it stands leaves the bytes of the header with that field.
 -- Assumes nothing.
 use mathlib.Core.Path.{_≡_, refl, sym, ap, _∙_}
-use mathlib.Core.Bool.{not}
 use mathlib.Core.List.{List, _++_}
-use Prim.Native.Nat.{ℕ, zero, suc, _≤_, _<_}
-use native.Mathlib.Omega.{arith}
-use lib.Dec.{eqb}
+use Prim.Native.Nat.{ℕ, _≤_, _<_}
 use lib.ListN.{length, take, drop, getD, take-append-drop}
 use lib.Seq.{take-at}
-use borrow.Author.Tests.{ne-eqb}
-use Rattle.wire.specs.Wire.{bytes, readLe, splice}
+use Rattle.wire.specs.Wire.{bytes, splice}
 use Rattle.wire.proofs.Laws.{part-before}
 use Rattle.sets.specs.declared.Set.{Set}
-use Rattle.sets.specs.Sets.{emptyOf, readSet, writeSet}
+use Rattle.sets.specs.Sets.{writeSet}
 use Rattle.layout.specs.declared.Proposal.{Proposal}
 use Rattle.layout.specs.declared.Phase.{Phase}
-use Rattle.layout.specs.declared.Phase.the-variants.{Waiting}
 use Rattle.layout.specs.declared.Site.{Site}
-use Rattle.layout.specs.Layout.{phasePlace, countPlace, spanPlace, positionPlace, receivedPlace, pendingPlace, fastPlace, ncPlace, cPlace, registerPlace, headOf, tagOf, proposalOf, Begins, phased, phaseFrom, isWaiting, numbersBytes, setsBytes, headBytes, waitsWith, acknowledges}
-use Rattle.layout.specs.Good.{Fit, Good}
-use Rattle.layout.proofs.Header.{length-head, head-back, head-bytes}
+use Rattle.layout.specs.Layout.{phasePlace, countPlace, spanPlace, positionPlace, receivedPlace, pendingPlace, fastPlace, ncPlace, cPlace, registerPlace, headOf, tagOf, proposalOf, numbersBytes, setsBytes, headBytes, Begins, phased}
+use Rattle.layout.specs.Good.{Good}
+use Rattle.layout.proofs.Header.{length-head, head-bytes}
 
 -- ---- what the code of layout does
-
-pub waiting-tag : (b : List ℕ) {n : ℕ} → n ≡ readLe 1 b phasePlace → not (eqb n 0) ≡ isWaiting (headOf b .phase)
-unfolding headOf
-waiting-tag b e = ap (λ (k : ℕ). not (eqb k 0)) e ∙ by-tag (readLe 1 b phasePlace)
-  where
-    by-tag : (n : ℕ) → not (eqb n 0) ≡ isWaiting (phaseFrom n (readSet b ncPlace) (readSet b cPlace))
-    by-tag zero = refl
-    by-tag (suc n) = ap not (ne-eqb (suc n) 0 (λ e. omega arith))
-
-pub waits : (b : List ℕ) (nc c : Set) {l₁ l₂ l₃ : List ℕ} → l₁ ≡ splice b phasePlace (bytes 1 1) → l₂ ≡ writeSet l₁ ncPlace nc → l₃ ≡ writeSet l₂ cPlace c
-    → l₃ ≡ waitsWith b nc c
-waits b nc c e₁ e₂ e₃ = e₃ ∙ ap (λ (l : List ℕ). writeSet l cPlace c) (e₂ ∙ ap (λ (l : List ℕ). writeSet l ncPlace nc) e₁)
-
-pub acknowledged : (b : List ℕ) {l₁ l₂ l₃ : List ℕ} → l₁ ≡ splice b phasePlace (bytes 1 0) → l₂ ≡ writeSet l₁ ncPlace emptyOf → l₃ ≡ writeSet l₂ cPlace emptyOf
-    → l₃ ≡ acknowledges b
-acknowledged b e₁ e₂ e₃ = e₃ ∙ ap (λ (l : List ℕ). writeSet l cPlace emptyOf) (e₂ ∙ ap (λ (l : List ℕ). writeSet l ncPlace emptyOf) e₁)
 
 pub phase-set : (b : List ℕ) (p : Phase) {n : ℕ} {q : Proposal} {l₁ l₂ l₃ : List ℕ} → q ≡ proposalOf p → n ≡ tagOf p
     → l₁ ≡ splice b phasePlace (bytes 1 n) → l₂ ≡ writeSet l₁ ncPlace (q .nc) → l₃ ≡ writeSet l₂ cPlace (q .c) → l₃ ≡ phased b p
@@ -65,10 +44,6 @@ pub in-head : (write : List ℕ → List ℕ) (h₀ h : Site) (b : List ℕ) →
     → write b ≡ splice b 0 (headBytes h)
 in-head write h₀ h b law e =
     ap write (sym (take-append-drop registerPlace b) ∙ ap (λ (l : List ℕ). l ++ drop registerPlace b) e) ∙ law (drop registerPlace b) ∙ sym (over b h)
-
--- The header that is read of bytes is the one that they begin with.
-pub begins-head : (b : List ℕ) (h : Site) → Fit h → Begins h b → headOf b ≡ h
-begins-head b h f e = ap headOf (in-head (λ l. l) h h b (λ rest. refl) e) ∙ head-back b h f
 
 -- ---- one field another
 
@@ -179,10 +154,6 @@ module _ (h : Site) where
     pub pending-written : (x : Set) → writeSet b pendingPlace x ≡ splice b 0 (headBytes (withPending x))
     unfolding writeSet splice numbersBytes setsBytes bytes
     pending-written x = in-head (λ l. writeSet l pendingPlace x) h (withPending x) b (λ rest. refl) e
-
-    pub waiting-written : (nc c : Set) → waitsWith b nc c ≡ splice b 0 (headBytes (withPhase (Waiting (record { nc = nc; c = c }))))
-    unfolding writeSet splice numbersBytes setsBytes bytes
-    waiting-written nc c = in-head (λ l. waitsWith l nc c) h (withPhase (Waiting (record { nc = nc; c = c }))) b (λ rest. refl) e
 
     pub phase-written : (p : Phase) → phased b p ≡ splice b 0 (headBytes (withPhase p))
     unfolding writeSet splice numbersBytes setsBytes bytes

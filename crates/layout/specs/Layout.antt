@@ -1,7 +1,7 @@
 -- One site in lent bytes: where each field stands, the site that the bytes are seen as, and the bytes of a site.
 -- Assumes nothing.
 use mathlib.Core.Path.{_≡_}
-use mathlib.Core.Bool.{Bool, true, false, _&&_}
+use mathlib.Core.Bool.{Bool, _&&_}
 use mathlib.Core.List.{List, [], _∷_, _++_}
 use Prim.Native.Nat.{ℕ, zero, suc, _+_, _*_, _-_, _/_, _%_}
 use lib.Dec.{leb, ltb}
@@ -127,10 +127,6 @@ headOf b =
       fast = readSet b fastPlace;
     }
 
-abbrev pub isWaiting : Phase → Bool
-isWaiting Acknowledging = false
-isWaiting (Waiting p) = true
-
 -- A sender and a round that a table of k rows has a set for.
 abbrev pub inTable : ℕ → ℕ → ℕ → Bool
 inTable k j r = ltb j maxSites && (leb 1 r && leb r k)
@@ -201,18 +197,6 @@ headBytes h = numbersBytes h ++ setsBytes h
 -- The bytes begin with those of a header.
 abbrev pub Begins : Site → List ℕ → Type 0
 Begins h b = take registerPlace b ≡ headBytes h
-
--- The bytes begin with those of the header that is read of them.
-abbrev pub Headed : List ℕ → Type 0
-Headed b = take registerPlace b ≡ headBytes (headOf b)
-
--- The bytes with the site waiting with two sets.
-abbrev pub waitsWith : List ℕ → Set → Set → List ℕ
-waitsWith b nc c = writeSet (writeSet (splice b phasePlace (bytes 1 1)) ncPlace nc) cPlace c
-
--- The bytes with the site acknowledging, and nothing proposed.
-abbrev pub acknowledges : List ℕ → List ℕ
-acknowledges b = writeSet (writeSet (splice b phasePlace (bytes 1 0)) ncPlace emptyOf) cPlace emptyOf
 
 -- The bytes with another phase.
 abbrev pub phased : List ℕ → Phase → List ℕ

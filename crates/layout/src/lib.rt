@@ -1,4 +1,4 @@
-// One site's state in lent bytes at fixed places: a header read as a struct, and read and written field by field, and the sets heard, the register and the deliveries in place.
+// One site's state in lent bytes at fixed places: a header read as a struct and written field by field, and the sets heard, the register and the deliveries in place.
 ghost use mathlib.Core.Path.{_≡_};
 ghost use Prim.Native.Nat.{_+_, _≤_, _<_};
 ghost use lib.ListN.{length};
@@ -6,7 +6,7 @@ ghost use Rattle.wire.specs.Wire.{bytes, splice};
 ghost use Rattle.sets.specs.Sets.{capacity, readSet, writeSet};
 ghost use Rattle.table.specs.Table.{maxSites};
 ghost use Rattle.layout.specs.Layout.{siteSize, siteRounds, cell, slot, headOf, phaseFrom, tagOf, proposalOf, phased, deliveryOf, deliveryBytes, deliverySeen, emptied, reached, heardMore};
-ghost use Rattle.layout.specs.Layout.{roundPlace, countPlace, positionPlace, receivedPlace, deliveredPlace, pendingPlace, fastPlace, isWaiting, waitsWith, acknowledges};
+ghost use Rattle.layout.specs.Layout.{roundPlace, countPlace, positionPlace, receivedPlace, deliveredPlace, pendingPlace, fastPlace};
 ghost use Rattle.layout.specs.Good.{goodPhase};
 use sets::Set;
 
@@ -91,9 +91,9 @@ impl Site {
 
     pub const FAST: usize = 32;
 
-    pub const NC: usize = 40;
+    const NC: usize = 40;
 
-    pub const C: usize = 48;
+    const C: usize = 48;
 
     pub const REGISTER: usize = 56;
 
@@ -147,7 +147,7 @@ fn phase_of(tag: u8, nc: Set, c: Set) -> Phase
     Phase::Waiting(Proposal { nc, c })
 }
 
-// The fields of the header, one at a time.
+// Two fields of the header alone.
 pub fn round(site: &[u8]) -> u8
     requires { ⌜ length (now site) ≡ siteSize ⌝ }
     ensures { λ r. ⌜ r ≡ headOf (now (site .entry)) .round ⌝ }
@@ -155,63 +155,11 @@ pub fn round(site: &[u8]) -> u8
     wire::get1(site, Site::ROUND)
 }
 
-pub fn is_waiting(site: &[u8]) -> bool
-    requires { ⌜ length (now site) ≡ siteSize ⌝ }
-    ensures { λ r. ⌜ r ≡ isWaiting (headOf (now (site .entry)) .phase) ⌝ }
-{
-    let tag = wire::get1(site, Site::PHASE);
-    tag != 0
-}
-
-// How many deliveries are recorded.
-pub fn count(site: &[u8]) -> u16
-    requires { ⌜ length (now site) ≡ siteSize ⌝ }
-    ensures { λ r. ⌜ r ≡ headOf (now (site .entry)) .deliveries ⌝ }
-{
-    wire::get2(site, Site::COUNT)
-}
-
-// How many rounds the table of sets heard has rows for.
-pub fn span(site: &[u8]) -> u16
-    requires { ⌜ length (now site) ≡ siteSize ⌝ }
-    ensures { λ r. ⌜ r ≡ headOf (now (site .entry)) .span ⌝ }
-{
-    wire::get2(site, Site::SPAN)
-}
-
 pub fn position(site: &[u8]) -> u16
     requires { ⌜ length (now site) ≡ siteSize ⌝ }
     ensures { λ r. ⌜ r ≡ headOf (now (site .entry)) .position ⌝ }
 {
     wire::get2(site, Site::POSITION)
-}
-
-pub fn received(site: &[u8]) -> Set
-    requires { ⌜ length (now site) ≡ siteSize ⌝ }
-    ensures { λ r. ⌜ r ≡ headOf (now (site .entry)) .received ⌝ }
-{
-    Set::read(site, Site::RECEIVED)
-}
-
-pub fn delivered(site: &[u8]) -> Set
-    requires { ⌜ length (now site) ≡ siteSize ⌝ }
-    ensures { λ r. ⌜ r ≡ headOf (now (site .entry)) .delivered ⌝ }
-{
-    Set::read(site, Site::DELIVERED)
-}
-
-pub fn pending(site: &[u8]) -> Set
-    requires { ⌜ length (now site) ≡ siteSize ⌝ }
-    ensures { λ r. ⌜ r ≡ headOf (now (site .entry)) .pending ⌝ }
-{
-    Set::read(site, Site::PENDING)
-}
-
-pub fn fast(site: &[u8]) -> Set
-    requires { ⌜ length (now site) ≡ siteSize ⌝ }
-    ensures { λ r. ⌜ r ≡ headOf (now (site .entry)) .fast ⌝ }
-{
-    Set::read(site, Site::FAST)
 }
 
 pub fn set_round(site: &mut [u8], round: u8)
@@ -261,27 +209,6 @@ pub fn set_fast(site: &mut [u8], set: Set)
     ensures { λ _. ⌜ now (site .exit) ≡ writeSet (now (site .entry)) fastPlace set ⌝ }
 {
     set.write(site, Site::FAST);
-}
-
-// The site waits with the sets that it proposed.
-pub fn wait_with(site: &mut [u8], nc: Set, c: Set)
-    requires { ⌜ length (now site) ≡ siteSize ⌝ }
-    ensures { λ _. ⌜ now (site .exit) ≡ waitsWith (now (site .entry)) nc c ⌝ }
-{
-    wire::put1(site, Site::PHASE, 1);
-    nc.write(site, Site::NC);
-    c.write(site, Site::C);
-}
-
-// The site acknowledges again, and proposes nothing.
-pub fn acknowledge(site: &mut [u8])
-    requires { ⌜ length (now site) ≡ siteSize ⌝ }
-    ensures { λ _. ⌜ now (site .exit) ≡ acknowledges (now (site .entry)) ⌝ }
-{
-    let none = Set { bits: 0 };
-    wire::put1(site, Site::PHASE, 0);
-    none.write(site, Site::NC);
-    none.write(site, Site::C);
 }
 
 // The phase is written: its tag and the sets that the site waits with, empty while it acknowledges.
