@@ -15,7 +15,7 @@ use Rattle.theory.specs.Counting.{both, left, right, never, or-false}
 use Rattle.wire.specs.Wire.{bytes, readLe}
 use Rattle.wire.proofs.Laws.{read-lt, read-bytes}
 use Rattle.sets.specs.declared.Set.{Set}
-use Rattle.sets.specs.Sets.{has, word, capacity, inSet, setOf, readSet, writeSet, unionOf}
+use Rattle.sets.specs.Sets.{has, capacity, inSet, setOf, readSet, writeSet, unionOf}
 use Rattle.sets.proofs.Laws.{in-union, union-fits, read-fits, read-written, read-other, word-ext, word-has}
 use Rattle.table.specs.Table.{maxSites}
 use Rattle.layout.specs.Layout.{heardPlace, siteSize, siteRounds, inTable, rowAt, cell, heardIn, heardBytes}

@@ -16,7 +16,7 @@ use Rattle.refusals.specs.declared.Refusal.the-variants.{Range, Role, Disabled,
 use Rattle.refusals.specs.Refusals.{settled}
 use Rattle.theory.specs.Sets as theory
 use Rattle.theory.specs.Sets.{pick, any}
-use Rattle.theory.specs.Counting.{both, never, not-true, not-not}
+use Rattle.theory.specs.Counting.{both, never, not-not}
 use Rattle.sets.specs.declared.Set.{Set}
 use Rattle.sets.specs.Sets.{capacity, inSet, setOf, withinOf}
 use Rattle.sets.proofs.Laws.{in-without, word-lt}
@@ -36,7 +36,7 @@ use Rattle.system.specs.Dash.{dash, lastRound}
 use Rattle.layout.specs.declared.Proposal.{Proposal}
 use Rattle.layout.specs.Layout.{siteRounds, headOf, view, siteAt}
 use Rattle.layout.specs.Good.{Good, HoldsOver}
-use Rattle.layout.proofs.Finish.{alone, unchanged}
+use Rattle.layout.proofs.Finish.{alone}
 use Rattle.site.specs.declared.Turn.{Turn}
 use Rattle.site.specs.declared.Turn.the-variants as turns
 use Rattle.site.specs.Steps.{undeliveredOf, TookTurn, Turned, answerTo}

@@ -12,9 +12,7 @@ use Rattle.wire.specs.Wire.{bytes, readLe}
 use Rattle.sets.specs.declared.Set.{Set}
 use Rattle.sets.specs.Sets.{inSet, emptyOf, withOf, unionOf, withinOf, readSet, writeSet}
 use Rattle.sets.proofs.Laws.{in-empty, in-with, in-union, union-fits, length-write}
-use Rattle.table.specs.declared.SiteTable.{SiteTable}
 use Rattle.table.specs.Table.{maxSites}
-use Rattle.register.specs.declared.Command.{Command}
 use Rattle.protocol.specs.Site as protocol
 use Rattle.system.specs.Dash.{dash}
 use Rattle.layout.specs.declared.Site.{Site}
