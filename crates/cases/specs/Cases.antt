@@ -17,7 +17,7 @@ use Rattle.sets.specs.Sets.{has}
 use Rattle.table.specs.declared.SiteTable.{SiteTable}
 use Rattle.table.specs.declared.Judged.{Judged}
 use Rattle.table.specs.declared.Judged.the-variants.{Good, Refused as Rejected}
-use Rattle.table.specs.Table.{judgeTable, goodTable}
+use Rattle.table.specs.Table.{readMarked, goodTable}
 use Rattle.register.specs.declared.Command.{Command}
 use Rattle.register.specs.declared.Command.the-variants.{Add, Fit, Read, Trim}
 use Rattle.register.specs.declared.Bike.{Bike}
@@ -30,8 +30,8 @@ use Rattle.system.specs.Dash.{dash}
 
 -- What is asked.
 pub data Input : Type 0 where
-  -- a site table: n, f and mask
-  table : (n f mask : ℕ) → Input
+  -- a site table in bytes: n, f and mask
+  table : List ℕ → Input
   -- a book's bytes
   book : List ℕ → Input
   -- a command on a bike with a reading
@@ -96,7 +96,7 @@ decision none = undecided
 decision (some t) = decided (members 2 (ncSet sixSystem t)) (members 2 (cSet sixSystem t))
 
 abbrev pub result : Input → Result
-result (table n f mask) = code (tableCode (judgeTable n f mask))
+result (table b) = code (tableCode (readMarked b))
 result (book b) = code (codeOf (judgeBook b))
 result (executes reading c) = answers (change c (bike reading 0) .reading) (reply c (bike reading 0))
 result (pair c d) = conflicts (conflict c d)
@@ -122,8 +122,8 @@ Hold (r ∷ rows) = (result (r .input) ≡ r .expected) × Hold rows
 -- Document 01's rows, in its order.
 abbrev pub cases : List Row
 cases =
-    row (table 6 1 0) (code 0)
-    ∷ row (table 5 1 0) (code 2)
+    row (table (6 ∷ 1 ∷ 0 ∷ 0 ∷ [])) (code 0)
+    ∷ row (table (5 ∷ 1 ∷ 0 ∷ 0 ∷ [])) (code 2)
     ∷ row (book []) (code 0)
     ∷ row (book (2 ∷ 5 ∷ 7 ∷ 0 ∷ 0 ∷ 0 ∷ 63 ∷ 66 ∷ 15 ∷ 0 ∷ [])) (code 0)
     ∷ row (book (2 ∷ 5 ∷ 7 ∷ 0 ∷ 0 ∷ 0 ∷ 64 ∷ 66 ∷ 15 ∷ 0 ∷ [])) (code 1)

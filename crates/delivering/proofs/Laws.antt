@@ -15,7 +15,7 @@ use Rattle.refusals.specs.declared.Verdict.{Verdict}
 use Rattle.refusals.specs.Refusals.{numberOf, codeOf}
 use Rattle.table.specs.declared.Rules.{Rules}
 use Rattle.table.specs.declared.SiteTable.{SiteTable}
-use Rattle.table.specs.Table.{isGood}
+use Rattle.table.specs.Table.{isGood, tableIn}
 use Rattle.commands.specs.Book.{maxCommands, commandsOf, Placed}
 use Rattle.conflicts.specs.Conflicts.{conflictRows, rowsIn, Noted}
 use Rattle.conflicts.proofs.Laws.{noneNoted, all-noted}
@@ -38,7 +38,7 @@ use Rattle.ending.proofs.Telling.{told}
 use Rattle.judging.specs.Outcomes.{outcome, answered, _then_}
 use Rattle.judging.specs.declared.Judgement.{Judgement}
 use Rattle.judging.specs.declared.Judgement.the-variants as judgement
-use Rattle.judging.specs.Judging.{tableOf, systemOf, spanIn, siteIn, withSite, rulesOf, judgedAs, numberIn, forSite, forSiteAndLog, placesAfter}
+use Rattle.judging.specs.Judging.{systemOf, spanIn, siteIn, withSite, rulesOf, judgedAs, numberIn, forSite, forSiteAndLog, placesAfter}
 use Rattle.judging.proofs.Demands.{then-taken, then-refused, answered-refused}
 use Rattle.judging.proofs.Laws.{Judged, JudgedLog, site-judged, log-judged, site-noted, log-placed, good-taken, good-code, good-rules, refused-code}
 use Rattle.judging.proofs.Steps.{carried}
@@ -46,62 +46,62 @@ use Rattle.delivering.specs.Delivering.{fastDeliveryCall, roundEndCall}
 
 -- ---- a fast delivery
 
-module _ (n f : ℕ) (book site : List ℕ) (m : ℕ) {j : Judgement}
-    (e : j ≡ judgedAs (verdict (forSite n f book true site)) (rulesOf n f book)) where
-  pub fast-refused : {r : Refusal} {k : ℕ} → j ≡ judgement.Refused r → k ≡ numberIn j → outcome k site ≡ fastDeliveryCall n f book site m
+module _ (table book site : List ℕ) (m : ℕ) {j : Judgement}
+    (e : j ≡ judgedAs (verdict (forSite table book true site)) (rulesOf table book)) where
+  pub fast-refused : {r : Refusal} {k : ℕ} → j ≡ judgement.Refused r → k ≡ numberIn j → outcome k site ≡ fastDeliveryCall table book site m
   unfolding fastDeliveryCall
   fast-refused h ek =
-      let w = refused-code (verdict (forSite n f book true site)) (rulesOf n f book) e h ek in
-      then-refused (forSite n f book true site)
-      (ltb m (length (commandsOf book)) else Range ⨾ protocol.forFastDelivery (systemOf n f book) m (siteIn n f book site)) _ site (w .0) (w .1)
+      let w = refused-code (verdict (forSite table book true site)) (rulesOf table book) e h ek in
+      then-refused (forSite table book true site)
+      (ltb m (length (commandsOf book)) else Range ⨾ protocol.forFastDelivery (systemOf table book) m (siteIn table book site)) _ site (w .0) (w .1)
 
   module _ {x : Rules} (h : j ≡ judgement.Good x) where
-    code : 0 ≡ codeOf (verdict (forSite n f book true site))
-    code = good-code (verdict (forSite n f book true site)) (rulesOf n f book) e h
+    code : 0 ≡ codeOf (verdict (forSite table book true site))
+    code = good-code (verdict (forSite table book true site)) (rulesOf table book) e h
 
-    judged : Judged n f book site
-    judged = site-judged n f book true site code refl .1
+    judged : Judged table book site
+    judged = site-judged table book true true site code refl .2
 
     pub fast-sized : siteSize ≤ length site
     fast-sized = judged .sized
 
     first : (t : Bool) → ltb m (length (commandsOf book)) ≡ t
-        → verdict (forSite n f book true site then ltb m (length (commandsOf book)) else Range ⨾ protocol.forFastDelivery (systemOf n f book) m (siteIn n f book site))
-        ≡ verdict (t else Range ⨾ protocol.forFastDelivery (systemOf n f book) m (siteIn n f book site))
+        → verdict (forSite table book true site then ltb m (length (commandsOf book)) else Range ⨾ protocol.forFastDelivery (systemOf table book) m (siteIn table book site))
+        ≡ verdict (t else Range ⨾ protocol.forFastDelivery (systemOf table book) m (siteIn table book site))
     first t e =
-        then-taken (forSite n f book true site)
-        (ltb m (length (commandsOf book)) else Range ⨾ protocol.forFastDelivery (systemOf n f book) m (siteIn n f book site)) code refl
-        ∙ (λ i. verdict (e i else Range ⨾ protocol.forFastDelivery (systemOf n f book) m (siteIn n f book site)))
+        then-taken (forSite table book true site)
+        (ltb m (length (commandsOf book)) else Range ⨾ protocol.forFastDelivery (systemOf table book) m (siteIn table book site)) code refl
+        ∙ (λ i. verdict (e i else Range ⨾ protocol.forFastDelivery (systemOf table book) m (siteIn table book site)))
 
     counted : x .commands ≡ length (commandsOf book)
-    counted = good-rules n f book (verdict (forSite n f book true site)) e h .1
+    counted = good-rules table book (verdict (forSite table book true site)) e h .1
 
-    pub fast-range : {k : ℕ} → x .commands ≤ m → k ≡ numberOf Range → outcome k site ≡ fastDeliveryCall n f book site m
+    pub fast-range : {k : ℕ} → x .commands ≤ m → k ≡ numberOf Range → outcome k site ≡ fastDeliveryCall table book site m
     unfolding fastDeliveryCall
     fast-range l ek = let c = counted in (λ i. outcome (ek i) site) ∙ answered-refused Range _ site (first false (le-ltb m (length (commandsOf book)) (omega arith)))
 
-    tabled : x .table ≡ tableOf n f
-    tabled = good-rules n f book (verdict (forSite n f book true site)) e h .0
+    tabled : x .table ≡ tableIn table
+    tabled = good-rules table book (verdict (forSite table book true site)) e h .0
 
-    pub fast-ready : m < x .commands → (places : List ℕ) {after : List ℕ} → maxCommands ≤ length places → after ≡ placesAfter n f book (leb siteSize (length site)) places
+    pub fast-ready : m < x .commands → (places : List ℕ) {after : List ℕ} → maxCommands ≤ length places → after ≡ placesAfter table book (leb siteSize (length site)) places
         → Good (x .table .sites) (x .commands) (take siteSize site) × (isGood (x .table) ≡ true) × Placed book after × (length (commandsOf book) ≡ x .commands) × (m < x .commands)
     fast-ready l places room en = (
-      subst (λ (t : SiteTable). Good (t .sites) (x .commands) (take siteSize site)) (sym tabled) (subst (λ (k : ℕ). Good n k (take siteSize site)) (sym counted) (judged .good)),
-      subst (λ (t : SiteTable). isGood t ≡ true) (sym tabled) (judged .table),
-      site-noted n f book true site places room en code refl,
+      subst (λ (t : SiteTable). Good (t .sites) (x .commands) (take siteSize site)) (sym tabled) (subst (λ (k : ℕ). Good (tableIn table .sites) k (take siteSize site)) (sym counted) (judged .good)),
+      subst (λ (t : SiteTable). isGood t ≡ true) (sym tabled) (judged .table-good),
+      site-noted table book true site places room en code refl,
       sym counted,
       l,
     )
 
     pub fast-done : m < x .commands → ((i : ℕ) → getD site i 0 < 256) → {r : Verdict} {b : List ℕ} {number : ℕ}
-        → FastDelivered (x .table) (commandsOf book) m (take siteSize site) r b → number ≡ codeOf r → outcome number (b ++ drop siteSize site) ≡ fastDeliveryCall n f book site m
+        → FastDelivered (x .table) (commandsOf book) m (take siteSize site) r b → number ≡ codeOf r → outcome number (b ++ drop siteSize site) ≡ fastDeliveryCall table book site m
     unfolding fastDeliveryCall
     fast-done l small {r} {b} o ek =
         let c = counted in
-        carried n f book site (judged .good) small (verdict (protocol.forFastDelivery (systemOf n f book) m (siteIn n f book site)))
-        (protocol.deliverFast (systemOf n f book) m (siteIn n f book site)) (subst (λ (t : SiteTable). FastDelivered t (commandsOf book) m (take siteSize site) r b) tabled o) ek
+        carried table book site (judged .good) small (verdict (protocol.forFastDelivery (systemOf table book) m (siteIn table book site)))
+        (protocol.deliverFast (systemOf table book) m (siteIn table book site)) (subst (λ (t : SiteTable). FastDelivered t (commandsOf book) m (take siteSize site) r b) tabled o) ek
         ∙ (λ i. answered (sym (first true (lt-ltb m (length (commandsOf book)) (omega arith))) i)
-        (withSite n f book (spanIn site) site (protocol.deliverFast (systemOf n f book) m (siteIn n f book site))) site)
+        (withSite table book (spanIn site) site (protocol.deliverFast (systemOf table book) m (siteIn table book site))) site)
 
 -- ---- a round that ends
 
@@ -143,38 +143,38 @@ module _ (t : SiteTable) (table : isGood t ≡ true) (book log b : List ℕ) {co
       o t (logOf log) (subst (λ (k : ℕ). Good (t .sites) k b) (sym count) good)
       (told t table book (conflictRows book) log small (headOf b .position) (headOf b .round) room logged refl ed (view t (commandsOf book) b) (logOf log) read refl)
 
-module _ (n f : ℕ) (book site log : List ℕ) {j : Judgement}
-    (e : j ≡ judgedAs (verdict (forSiteAndLog n f book true site log)) (rulesOf n f book)) where
-  pub end-refused : {r : Refusal} {k : ℕ} → j ≡ judgement.Refused r → k ≡ numberIn j → outcome k site ≡ roundEndCall n f book site log
+module _ (table book site log : List ℕ) {j : Judgement}
+    (e : j ≡ judgedAs (verdict (forSiteAndLog table book true site log)) (rulesOf table book)) where
+  pub end-refused : {r : Refusal} {k : ℕ} → j ≡ judgement.Refused r → k ≡ numberIn j → outcome k site ≡ roundEndCall table book site log
   unfolding roundEndCall
   end-refused h ek =
-      let w = refused-code (verdict (forSiteAndLog n f book true site log)) (rulesOf n f book) e h ek in
-      then-refused (forSiteAndLog n f book true site log) (protocol.forRoundEnd (systemOf n f book) (siteIn n f book site) (logOf log)) _ site (w .0) (w .1)
+      let w = refused-code (verdict (forSiteAndLog table book true site log)) (rulesOf table book) e h ek in
+      then-refused (forSiteAndLog table book true site log) (protocol.forRoundEnd (systemOf table book) (siteIn table book site) (logOf log)) _ site (w .0) (w .1)
 
   module _ {x : Rules} (h : j ≡ judgement.Good x) where
-    end-code : 0 ≡ codeOf (verdict (forSiteAndLog n f book true site log))
-    end-code = good-code (verdict (forSiteAndLog n f book true site log)) (rulesOf n f book) e h
+    end-code : 0 ≡ codeOf (verdict (forSiteAndLog table book true site log))
+    end-code = good-code (verdict (forSiteAndLog table book true site log)) (rulesOf table book) e h
 
-    judged-log : Judged n f book site × JudgedLog n f book site log
-    judged-log = let j = log-judged n f book true site log end-code refl in (j .1, j .2)
+    judged-log : Judged table book site × JudgedLog table book site log
+    judged-log = let j = log-judged table book true site log end-code refl in (j .1, j .2)
 
     pub end-sized : siteSize ≤ length site
     end-sized = judged-log .0 .sized
 
-    ruled : x ≡ rulesOf n f book
-    ruled = good-taken (verdict (forSiteAndLog n f book true site log)) (rulesOf n f book) e h .1
+    ruled : x ≡ rulesOf table book
+    ruled = good-taken (verdict (forSiteAndLog table book true site log)) (rulesOf table book) e h .1
 
-    module _ {after : List ℕ} (w : after ≡ placesAfter n f book (leb siteSize (length site)) noneNoted) where
+    module _ {after : List ℕ} (w : after ≡ placesAfter table book (leb siteSize (length site)) noneNoted) where
       -- The commands are counted and their places noted, and no row yet.
       pub end-placed : (rowsIn after ≡ replicate maxCommands 0) × (x .commands ≡ length (commandsOf book)) × Placed book after
-      end-placed = log-placed n f book true site noneNoted (omega arith) w log e h
+      end-placed = log-placed table book true site noneNoted (omega arith) w log e h
 
       pub end-ready : {noted : List ℕ} → noted ≡ take maxCommands after ++ conflictRows book
           → Good (x .table .sites) (x .commands) (take siteSize site) × (isGood (x .table) ≡ true) × Noted book noted × (length (commandsOf book) ≡ x .commands)
           × (headOf (take siteSize site) .position ≤ length log / entrySize) × (goodTo log (x .table .sites) (x .commands) (headOf (take siteSize site) .position) ≡ true)
       end-ready en = (
         subst (λ (y : Rules). Good (y .table .sites) (y .commands) (take siteSize site)) (sym ruled) (judged-log .0 .good),
-        subst (λ (y : Rules). isGood (y .table) ≡ true) (sym ruled) (judged-log .0 .table),
+        subst (λ (y : Rules). isGood (y .table) ≡ true) (sym ruled) (judged-log .0 .table-good),
         all-noted book after (end-placed .0) (end-placed .2) en,
         sym (end-placed .1),
         judged-log .1 .position,
@@ -182,12 +182,12 @@ module _ (n f : ℕ) (book site log : List ℕ) {j : Judgement}
       )
 
     pub end-done : ((i : ℕ) → getD site i 0 < 256) → {r : Verdict} {b : List ℕ} {number : ℕ}
-        → EndedBy (x .table) (commandsOf book) (logOf log) (take siteSize site) r b → number ≡ codeOf r → outcome number (b ++ drop siteSize site) ≡ roundEndCall n f book site log
+        → EndedBy (x .table) (commandsOf book) (logOf log) (take siteSize site) r b → number ≡ codeOf r → outcome number (b ++ drop siteSize site) ≡ roundEndCall table book site log
     unfolding roundEndCall
     end-done small {r} {b} o ek =
-        carried n f book site (judged-log .0 .good) small (verdict (protocol.forRoundEnd (systemOf n f book) (siteIn n f book site) (logOf log)))
-        (protocol.finish (systemOf n f book) (protocol.tallyOr (protocol.decision (systemOf n f book) (siteIn n f book site) (logOf log))) (siteIn n f book site)) (subst (λ (y : Rules). EndedBy (y .table) (commandsOf book) (logOf log) (take siteSize site) r b) ruled o) ek
+        carried table book site (judged-log .0 .good) small (verdict (protocol.forRoundEnd (systemOf table book) (siteIn table book site) (logOf log)))
+        (protocol.finish (systemOf table book) (protocol.tallyOr (protocol.decision (systemOf table book) (siteIn table book site) (logOf log))) (siteIn table book site)) (subst (λ (y : Rules). EndedBy (y .table) (commandsOf book) (logOf log) (take siteSize site) r b) ruled o) ek
         ∙ (λ i. answered
-        (sym (then-taken (forSiteAndLog n f book true site log) (protocol.forRoundEnd (systemOf n f book) (siteIn n f book site) (logOf log)) end-code refl) i)
-        (withSite n f book (spanIn site) site
-        (protocol.finish (systemOf n f book) (protocol.tallyOr (protocol.decision (systemOf n f book) (siteIn n f book site) (logOf log))) (siteIn n f book site))) site)
+        (sym (then-taken (forSiteAndLog table book true site log) (protocol.forRoundEnd (systemOf table book) (siteIn table book site) (logOf log)) end-code refl) i)
+        (withSite table book (spanIn site) site
+        (protocol.finish (systemOf table book) (protocol.tallyOr (protocol.decision (systemOf table book) (siteIn table book site) (logOf log))) (siteIn table book site))) site)

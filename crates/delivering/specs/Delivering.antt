@@ -13,24 +13,24 @@ use Rattle.entries.specs.Entries.{logOf}
 use Rattle.judging.specs.Outcomes.{Outcome, answered, _then_}
 use Rattle.judging.specs.Judging.{systemOf, spanIn, siteIn, withSite, forSite, forSiteAndLog}
 
-module _ (sites faults : ℕ) (book : List ℕ) where
+module _ (table book : List ℕ) where
   -- A command is delivered fast.
   unfoldable pub fastDeliveryCall : (site : List ℕ) (command : ℕ) → Outcome (List ℕ)
   fastDeliveryCall site command =
       answered
       (verdict
-      (forSite sites faults book true site
+      (forSite table book true site
       then ltb command (length (commandsOf book)) else Range
-      ⨾ forFastDelivery (systemOf sites faults book) command (siteIn sites faults book site)))
-      (withSite sites faults book (spanIn site) site (deliverFast (systemOf sites faults book) command (siteIn sites faults book site)))
+      ⨾ forFastDelivery (systemOf table book) command (siteIn table book site)))
+      (withSite table book (spanIn site) site (deliverFast (systemOf table book) command (siteIn table book site)))
       site
 
   -- The site's round ends.
   unfoldable pub roundEndCall : (site log : List ℕ) → Outcome (List ℕ)
   roundEndCall site log =
       answered
-      (verdict (forSiteAndLog sites faults book true site log then forRoundEnd (systemOf sites faults book) (siteIn sites faults book site) (logOf log)))
-      (withSite sites faults book (spanIn site) site
-      (finish (systemOf sites faults book) (tallyOr (decision (systemOf sites faults book) (siteIn sites faults book site) (logOf log)))
-      (siteIn sites faults book site)))
+      (verdict (forSiteAndLog table book true site log then forRoundEnd (systemOf table book) (siteIn table book site) (logOf log)))
+      (withSite table book (spanIn site) site
+      (finish (systemOf table book) (tallyOr (decision (systemOf table book) (siteIn table book site) (logOf log)))
+      (siteIn table book site)))
       site

@@ -19,31 +19,23 @@ use refusals::Verdict;
 use table::Rules;
 
 // Delivers a command fast.
-pub fn fast_delivery(
-    sites: usize,
-    faults: usize,
-    book: &[u8],
-    site: &mut [u8],
-    command: usize,
-) -> u32
-    ensures { λ r. ⌜ outcome r (now (site .exit)) ≡ fastDeliveryCall sites faults (now (book .entry)) (now (site .entry)) command ⌝ }
+pub fn fast_delivery(table: &[u8], book: &[u8], site: &mut [u8], command: usize) -> u32
+    ensures { λ r. ⌜ outcome r (now (site .exit)) ≡ fastDeliveryCall (now (table .entry)) (now (book .entry)) (now (site .entry)) command ⌝ }
 {
     let mut places = [0u64; commands::MAX_COMMANDS];
-    let judged = judging::judge_site(true, sites, faults, book, &site[..], &mut places);
+    let judged = judging::judge_site(true, table, book, &site[..], &mut places);
     let Judgement::Good(rules) = judged else {
         return judging::number(judged);
     };
-    let table = rules.table;
-    let commands = rules.commands;
-    if command >= commands {
+    if command >= rules.commands {
         return refusals::number(Refusal::Range);
     }
     let verdict = fast::fast_delivery(
         &mut site[..Site::SIZE],
-        table,
+        rules.table,
         book,
         &places,
-        commands,
+        rules.commands,
         command,
     );
     refusals::code(verdict)
@@ -58,19 +50,20 @@ fn end_round(site: &mut [u8], rules: Rules, book: &[u8], noted: &[u64], log: &[u
 {
     let table = rules.table;
     let commands = rules.commands;
-    let position = judging::position_of(&site[..]);
-    let round = layout::round(&site[..]) as usize;
+    let header = Site::read(&site[..]);
+    let position = header.position as usize;
+    let round = header.round as usize;
     let rows = &noted[commands::MAX_COMMANDS..];
     let decision = recovery::decide(log, position, round, table, rows);
     ending::round_end(site, book, noted, commands, decision)
 }
 
 // Ends the round of a waiting site.
-pub fn round_end(sites: usize, faults: usize, book: &[u8], site: &mut [u8], log: &[u8]) -> u32
-    ensures { λ r. ⌜ outcome r (now (site .exit)) ≡ roundEndCall sites faults (now (book .entry)) (now (site .entry)) (now (log .entry)) ⌝ }
+pub fn round_end(table: &[u8], book: &[u8], site: &mut [u8], log: &[u8]) -> u32
+    ensures { λ r. ⌜ outcome r (now (site .exit)) ≡ roundEndCall (now (table .entry)) (now (book .entry)) (now (site .entry)) (now (log .entry)) ⌝ }
 {
     let mut noted = [0u64; conflicts::NOTED];
-    let judged = judging::judge_site_and_log(true, sites, faults, book, &site[..], log, &mut noted);
+    let judged = judging::judge_site_and_log(true, table, book, &site[..], log, &mut noted);
     let Judgement::Good(rules) = judged else {
         return judging::number(judged);
     };

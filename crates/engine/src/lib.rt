@@ -1,16 +1,22 @@
 // The calls that change a lent site. Each judges all that it is lent, and where it refuses it leaves everything as it was.
 ghost use mathlib.Core.Path.{_≡_};
 ghost use mathlib.Core.List.{List};
+ghost use Prim.Native.Nat.{_≤_, _<_};
+ghost use lib.ListN.{length};
 ghost use Rattle.table.specs.declared.SiteTable.{SiteTable};
+ghost use Rattle.table.specs.Table.{maxSites};
+ghost use Rattle.layout.specs.Layout.{siteSize, siteRounds};
 ghost use Rattle.register.specs.declared.Command.{Command};
 ghost use Rattle.judging.specs.Outcomes.{outcome};
-ghost use Rattle.engine.specs.Calls.{freshCall, receiveCommandCall, receiveAcknowledgmentCall, receiveCheckCall, logReadCall};
+ghost use Rattle.engine.specs.Calls.{freshCall, receiveCommandCall, TookMessage, messageInRange, receiveCall, logReadCall};
 ghost use Rattle.engine.specs.Next.{nextInRangeOf, thirdOf};
 use entries::Entry;
 use judging::Judgement;
 use layout::Site;
+use message::Kind;
+use message::Message;
 use refusals::Refusal;
-use sets::Set;
+use table::Rules;
 
 // A fresh site is written: 0 or 9.
 pub fn fresh(site: &mut [u8]) -> u32
@@ -24,17 +30,11 @@ pub fn fresh(site: &mut [u8]) -> u32
 }
 
 // A command reached the site.
-pub fn receive_command(
-    sites: usize,
-    faults: usize,
-    book: &[u8],
-    site: &mut [u8],
-    command: usize,
-) -> u32
-    ensures { λ r. ⌜ outcome r (now (site .exit)) ≡ receiveCommandCall sites faults (now (book .entry)) (now (site .entry)) command ⌝ }
+pub fn receive_command(table: &[u8], book: &[u8], site: &mut [u8], command: usize) -> u32
+    ensures { λ r. ⌜ outcome r (now (site .exit)) ≡ receiveCommandCall (now (table .entry)) (now (book .entry)) (now (site .entry)) command ⌝ }
 {
     let mut places = [0u64; commands::MAX_COMMANDS];
-    let judged = judging::judge_site(true, sites, faults, book, &site[..], &mut places);
+    let judged = judging::judge_site(true, table, book, &site[..], &mut places);
     let Judgement::Good(rules) = judged else {
         return judging::number(judged);
     };
@@ -45,46 +45,44 @@ pub fn receive_command(
     0
 }
 
-// An acknowledgment reached the site: of a sender, for a round, past, present or to come.
-pub fn receive_acknowledgment(
-    sites: usize,
-    faults: usize,
-    book: &[u8],
-    site: &mut [u8],
-    sender: usize,
-    round: usize,
-    set: u64,
-) -> u32
-    ensures { λ r. ⌜ outcome r (now (site .exit)) ≡ receiveAcknowledgmentCall sites faults (now (book .entry)) (now (site .entry)) sender round set ⌝ }
+// Whether sender, round and set of a message are in range.
+fn in_range(message: Message, sender: usize, rules: Rules) -> bool
+    ensures { λ r. ⌜ r ≡ messageInRange message sender rules ⌝ }
 {
-    let mut places = [0u64; commands::MAX_COMMANDS];
-    let judged = judging::judge_site(true, sites, faults, book, &site[..], &mut places);
-    let Judgement::Good(rules) = judged else {
-        return judging::number(judged);
-    };
-    let acknowledged = Set { bits: set };
-    let known = acknowledged.within(rules.commands);
-    if !((sender < sites) & (1 <= round) & (round <= Site::ROUNDS) & known) {
-        return refusals::number(Refusal::Range);
-    }
-    site::hear(&mut site[..Site::SIZE], sender, round, acknowledged);
-    0
+    let round = message.round as usize;
+    let set = message.set;
+    let sites = rules.table.sites;
+    (sender < sites) & (1 <= round) & (round <= Site::ROUNDS) & set.within(rules.commands)
 }
 
-// A check message reached the site.
-pub fn receive_check(sites: usize, faults: usize, book: &[u8], site: &mut [u8], set: u64) -> u32
-    ensures { λ r. ⌜ outcome r (now (site .exit)) ≡ receiveCheckCall sites faults (now (book .entry)) (now (site .entry)) set ⌝ }
+// A message joins what the site has received; an acknowledgment is also kept under its sender and its own round.
+fn take_message(site: &mut [u8], sender: usize, message: Message)
+    requires { ⌜ (length (now site) ≡ siteSize) × (sender < maxSites) × (1 ≤ message .round) × (message .round ≤ siteRounds) ⌝ }
+    ensures { λ _. ⌜ TookMessage (message .kind) sender (message .round) (message .set) (now (site .entry)) (now (site .exit)) ⌝ }
+{
+    let kind = message.kind;
+    let set = message.set;
+    match kind {
+        Kind::Acknowledgment => site::hear(site, sender, message.round as usize, set),
+        Kind::Check => site::receive(site, set),
+    }
+}
+
+// A message reached the site, from a sender that the host vouches for and of a round past, present or to come.
+pub fn receive(table: &[u8], book: &[u8], site: &mut [u8], sender: usize, message: &[u8]) -> u32
+    ensures { λ r. ⌜ outcome r (now (site .exit)) ≡ receiveCall (now (table .entry)) (now (book .entry)) (now (site .entry)) sender (now (message .entry)) ⌝ }
 {
     let mut places = [0u64; commands::MAX_COMMANDS];
-    let judged = judging::judge_site(true, sites, faults, book, &site[..], &mut places);
+    let formed = Message::is_message(message);
+    let judged = judging::judge_site_and_message(formed, table, book, &site[..], &mut places);
     let Judgement::Good(rules) = judged else {
         return judging::number(judged);
     };
-    let checked = Set { bits: set };
-    if !checked.within(rules.commands) {
+    let said = Message::read(message);
+    if !in_range(said, sender, rules) {
         return refusals::number(Refusal::Range);
     }
-    site::receive(&mut site[..Site::SIZE], checked);
+    take_message(&mut site[..Site::SIZE], sender, said);
     0
 }
 
@@ -112,24 +110,16 @@ fn next_is_third(log: &[u8], position: usize) -> bool
 }
 
 // The next log entry is read.
-pub fn log_read(sites: usize, faults: usize, book: &[u8], site: &mut [u8], log: &[u8]) -> u32
-    ensures { λ r. ⌜ outcome r (now (site .exit)) ≡ logReadCall sites faults (now (book .entry)) (now (site .entry)) (now (log .entry)) ⌝ }
+pub fn log_read(table: &[u8], book: &[u8], site: &mut [u8], log: &[u8]) -> u32
+    ensures { λ r. ⌜ outcome r (now (site .exit)) ≡ logReadCall (now (table .entry)) (now (book .entry)) (now (site .entry)) (now (log .entry)) ⌝ }
 {
     let mut places = [0u64; commands::MAX_COMMANDS];
-    let judged = judging::judge_site_and_log(
-        true,
-        sites,
-        faults,
-        book,
-        &site[..],
-        log,
-        &mut places,
-    );
+    let judged = judging::judge_site_and_log(true, table, book, &site[..], log, &mut places);
     let Judgement::Good(rules) = judged else {
         return judging::number(judged);
     };
     let position = judging::position_of(&site[..Site::SIZE]);
-    if !next_in_range(log, position, sites, rules.commands) {
+    if !next_in_range(log, position, rules.table.sites, rules.commands) {
         return refusals::number(Refusal::Range);
     }
     let left = position < log.len() / Entry::BYTES;

@@ -16,8 +16,8 @@ use Rattle.refusals.specs.declared.Verdict.{Verdict}
 use Rattle.refusals.specs.declared.Verdict.the-variants.{Taken, Refused}
 use Rattle.table.specs.declared.SiteTable.{SiteTable}
 use Rattle.table.specs.declared.Judged.the-variants as judged
-use Rattle.table.specs.Table.{isGood, judgeTable}
-use Rattle.table.proofs.Laws.{judged-good as table-good, judged-refused as table-refused}
+use Rattle.table.specs.Table.{isGood, markedIn, tableAs, readMarked}
+use Rattle.table.proofs.Laws.{judged-good as table-good, judged-refused as table-refused, whole-marked}
 use Rattle.register.specs.declared.Command.{Command}
 use Rattle.commands.specs.Book.{maxCommands, readUpTo, verdictOf, judgeBook, commandsOf, measureBook, Placed, notedPlaces}
 use Rattle.commands.specs.declared.Measured.the-variants.{Commands, Unreadable}
@@ -27,7 +27,7 @@ use Rattle.theory.specs.Sets.{pick}
 use lib.Seq.{sets}
 use Rattle.wire.proofs.Laws.{part-all}
 use Rattle.protocol.specs.System.{granted, _else_⨾_, verdict}
-use Rattle.runs.specs.Run.{maxRun, headerSize, tableOf, bookSize, bookOf, stepBytes, forRun}
+use Rattle.runs.specs.Run.{maxRun, headerSize, bookSize, bookOf, stepBytes, forRun}
 use Rattle.header.specs.declared.Run.{Run}
 use Rattle.header.specs.declared.Opened.the-variants as opened
 use Rattle.header.specs.Header.{forHeader, saidBy, openedAs, judgeRun, placesAfter}
@@ -54,18 +54,25 @@ module _ (run : List ℕ) where
     pub header-cut : length run < headerSize → Refused Table ≡ verdict (forHeader run)
     header-cut h = rw (le-leb (length run) maxRun a, lt-leb headerSize (length run) h) refl
 
-    module _ (b : headerSize ≤ length run) {t : SiteTable} (e : t ≡ tableOf run) where
-      pub bad-table : {r : Refusal} → judgeTable (t .sites) (t .faults) (t .mask) ≡ judged.Refused r → Refused Table ≡ verdict (forHeader run)
-      bad-table {r} h =
-          rw (le-leb (length run) maxRun a, le-leb headerSize (length run) b, ap isGood (sym e) ∙ table-refused (t .sites) (t .faults) (t .mask) h .0) refl
+    module _ (b : headerSize ≤ length run) where
+      -- A header that is not cut has a whole table, which is judged by its limits.
+      table-whole : tableAs (isGood (markedIn run)) (markedIn run) ≡ readMarked run
+      table-whole = whole-marked run (omega arith)
 
-      module _ {u : SiteTable} (c : judgeTable (t .sites) (t .faults) (t .mask) ≡ judged.Good u) {end : ℕ} (f : end ≡ headerSize + bookSize run) where
+      pub bad-table : {r : Refusal} → readMarked run ≡ judged.Refused r → Refused Table ≡ verdict (forHeader run)
+      bad-table {r} h =
+          rw (le-leb (length run) maxRun a, le-leb headerSize (length run) b, table-refused (isGood (markedIn run)) (markedIn run) (table-whole ∙ h) .0) refl
+
+      pub good-table : {u : SiteTable} → readMarked run ≡ judged.Good u → (isGood (markedIn run) ≡ true) × (u ≡ markedIn run)
+      good-table c = table-good (isGood (markedIn run)) (markedIn run) (table-whole ∙ c)
+
+      module _ {u : SiteTable} (c : readMarked run ≡ judged.Good u) {end : ℕ} (f : end ≡ headerSize + bookSize run) where
         pub book-cut : length run < end → Refused Table ≡ verdict (forHeader run)
         book-cut h =
             rw (
               le-leb (length run) maxRun a,
               le-leb headerSize (length run) b,
-              ap isGood (sym e) ∙ table-good (t .sites) (t .faults) (t .mask) c .0,
+              good-table c .0,
               lt-leb (headerSize + bookSize run) (length run) (omega arith),
             )
             refl
@@ -75,7 +82,7 @@ module _ (run : List ℕ) where
             rw (
               le-leb (length run) maxRun a,
               le-leb headerSize (length run) b,
-              ap isGood (sym e) ∙ table-good (t .sites) (t .faults) (t .mask) c .0,
+              good-table c .0,
               le-leb (headerSize + bookSize run) (length run) (omega arith),
             )
             refl
@@ -89,7 +96,7 @@ end-inside false b c d h = absurd (let z : _≡_ {A = ℕ} 0 1 = cc in omega ari
 
 pub book-inside : (run : List ℕ) → verdict (forHeader run) ≡ Taken → headerSize + bookSize run ≤ length run
 book-inside run h =
-    leb-true (headerSize + bookSize run) (length run) (end-inside (leb (length run) maxRun) (leb headerSize (length run)) (isGood (tableOf run)) (leb (headerSize + bookSize run) (length run)) h)
+    leb-true (headerSize + bookSize run) (length run) (end-inside (leb (length run) maxRun) (leb headerSize (length run)) (isGood (markedIn run)) (leb (headerSize + bookSize run) (length run)) h)
 
 -- ---- the whole run: one law for each answer
 
@@ -118,7 +125,7 @@ module _ (run p : List ℕ) where
   pub run-refused : {r : Refusal} → verdict (forHeader run) ≡ Refused r → (opened.Refused r ≡ judgeRun run) × (p ≡ placesAfter run p)
   unfolding judgeRun placesAfter
   run-refused {r} h =
-      let e = first-refused (leb (length run) maxRun) (leb headerSize (length run)) (isGood (tableOf run)) (leb (headerSize + bookSize run) (length run)) (judgeBook (bookOf run)) h in (
+      let e = first-refused (leb (length run) maxRun) (leb headerSize (length run)) (isGood (markedIn run)) (leb (headerSize + bookSize run) (length run)) (judgeBook (bookOf run)) h in (
         ap (λ (v : Verdict). openedAs v (saidBy run)) e,
         ap (λ (v : Verdict). pick (isTaken v) (sets p 0 (notedPlaces (bookOf run))) p) (sym h),
       )
@@ -135,9 +142,9 @@ module _ (run p : List ℕ) where
     unfolding judgeBook
     by-book g =
         g ∙ ap judgeBook e ∙ book-last (readUpTo maxCommands (bookOf run))
-        ∙ first-taken (leb (length run) maxRun) (leb headerSize (length run)) (isGood (tableOf run)) (leb (headerSize + bookSize run) (length run)) (judgeBook (bookOf run)) h
+        ∙ first-taken (leb (length run) maxRun) (leb headerSize (length run)) (isGood (markedIn run)) (leb (headerSize + bookSize run) (length run)) (judgeBook (bookOf run)) h
 
-    pub run-counted : {n end : ℕ} {t : SiteTable} → measureBook b ≡ Commands n → t ≡ tableOf run → end ≡ headerSize + bookSize run
+    pub run-counted : {n end : ℕ} {t : SiteTable} → measureBook b ≡ Commands n → t ≡ markedIn run → end ≡ headerSize + bookSize run
         → (opened.Good (record { rules = record { table = t; commands = n }; steps = end }) ≡ judgeRun run) × (q ≡ placesAfter run p)
     unfolding judgeRun
     run-counted {n} {end} {t} m et ee =
@@ -154,13 +161,13 @@ module _ (run p : List ℕ) where
 
 pub record Sound (run : List ℕ) : Type 0 where
   pub size : length run ≤ maxRun
-  pub table : isGood (tableOf run) ≡ true
+  pub table : isGood (markedIn run) ≡ true
   pub end : headerSize + bookSize run ≤ length run
   pub book : judgeBook (bookOf run) ≡ Taken
 
 pub sound : (run : List ℕ) → verdict (forRun run) ≡ Taken → Sound run
 sound run h =
-    let g = go (leb (length run) maxRun) (leb headerSize (length run)) (isGood (tableOf run)) (leb (headerSize + bookSize run) (length run)) (judgeBook (bookOf run)) h in
+    let g = go (leb (length run) maxRun) (leb headerSize (length run)) (isGood (markedIn run)) (leb (headerSize + bookSize run) (length run)) (judgeBook (bookOf run)) h in
     record {
       size = leb-true (length run) maxRun (g .0);
       table = g .1 .0;
@@ -202,7 +209,7 @@ module _ (run : List ℕ) where
   judged-taken e = opened-taken (verdict (forRun run)) (saidBy run) e
 
   -- What a run that is taken says.
-  pub judged-table : {n : Run} → opened.Good n ≡ judgeRun run → n .rules .table ≡ tableOf run
+  pub judged-table : {n : Run} → opened.Good n ≡ judgeRun run → n .rules .table ≡ markedIn run
   judged-table e = ap (λ (r : Run). r .rules .table) (judged-taken e .1)
 
   pub judged-end : {n : Run} → opened.Good n ≡ judgeRun run → n .steps ≡ headerSize + bookSize run
@@ -216,7 +223,7 @@ module _ (run : List ℕ) where
   pub places-noted : (p : List ℕ) {q : List ℕ} → verdict (forRun run) ≡ Taken → maxCommands ≤ length p → q ≡ placesAfter run p → Placed (bookOf run) q
   unfolding placesAfter
   places-noted p h room e =
-      let f = header-first (leb (length run) maxRun) (leb headerSize (length run)) (isGood (tableOf run)) (leb (headerSize + bookSize run) (length run)) (judgeBook (bookOf run)) h in
+      let f = header-first (leb (length run) maxRun) (leb headerSize (length run)) (isGood (markedIn run)) (leb (headerSize + bookSize run) (length run)) (judgeBook (bookOf run)) h in
       note-noted (bookOf run) p room (taken-counted (bookOf run) (sound run h .book)) (e ∙ ap (λ (v : Verdict). pick (isTaken v) (sets p 0 (notedPlaces (bookOf run))) p) f)
 
   -- What is past the places is as it was.

@@ -10,10 +10,10 @@ use Rattle.refusals.specs.declared.Refusal.the-variants.{Table, Size}
 use Rattle.refusals.specs.declared.Verdict.{Verdict}
 use Rattle.refusals.specs.declared.Verdict.the-variants.{Taken, Refused}
 use Rattle.theory.specs.Sets.{pick}
-use Rattle.table.specs.Table.{goodTable}
+use Rattle.table.specs.Table.{isGood, markedIn}
 use Rattle.commands.specs.Book.{commandsOf, notedPlaces}
 use Rattle.protocol.specs.System.{Demands, granted, _else_⨾_, verdict}
-use Rattle.runs.specs.Run.{maxRun, headerSize, tableOf, bookSize, bookOf, forRun}
+use Rattle.runs.specs.Run.{maxRun, headerSize, bookSize, bookOf, forRun}
 use Rattle.header.specs.declared.Run.{Run}
 use Rattle.header.specs.declared.Opened.{Opened}
 use Rattle.header.specs.declared.Opened.the-variants as opened
@@ -23,13 +23,13 @@ abbrev pub forHeader : List ℕ → Demands
 forHeader run =
     leb (length run) maxRun else Size
     ⨾ leb headerSize (length run) else Table
-    ⨾ goodTable (tableOf run .sites) (tableOf run .faults) (tableOf run .mask) else Table
+    ⨾ isGood (markedIn run) else Table
     ⨾ leb (headerSize + bookSize run) (length run) else Table
     ⨾ granted
 
 -- What the header and the book of a run say.
 abbrev pub saidBy : List ℕ → Run
-saidBy run = record { rules = record { table = tableOf run; commands = length (commandsOf (bookOf run)) }; steps = headerSize + bookSize run }
+saidBy run = record { rules = record { table = markedIn run; commands = length (commandsOf (bookOf run)) }; steps = headerSize + bookSize run }
 
 -- What a run says where a verdict is taken, else the refusal.
 abbrev pub openedAs : Verdict → Run → Opened

@@ -3,7 +3,7 @@ ghost use mathlib.Core.Path.{_≡_};
 ghost use Prim.Native.Nat.{_+_, _≤_};
 ghost use lib.ListN.{length};
 ghost use Rattle.commands.specs.Book.{maxCommands};
-ghost use Rattle.runs.specs.Run.{headerSize, tableOf, bookSize};
+ghost use Rattle.runs.specs.Run.{headerSize, bookSize};
 ghost use Rattle.header.specs.Header.{judgeRun, placesAfter};
 use commands::Measured;
 use refusals::Refusal;
@@ -13,16 +13,10 @@ use table::SiteTable;
 
 // The greatest size of a run in bytes.
 pub const MAX_RUN: usize = 60000;
-// The bytes of a header: the site table in 4, the book's length in 2.
-pub const HEADER: usize = 6;
-// Where each field stands.
-const SITES: usize = 0;
-
-const FAULTS: usize = 1;
-
-const MASK: usize = 2;
-
-const BOOK_SIZE: usize = 4;
+// Where the book's length stands: after the site table with its mask.
+const BOOK_SIZE: usize = SiteTable::MARKED_BYTES;
+// The bytes of a header. The book starts after it, at byte 6.
+pub const HEADER: usize = BOOK_SIZE + 2;
 
 // What the header and the book of a run say: the rules, and where the steps start.
 pub struct Run {
@@ -34,21 +28,6 @@ pub struct Run {
 pub enum Opened {
     Good(Run),
     Refused(Refusal),
-}
-
-// The site table of a run.
-fn table_of(run: &[u8]) -> SiteTable
-    requires { ⌜ headerSize ≤ length (now run) ⌝ }
-    ensures { λ r. ⌜ r ≡ tableOf (now (run .entry)) ⌝ }
-{
-    let sites = run[SITES] as usize;
-    let faults = run[FAULTS] as usize;
-    let mask = wire::get2(run, MASK);
-    SiteTable {
-        sites,
-        faults,
-        mask,
-    }
 }
 
 // The position after the book, where the steps start.
@@ -72,9 +51,8 @@ pub fn judge_run(run: &[u8], places: &mut [u64]) -> Opened
     if n < HEADER {
         return Opened::Refused(Refusal::Table);
     }
-    let table = table_of(run);
-    let judged = SiteTable::judge(table.sites, table.faults, table.mask);
-    let Judged::Good(_) = judged else {
+    let judged = SiteTable::read_marked(run);
+    let Judged::Good(table) = judged else {
         return Opened::Refused(Refusal::Table);
     };
     let steps = book_end(run);

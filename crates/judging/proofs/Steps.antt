@@ -11,6 +11,7 @@ use Rattle.refusals.specs.declared.Verdict.{Verdict}
 use Rattle.refusals.specs.declared.Verdict.the-variants.{Taken, Refused}
 use Rattle.refusals.specs.Refusals.{codeOf, settled}
 use Rattle.table.specs.declared.SiteTable.{SiteTable}
+use Rattle.table.specs.Table.{tableIn}
 use Rattle.register.specs.declared.Command.{Command}
 use Rattle.commands.specs.Book.{commandsOf}
 use Rattle.protocol.specs.Site as protocol
@@ -20,7 +21,7 @@ use Rattle.layout.specs.Good.{Good, Holds, HoldsOver}
 use Rattle.layout.specs.Step.{Carried}
 use Rattle.layout.proofs.Encode.{spanned, encode-view}
 use Rattle.judging.specs.Outcomes.{outcome, answered}
-use Rattle.judging.specs.Judging.{tableOf, systemOf, spanIn, siteIn, withSite}
+use Rattle.judging.specs.Judging.{systemOf, spanIn, siteIn, withSite}
 
 module _ (site : List ℕ) (sized : siteSize ≤ length site) where
   -- Past a site of k rows stands what is left of its bytes, and then what is past them.
@@ -38,26 +39,26 @@ module _ (site : List ℕ) (sized : siteSize ≤ length site) where
       ∙ append-assoc (encode t book k s) (drop (rowAt k) (take siteSize site)) (drop siteSize site)
       ∙ ap (λ (x : List ℕ). encode t book k s ++ x) (past-rows k rows)
 
-module _ (n f : ℕ) (book site : List ℕ) (good : Good n (length (commandsOf book)) (take siteSize site)) (small : Small site) where
+module _ (table book site : List ℕ) (good : Good (tableIn table .sites) (length (commandsOf book)) (take siteSize site)) (small : Small site) where
   -- The site as it was.
-  pub as-before : {b : List ℕ} → HoldsOver (tableOf n f) (commandsOf book) (take siteSize site) b (siteIn n f book site) → b ++ drop siteSize site ≡ site
+  pub as-before : {b : List ℕ} → HoldsOver (tableIn table) (commandsOf book) (take siteSize site) b (siteIn table book site) → b ++ drop siteSize site ≡ site
   as-before h =
       ap (λ (x : List ℕ). x ++ drop siteSize site)
       (h .bytes
-      ∙ ap (λ (x : List ℕ). encode (tableOf n f) (commandsOf book) (spanIn site) (siteIn n f book site) ++ x) (h .past)
-      ∙ encode-view (tableOf n f) (commandsOf book) (take siteSize site) good (take-small siteSize site small))
+      ∙ ap (λ (x : List ℕ). encode (tableIn table) (commandsOf book) (spanIn site) (siteIn table book site) ++ x) (h .past)
+      ∙ encode-view (tableIn table) (commandsOf book) (take siteSize site) good (take-small siteSize site small))
       ∙ take-append-drop siteSize site
 
   -- A step that is judged.
-  pub carried : (v : Verdict) (new : protocol.Site (systemOf n f book)) {r : Verdict} {b : List ℕ} {code : ℕ}
-      → Carried (tableOf n f) (commandsOf book) v new (siteIn n f book site) (take siteSize site) r b → code ≡ codeOf r
-      → outcome code (b ++ drop siteSize site) ≡ answered v (withSite n f book (spanIn site) site new) site
+  pub carried : (v : Verdict) (new : protocol.Site (systemOf table book)) {r : Verdict} {b : List ℕ} {code : ℕ}
+      → Carried (tableIn table) (commandsOf book) v new (siteIn table book site) (take siteSize site) r b → code ≡ codeOf r
+      → outcome code (b ++ drop siteSize site) ≡ answered v (withSite table book (spanIn site) site new) site
   carried v new {r} {b} {code} h e = go v (e ∙ ap codeOf (h .answer)) (h .site)
     where
       sized : siteSize ≤ length site
       sized = let l = length-take siteSize site in let q = good .size in omega arith
 
-      go : (v : Verdict) → code ≡ codeOf v → HoldsOver (tableOf n f) (commandsOf book) (take siteSize site) b (settled v new (siteIn n f book site))
-          → outcome code (b ++ drop siteSize site) ≡ answered v (withSite n f book (spanIn site) site new) site
-      go Taken q o = λ i. outcome (q i) (written site sized (tableOf n f) (commandsOf book) o i)
+      go : (v : Verdict) → code ≡ codeOf v → HoldsOver (tableIn table) (commandsOf book) (take siteSize site) b (settled v new (siteIn table book site))
+          → outcome code (b ++ drop siteSize site) ≡ answered v (withSite table book (spanIn site) site new) site
+      go Taken q o = λ i. outcome (q i) (written site sized (tableIn table) (commandsOf book) o i)
       go (Refused x) q o = λ i. outcome (q i) (as-before o i)

@@ -1,4 +1,4 @@
-// What every call judges of what it is lent, in document 01's order: sizes (9), the site table (2), the book (1), the log's form (3), the site (4).
+// What every call judges of what it is lent, in document 01's order: sizes (9), the site table (2), the book (1), the form of a log or message (3), the site (4).
 ghost use mathlib.Core.Path.{_≡_};
 ghost use mathlib.Core.Bool.{_&&_};
 ghost use Prim.Native.Nat.{_≤_};
@@ -8,7 +8,7 @@ ghost use Rattle.commands.specs.Book.{maxCommands};
 ghost use Rattle.layout.specs.Layout.{siteSize, headOf};
 ghost use Rattle.refusals.specs.Refusals.{codeOf};
 ghost use Rattle.protocol.specs.System.{verdict};
-ghost use Rattle.judging.specs.Judging.{forTable, forBook, forRules, forSite, forSiteAndLog, rulesOf, judgedAs, numberIn, placesAfter};
+ghost use Rattle.judging.specs.Judging.{forMarked, forBook, forRules, forLent, forSite, forSiteAndMessage, forSiteAndLog, rulesOf, judgedAs, numberIn, placesAfter};
 use commands::Measured;
 use entries::Entry;
 use layout::Site;
@@ -26,11 +26,11 @@ pub enum Judgement {
     Refused(Refusal),
 }
 
-// Whether a site table is within its limits: 0 or 2.
-pub fn judge_table(sites: usize, faults: usize, mask: u16) -> u32
-    ensures { λ r. ⌜ r ≡ codeOf (verdict (forTable sites faults mask)) ⌝ }
+// Whether bytes begin with a site table, its mask included, that is within its limits: 0 or 2.
+pub fn judge_table(table: &[u8]) -> u32
+    ensures { λ r. ⌜ r ≡ codeOf (verdict (forMarked (now (table .entry)))) ⌝ }
 {
-    let judged = SiteTable::judge(sites, faults, mask);
+    let judged = SiteTable::read_marked(table);
     match judged {
         Judged::Good(_) => 0,
         Judged::Refused(refusal) => refusals::number(refusal),
@@ -50,88 +50,109 @@ pub fn judge_book(book: &[u8]) -> u32
 }
 
 // Sizes, the site table and the book: 9, 2 or 1. Where sizes and table are right, the places of the book's commands are noted.
-fn judge_rules(
-    sized: bool,
-    sites: usize,
-    faults: usize,
-    book: &[u8],
-    places: &mut [u64],
-) -> Judgement
+fn judge_rules(sized: bool, table: &[u8], book: &[u8], places: &mut [u64]) -> Judgement
     requires { ⌜ maxCommands ≤ length (now places) ⌝ }
-    ensures { λ r. ⌜ (r ≡ judgedAs (verdict (forRules sites faults (now (book .entry)) sized)) (rulesOf sites faults (now (book .entry))))
-        × (now (places .exit) ≡ placesAfter sites faults (now (book .entry)) sized (now (places .entry))) ⌝ }
+    ensures { λ r. ⌜ (r ≡ judgedAs (verdict (forRules (now (table .entry)) (now (book .entry)) sized)) (rulesOf (now (table .entry)) (now (book .entry))))
+        × (now (places .exit) ≡ placesAfter (now (table .entry)) (now (book .entry)) sized (now (places .entry))) ⌝ }
 {
     if !sized {
         return Judgement::Refused(Refusal::Size);
     }
-    let judged = SiteTable::judge(sites, faults, 0);
-    let Judged::Good(table) = judged else {
+    let judged = SiteTable::read(table);
+    let Judged::Good(found) = judged else {
         return Judgement::Refused(Refusal::Table);
     };
     let measured = commands::note(book, places);
     let Measured::Commands(commands) = measured else {
         return Judgement::Refused(Refusal::Book);
     };
-    Judgement::Good(Rules { table, commands })
+    Judgement::Good(Rules {
+        table: found,
+        commands,
+    })
 }
 
-// What a call that is lent a site judges: 9, 2, 1 or 4; `enough`: its other buffers are long enough.
-pub fn judge_site(
+// Then the form of what else is lent, and the site, its log position among so many entries: 3 or 4.
+fn judge_lent(
     enough: bool,
-    sites: usize,
-    faults: usize,
+    formed: bool,
+    entries: usize,
+    table: &[u8],
     book: &[u8],
     site: &[u8],
     places: &mut [u64],
 ) -> Judgement
     requires { ⌜ maxCommands ≤ length (now places) ⌝ }
-    ensures { λ r. ⌜ (r ≡ judgedAs (verdict (forSite sites faults (now (book .entry)) enough (now (site .entry)))) (rulesOf sites faults (now (book .entry))))
-        × (now (places .exit) ≡ placesAfter sites faults (now (book .entry)) (enough && leb siteSize (length (now (site .entry)))) (now (places .entry))) ⌝ }
+    ensures { λ r. ⌜ (r ≡ judgedAs (verdict (forLent (now (table .entry)) (now (book .entry)) enough formed entries (now (site .entry)))) (rulesOf (now (table .entry)) (now (book .entry))))
+        × (now (places .exit) ≡ placesAfter (now (table .entry)) (now (book .entry)) (enough && leb siteSize (length (now (site .entry)))) (now (places .entry))) ⌝ }
 {
     let sized = enough & (site.len() >= Site::SIZE);
-    let judged = judge_rules(sized, sites, faults, book, places);
+    let judged = judge_rules(sized, table, book, places);
     let Judgement::Good(rules) = judged else {
         return judged;
     };
-    if !lent::judge(&site[..Site::SIZE], sites, rules.commands, ANY_POSITION) {
+    if !formed {
+        return Judgement::Refused(Refusal::Form);
+    }
+    let sites = rules.table.sites;
+    if !lent::judge(&site[..Site::SIZE], sites, rules.commands, entries) {
         return Judgement::Refused(Refusal::Range);
     }
     Judgement::Good(rules)
 }
 
+// What a call that is lent a site judges: 9, 2, 1 or 4; `enough`: its other buffers are long enough.
+pub fn judge_site(
+    enough: bool,
+    table: &[u8],
+    book: &[u8],
+    site: &[u8],
+    places: &mut [u64],
+) -> Judgement
+    requires { ⌜ maxCommands ≤ length (now places) ⌝ }
+    ensures { λ r. ⌜ (r ≡ judgedAs (verdict (forSite (now (table .entry)) (now (book .entry)) enough (now (site .entry)))) (rulesOf (now (table .entry)) (now (book .entry))))
+        × (now (places .exit) ≡ placesAfter (now (table .entry)) (now (book .entry)) (enough && leb siteSize (length (now (site .entry)))) (now (places .entry))) ⌝ }
+{
+    judge_lent(enough, true, ANY_POSITION, table, book, site, places)
+}
+
+// What a call that is lent a site and a message judges: 9, 2, 1, 3 or 4; `formed`: the message has the form of one.
+pub fn judge_site_and_message(
+    formed: bool,
+    table: &[u8],
+    book: &[u8],
+    site: &[u8],
+    places: &mut [u64],
+) -> Judgement
+    requires { ⌜ maxCommands ≤ length (now places) ⌝ }
+    ensures { λ r. ⌜ (r ≡ judgedAs (verdict (forSiteAndMessage (now (table .entry)) (now (book .entry)) formed (now (site .entry)))) (rulesOf (now (table .entry)) (now (book .entry))))
+        × (now (places .exit) ≡ placesAfter (now (table .entry)) (now (book .entry)) (leb siteSize (length (now (site .entry)))) (now (places .entry))) ⌝ }
+{
+    judge_lent(true, formed, ANY_POSITION, table, book, site, places)
+}
+
 // What a call that is lent a site and the log judges: 9, 2, 1, 3 or 4.
 pub fn judge_site_and_log(
     enough: bool,
-    sites: usize,
-    faults: usize,
+    table: &[u8],
     book: &[u8],
     site: &[u8],
     log: &[u8],
     places: &mut [u64],
 ) -> Judgement
     requires { ⌜ maxCommands ≤ length (now places) ⌝ }
-    ensures { λ r. ⌜ (r ≡ judgedAs (verdict (forSiteAndLog sites faults (now (book .entry)) enough (now (site .entry)) (now (log .entry)))) (rulesOf sites faults (now (book .entry))))
-        × (now (places .exit) ≡ placesAfter sites faults (now (book .entry)) (enough && leb siteSize (length (now (site .entry)))) (now (places .entry))) ⌝ }
+    ensures { λ r. ⌜ (r ≡ judgedAs (verdict (forSiteAndLog (now (table .entry)) (now (book .entry)) enough (now (site .entry)) (now (log .entry)))) (rulesOf (now (table .entry)) (now (book .entry))))
+        × (now (places .exit) ≡ placesAfter (now (table .entry)) (now (book .entry)) (enough && leb siteSize (length (now (site .entry)))) (now (places .entry))) ⌝ }
 {
-    let sized = enough & (site.len() >= Site::SIZE);
-    let judged = judge_rules(sized, sites, faults, book, places);
+    let whole = log.len() % Entry::BYTES == 0;
+    let entries = log.len() / Entry::BYTES;
+    let judged = judge_lent(enough, whole, entries, table, book, site, places);
     let Judgement::Good(rules) = judged else {
         return judged;
     };
-    if log.len() % Entry::BYTES != 0 {
-        return Judgement::Refused(Refusal::Form);
-    }
-    let commands = rules.commands;
-    if !lent::judge(
-        &site[..Site::SIZE],
-        sites,
-        commands,
-        log.len() / Entry::BYTES,
-    ) {
-        return Judgement::Refused(Refusal::Range);
-    }
     let position = position_of(&site[..Site::SIZE]);
-    if !entries::judge_prefix(log, position, sites, commands) {
+    let sites = rules.table.sites;
+    if !entries::judge_prefix(log, position, sites, rules.commands) {
         return Judgement::Refused(Refusal::Range);
     }
     Judgement::Good(rules)
@@ -152,5 +173,6 @@ pub fn position_of(site: &[u8]) -> usize
     requires { ⌜ length (now site) ≡ siteSize ⌝ }
     ensures { λ r. ⌜ r ≡ headOf (now (site .entry)) .position ⌝ }
 {
-    layout::position(site) as usize
+    let header = Site::read(site);
+    header.position as usize
 }

@@ -23,35 +23,37 @@ use Rattle.refusals.specs.declared.Refusal.{Refusal}
 use Rattle.refusals.specs.declared.Refusal.the-variants.{Range}
 use Rattle.refusals.specs.Refusals.{numberOf, codeOf}
 use Rattle.table.specs.declared.Rules.{Rules}
-use Rattle.sets.specs.declared.Set.{Set}
-use Rattle.sets.specs.Sets.{capacity, readSet}
+use Rattle.sets.specs.Sets.{capacity}
 use Rattle.register.specs.declared.Bike.{Bike}
 use Rattle.register.specs.Register.{bikes}
 use Rattle.register.specs.Lent.{bikeSize, bikeBytes, registerOf}
-use Rattle.commands.specs.Book.{commandsOf}
 use Rattle.protocol.specs.System.{verdict, granted, _else_⨾_}
 use Rattle.protocol.specs.Site.{isWaiting, isSome}
-use Rattle.layout.specs.Layout.{siteSize, roundPlace, phasePlace, countPlace, positionPlace, ncPlace, cPlace, registerPlace, deliverySize, headOf, phaseFrom, phaseSeen, slot, deliveryOf, deliveriesOf, deliveryBytes}
-use Rattle.layout.specs.Good.{Good}
+use Rattle.layout.specs.declared.Phase.{Phase}
+use Rattle.layout.specs.declared.Phase.the-variants.{Acknowledging, Waiting}
+use Rattle.layout.specs.declared.Site.{Site}
+use Rattle.layout.specs.Layout.{siteSize, countPlace, registerPlace, deliverySize, headOf, phaseSeen, slot, deliveryOf, deliveriesOf, deliveryBytes}
 use Rattle.layout.proofs.Header.{next}
 use Rattle.layout.proofs.Deliveries.{length-deliveries}
+use Rattle.layout.proofs.Encode.{counted}
 use Rattle.judging.specs.Outcomes.{outcome, _then_}
 use Rattle.judging.specs.declared.Judgement.{Judgement}
 use Rattle.judging.specs.declared.Judgement.the-variants as judgement
 use Rattle.judging.specs.Judging.{systemOf, siteIn, rulesOf, judgedAs, numberIn, forSite}
 use Rattle.judging.proofs.Demands.{then-refused, code-refused, code-taken, last-refused, last-taken}
 use Rattle.judging.proofs.Laws.{Judged, site-judged, good-code, refused-code}
-use Rattle.looking.specs.Looking.{statusSize, statusBytes, foundBytes, statusCall, bikeCall, deliveryCall}
+use Rattle.looking.specs.Looking.{statusSize, statusBytes, phaseNumber, headStatus, foundBytes, statusCall, bikeCall, deliveryCall}
 
 -- ---- what is written
 
 module _ (o : List ℕ) where
-  pub status-written : (r p d q : ℕ) {l₁ l₂ l₃ l₄ : List ℕ} → l₁ ≡ splice o 0 (bytes 1 r) → l₂ ≡ splice l₁ 1 (bytes 1 p) → l₃ ≡ splice l₂ 2 (bytes 1 d)
-      → l₄ ≡ splice l₃ 3 (bytes 2 q) → l₄ ≡ splice o 0 (((bytes 1 r ++ bytes 1 p) ++ bytes 1 d) ++ bytes 2 q)
+  pub status-written : (h : Site) {p : ℕ} {l₁ l₂ l₃ l₄ : List ℕ} → p ≡ phaseNumber (h .phase) → l₁ ≡ splice o 0 (bytes 1 (h .round)) → l₂ ≡ splice l₁ 1 (bytes 1 p)
+      → l₃ ≡ splice l₂ 2 (bytes 1 (h .deliveries)) → l₄ ≡ splice l₃ 3 (bytes 2 (h .position)) → l₄ ≡ splice o 0 (headStatus h)
   unfolding bytes
-  status-written r p d q e₁ e₂ e₃ e₄ =
-      next o 0 ((bytes 1 r ++ bytes 1 p) ++ bytes 1 d) (bytes 2 q) 3 refl (omega arith)
-      (next o 0 (bytes 1 r ++ bytes 1 p) (bytes 1 d) 2 refl (omega arith) (next o 0 (bytes 1 r) (bytes 1 p) 1 refl (omega arith) e₁ e₂) e₃) e₄
+  status-written h {p} ep e₁ e₂ e₃ e₄ =
+      next o 0 ((bytes 1 (h .round) ++ bytes 1 p) ++ bytes 1 (h .deliveries)) (bytes 2 (h .position)) 3 refl (omega arith)
+      (next o 0 (bytes 1 (h .round) ++ bytes 1 p) (bytes 1 (h .deliveries)) 2 refl (omega arith) (next o 0 (bytes 1 (h .round)) (bytes 1 p) 1 refl (omega arith) e₁ e₂) e₃) e₄
+      ∙ (λ i. splice o 0 (((bytes 1 (h .round) ++ bytes 1 (ep i)) ++ bytes 1 (h .deliveries)) ++ bytes 2 (h .position)))
 
   pub bike-written : (e : Bike) {f : Bike} {l₁ l₂ : List ℕ} → f ≡ e → l₁ ≡ splice o 0 (bytes 4 (f .reading)) → l₂ ≡ splice l₁ 4 (bytes 4 (f .dash)) → l₂ ≡ splice o 0 (bikeBytes e)
   unfolding bytes
@@ -67,11 +69,10 @@ module _ (o : List ℕ) where
 
 -- ---- what it is of the protocol's site
 
--- The tag of a phase.
-tag-waiting : (tag : ℕ) (nc c : Set) → tag ≤ 1 → one (isWaiting (phaseSeen (phaseFrom tag nc c))) ≡ tag
-tag-waiting zero nc c h = refl
-tag-waiting (suc zero) nc c h = refl
-tag-waiting (suc (suc n)) nc c h = absurd (omega arith)
+-- The number of a phase.
+number-waiting : (p : Phase) → phaseNumber p ≡ one (isWaiting (phaseSeen p))
+number-waiting Acknowledging = refl
+number-waiting (Waiting x) = refl
 
 nth-below : (n k : ℕ) (b : List ℕ) → k < n → nth (deliveriesOf n b) k ≡ some (deliveryOf b k)
 unfolding deliveriesOf
@@ -83,125 +84,123 @@ nth-below (suc n) k b h = go (last-or-below k n h) (λ l. nth-below n k b l)
     go (inl e) r = nth-last (deliveriesOf n b) (deliveryOf b n) k (e ∙ sym (length-deliveries n b)) ∙ ap (λ (m : ℕ). some (deliveryOf b m)) (sym e)
     go (inr l) r = nth-append (deliveriesOf n b) (deliveryOf b n ∷ []) k (let z = length-deliveries n b in omega arith) ∙ r l
 
-module _ (n f : ℕ) (book site : List ℕ) where
-  status-seen : Good n (length (commandsOf book)) (take siteSize site)
-      → ((bytes 1 (readLe 1 (take siteSize site) roundPlace) ++ bytes 1 (readLe 1 (take siteSize site) phasePlace)) ++ bytes 1 (readLe 2 (take siteSize site) countPlace))
-      ++ bytes 2 (readLe 2 (take siteSize site) positionPlace)
-      ≡ statusBytes (systemOf n f book) (siteIn n f book site)
-  unfolding headOf
-  status-seen g =
+module _ (table book site : List ℕ) where
+  abbrev head : Site
+  head = headOf (take siteSize site)
+
+  status-seen : headStatus head ≡ statusBytes (systemOf table book) (siteIn table book site)
+  status-seen =
       λ i.
-      ((bytes 1 (readLe 1 (take siteSize site) roundPlace) ++ bytes 1 (sym (tag-waiting (readLe 1 (take siteSize site) phasePlace) (readSet (take siteSize site) ncPlace) (readSet (take siteSize site) cPlace) (g .tag)) i))
-      ++ bytes 1 (sym (length-deliveries (readLe 2 (take siteSize site) countPlace) (take siteSize site)) i))
-      ++ bytes 2 (readLe 2 (take siteSize site) positionPlace)
+      ((bytes 1 (head .round) ++ bytes 1 (number-waiting (head .phase) i))
+      ++ bytes 1 ((sym (counted (take siteSize site)) ∙ sym (length-deliveries (readLe 2 (take siteSize site) countPlace) (take siteSize site))) i))
+      ++ bytes 2 (head .position)
 
   -- ---- the status
 
   module _ (o : List ℕ) {j : Judgement}
-      (e : j ≡ judgedAs (verdict (forSite n f book (leb statusSize (length o)) site)) (rulesOf n f book)) where
-    pub status-refused : {r : Refusal} {k : ℕ} → j ≡ judgement.Refused r → k ≡ numberIn j → outcome k o ≡ statusCall n f book site o
+      (e : j ≡ judgedAs (verdict (forSite table book (leb statusSize (length o)) site)) (rulesOf table book)) where
+    pub status-refused : {r : Refusal} {k : ℕ} → j ≡ judgement.Refused r → k ≡ numberIn j → outcome k o ≡ statusCall table book site o
     unfolding statusCall
     status-refused h ek =
-        let w = refused-code (verdict (forSite n f book (leb statusSize (length o)) site)) (rulesOf n f book) e h ek in
-        code-refused (verdict (forSite n f book (leb statusSize (length o)) site)) _ o (w .0) (w .1)
+        let w = refused-code (verdict (forSite table book (leb statusSize (length o)) site)) (rulesOf table book) e h ek in
+        code-refused (verdict (forSite table book (leb statusSize (length o)) site)) _ o (w .0) (w .1)
 
     module _ {x : Rules} (h : j ≡ judgement.Good x) where
-      status-code : 0 ≡ codeOf (verdict (forSite n f book (leb statusSize (length o)) site))
-      status-code = good-code (verdict (forSite n f book (leb statusSize (length o)) site)) (rulesOf n f book) e h
+      status-code : 0 ≡ codeOf (verdict (forSite table book (leb statusSize (length o)) site))
+      status-code = good-code (verdict (forSite table book (leb statusSize (length o)) site)) (rulesOf table book) e h
 
-      judged : (leb statusSize (length o) ≡ true) × Judged n f book site
-      judged = site-judged n f book (leb statusSize (length o)) site status-code refl
+      judged : (leb statusSize (length o) ≡ true) × (true ≡ true) × Judged table book site
+      judged = site-judged table book (leb statusSize (length o)) true site status-code refl
 
       pub status-sized : siteSize ≤ length site
-      status-sized = judged .1 .sized
+      status-sized = judged .2 .sized
 
-      pub status-few : readLe 2 (take siteSize site) countPlace ≤ capacity
-      unfolding headOf
-      status-few = judged .1 .good .head .room
+      pub status-few : head .deliveries ≤ capacity
+      status-few = judged .2 .good .head .room
 
       pub status-room : statusSize ≤ length o
       status-room = leb-true statusSize (length o) (judged .0)
 
-      pub status-taken : {l : List ℕ} → l ≡ splice o 0
-          (((bytes 1 (readLe 1 (take siteSize site) roundPlace) ++ bytes 1 (readLe 1 (take siteSize site) phasePlace)) ++ bytes 1 (readLe 2 (take siteSize site) countPlace))
-          ++ bytes 2 (readLe 2 (take siteSize site) positionPlace))
-          → outcome 0 l ≡ statusCall n f book site o
+      pub status-taken : {l : List ℕ} → l ≡ splice o 0 (headStatus head) → outcome 0 l ≡ statusCall table book site o
       unfolding statusCall
       status-taken e =
-          (λ i. outcome 0 ((e ∙ ap (splice o 0) (status-seen (judged .1 .good))) i))
-          ∙ code-taken (verdict (forSite n f book (leb statusSize (length o)) site)) _ o status-code refl
+          (λ i. outcome 0 ((e ∙ ap (splice o 0) status-seen) i))
+          ∙ code-taken (verdict (forSite table book (leb statusSize (length o)) site)) _ o status-code refl
 
   -- ---- a bike
 
   module _ (bike : ℕ) (o : List ℕ) {j : Judgement}
-      (e : j ≡ judgedAs (verdict (forSite n f book (leb bikeSize (length o)) site)) (rulesOf n f book)) where
-    pub bike-refused : {r : Refusal} {k : ℕ} → j ≡ judgement.Refused r → k ≡ numberIn j → outcome k o ≡ bikeCall n f book site bike o
+      (e : j ≡ judgedAs (verdict (forSite table book (leb bikeSize (length o)) site)) (rulesOf table book)) where
+    pub bike-refused : {r : Refusal} {k : ℕ} → j ≡ judgement.Refused r → k ≡ numberIn j → outcome k o ≡ bikeCall table book site bike o
     unfolding bikeCall
     bike-refused h ek =
-        let w = refused-code (verdict (forSite n f book (leb bikeSize (length o)) site)) (rulesOf n f book) e h ek in
-        then-refused (forSite n f book (leb bikeSize (length o)) site) (ltb bike bikes else Range ⨾ granted) _ o (w .0) (w .1)
+        let w = refused-code (verdict (forSite table book (leb bikeSize (length o)) site)) (rulesOf table book) e h ek in
+        then-refused (forSite table book (leb bikeSize (length o)) site) (ltb bike bikes else Range ⨾ granted) _ o (w .0) (w .1)
 
     module _ {x : Rules} (h : j ≡ judgement.Good x) where
-      bike-code : 0 ≡ codeOf (verdict (forSite n f book (leb bikeSize (length o)) site))
-      bike-code = good-code (verdict (forSite n f book (leb bikeSize (length o)) site)) (rulesOf n f book) e h
+      bike-code : 0 ≡ codeOf (verdict (forSite table book (leb bikeSize (length o)) site))
+      bike-code = good-code (verdict (forSite table book (leb bikeSize (length o)) site)) (rulesOf table book) e h
 
       pub bike-sized : siteSize ≤ length site
-      bike-sized = site-judged n f book (leb bikeSize (length o)) site bike-code refl .1 .sized
+      bike-sized = site-judged table book (leb bikeSize (length o)) true site bike-code refl .2 .sized
 
       pub bike-room : bikeSize ≤ length o
-      bike-room = leb-true bikeSize (length o) (site-judged n f book (leb bikeSize (length o)) site bike-code refl .0)
+      bike-room = leb-true bikeSize (length o) (site-judged table book (leb bikeSize (length o)) true site bike-code refl .0)
 
-      pub bike-range : {k : ℕ} → bikes ≤ bike → k ≡ numberOf Range → outcome k o ≡ bikeCall n f book site bike o
+      pub bike-range : {k : ℕ} → bikes ≤ bike → k ≡ numberOf Range → outcome k o ≡ bikeCall table book site bike o
       unfolding bikeCall
-      bike-range h ek = (λ i. outcome (ek i) o) ∙ last-refused (forSite n f book (leb bikeSize (length o)) site) (ltb bike bikes) Range _ o bike-code refl (le-ltb bike bikes h)
+      bike-range h ek = (λ i. outcome (ek i) o) ∙ last-refused (forSite table book (leb bikeSize (length o)) site) (ltb bike bikes) Range _ o bike-code refl (le-ltb bike bikes h)
 
-      pub bike-taken : bike < bikes → {l : List ℕ} → l ≡ splice o 0 (bikeBytes (registerOf (take siteSize site) registerPlace bike)) → outcome 0 l ≡ bikeCall n f book site bike o
+      pub bike-taken : bike < bikes → {l : List ℕ} → l ≡ splice o 0 (bikeBytes (registerOf (take siteSize site) registerPlace bike)) → outcome 0 l ≡ bikeCall table book site bike o
       unfolding bikeCall
       bike-taken h e =
           (λ i. outcome 0 (e i))
-          ∙ last-taken (forSite n f book (leb bikeSize (length o)) site) (ltb bike bikes) Range _ o bike-code refl (lt-ltb bike bikes h)
+          ∙ last-taken (forSite table book (leb bikeSize (length o)) site) (ltb bike bikes) Range _ o bike-code refl (lt-ltb bike bikes h)
 
   -- ---- a delivery
 
   module _ (i : ℕ) (o : List ℕ) {j : Judgement}
-      (e : j ≡ judgedAs (verdict (forSite n f book (leb deliverySize (length o)) site)) (rulesOf n f book)) where
-    pub delivery-refused : {r : Refusal} {k : ℕ} → j ≡ judgement.Refused r → k ≡ numberIn j → outcome k o ≡ deliveryCall n f book site i o
+      (e : j ≡ judgedAs (verdict (forSite table book (leb deliverySize (length o)) site)) (rulesOf table book)) where
+    pub delivery-refused : {r : Refusal} {k : ℕ} → j ≡ judgement.Refused r → k ≡ numberIn j → outcome k o ≡ deliveryCall table book site i o
     unfolding deliveryCall
     delivery-refused h ek =
-        let w = refused-code (verdict (forSite n f book (leb deliverySize (length o)) site)) (rulesOf n f book) e h ek in
-        then-refused (forSite n f book (leb deliverySize (length o)) site)
+        let w = refused-code (verdict (forSite table book (leb deliverySize (length o)) site)) (rulesOf table book) e h ek in
+        then-refused (forSite table book (leb deliverySize (length o)) site)
         (isSome (nth (deliveriesOf (readLe 2 (take siteSize site) countPlace) (take siteSize site)) i) else Range ⨾ granted) _ o (w .0) (w .1)
 
     module _ {x : Rules} (h : j ≡ judgement.Good x) where
-      delivery-code : 0 ≡ codeOf (verdict (forSite n f book (leb deliverySize (length o)) site))
-      delivery-code = good-code (verdict (forSite n f book (leb deliverySize (length o)) site)) (rulesOf n f book) e h
+      delivery-code : 0 ≡ codeOf (verdict (forSite table book (leb deliverySize (length o)) site))
+      delivery-code = good-code (verdict (forSite table book (leb deliverySize (length o)) site)) (rulesOf table book) e h
 
       pub delivery-sized : siteSize ≤ length site
-      delivery-sized = site-judged n f book (leb deliverySize (length o)) site delivery-code refl .1 .sized
+      delivery-sized = site-judged table book (leb deliverySize (length o)) true site delivery-code refl .2 .sized
 
       pub delivery-room : deliverySize ≤ length o
-      delivery-room = leb-true deliverySize (length o) (site-judged n f book (leb deliverySize (length o)) site delivery-code refl .0)
+      delivery-room = leb-true deliverySize (length o) (site-judged table book (leb deliverySize (length o)) true site delivery-code refl .0)
 
-      module _ {count : ℕ} (ec : count ≡ readLe 2 (take siteSize site) countPlace) where
+      module _ {count : ℕ} (eh : count ≡ head .deliveries) where
+        ec : count ≡ readLe 2 (take siteSize site) countPlace
+        ec = eh ∙ sym (counted (take siteSize site))
+
         pub delivery-below : i < count → i < capacity
         unfolding headOf
-        delivery-below h = let r = site-judged n f book (leb deliverySize (length o)) site delivery-code refl .1 .good .head .room in omega arith
+        delivery-below h = let r = site-judged table book (leb deliverySize (length o)) true site delivery-code refl .2 .good .head .room in omega arith
 
-        pub delivery-range : {k : ℕ} → count ≤ i → k ≡ numberOf Range → outcome k o ≡ deliveryCall n f book site i o
+        pub delivery-range : {k : ℕ} → count ≤ i → k ≡ numberOf Range → outcome k o ≡ deliveryCall table book site i o
         unfolding deliveryCall
         delivery-range h ek =
             (λ j. outcome (ek j) o)
-            ∙ last-refused (forSite n f book (leb deliverySize (length o)) site)
+            ∙ last-refused (forSite table book (leb deliverySize (length o)) site)
             (isSome (nth (deliveriesOf (readLe 2 (take siteSize site) countPlace) (take siteSize site)) i)) Range _ o delivery-code refl
             (ap isSome (nth-end (deliveriesOf (readLe 2 (take siteSize site) countPlace) (take siteSize site)) i
-            (let e = length-deliveries (readLe 2 (take siteSize site) countPlace) (take siteSize site) in omega arith)))
+            (let e = length-deliveries (readLe 2 (take siteSize site) countPlace) (take siteSize site) in omega (arith, ec))))
 
         pub delivery-taken : i < count → {l : List ℕ} → l ≡ splice o 0 (deliveryBytes (deliveryOf (take siteSize site) i .command) (deliveryOf (take siteSize site) i .answer))
-            → outcome 0 l ≡ deliveryCall n f book site i o
+            → outcome 0 l ≡ deliveryCall table book site i o
         unfolding deliveryCall
         delivery-taken h e =
-            let found = nth-below (readLe 2 (take siteSize site) countPlace) i (take siteSize site) (omega arith) in
+            let found = nth-below (readLe 2 (take siteSize site) countPlace) i (take siteSize site) (omega (arith, ec)) in
             (λ j. outcome 0 ((e ∙ ap (λ (x : Option (Delivery ℤ)). splice o 0 (foundBytes x)) (sym found)) j))
-            ∙ last-taken (forSite n f book (leb deliverySize (length o)) site)
+            ∙ last-taken (forSite table book (leb deliverySize (length o)) site)
             (isSome (nth (deliveriesOf (readLe 2 (take siteSize site) countPlace) (take siteSize site)) i)) Range _ o delivery-code refl
             (ap isSome found)

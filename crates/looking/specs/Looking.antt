@@ -15,6 +15,9 @@ use Rattle.register.specs.Register.{bikes}
 use Rattle.register.specs.Lent.{bikeSize, bikeBytes}
 use Rattle.protocol.specs.System.{System, granted, _else_⨾_, verdict}
 use Rattle.protocol.specs.Site.{Site, isWaiting, isSome}
+use Rattle.layout.specs.declared.Phase.{Phase}
+use Rattle.layout.specs.declared.Phase.the-variants.{Acknowledging, Waiting}
+use Rattle.layout.specs.declared.Site as layout
 use Rattle.layout.specs.Layout.{deliverySize, deliveryBytes}
 use Rattle.judging.specs.Outcomes.{Outcome, answered, _then_}
 use Rattle.judging.specs.Judging.{systemOf, siteIn, forSite}
@@ -27,28 +30,36 @@ statusSize = 5
 abbrev pub statusBytes : (S : System) → Site S → List ℕ
 statusBytes S s = ((bytes 1 (s .round) ++ bytes 1 (one (isWaiting (s .phase)))) ++ bytes 1 (length (s .ledger .deliveries))) ++ bytes 2 (s .position)
 
+-- The same of the header that is read of its bytes.
+abbrev pub phaseNumber : Phase → ℕ
+phaseNumber Acknowledging = 0
+phaseNumber (Waiting p) = 1
+
+abbrev pub headStatus : layout.Site → List ℕ
+headStatus h = ((bytes 1 (h .round) ++ bytes 1 (phaseNumber (h .phase))) ++ bytes 1 (h .deliveries)) ++ bytes 2 (h .position)
+
 -- Command and answer of a delivery, where there is one.
 abbrev pub foundBytes : Option (Delivery ℤ) → List ℕ
 foundBytes none = []
 foundBytes (some d) = deliveryBytes (d .command) (d .answer)
 
-module _ (sites faults : ℕ) (book : List ℕ) where
+module _ (table book : List ℕ) where
   unfoldable pub statusCall : (site status : List ℕ) → Outcome (List ℕ)
   statusCall site status =
-      answered (verdict (forSite sites faults book (leb statusSize (length status)) site))
-      (splice status 0 (statusBytes (systemOf sites faults book) (siteIn sites faults book site)))
+      answered (verdict (forSite table book (leb statusSize (length status)) site))
+      (splice status 0 (statusBytes (systemOf table book) (siteIn table book site)))
       status
 
   -- What the register holds of a bike.
   unfoldable pub bikeCall : (site : List ℕ) (bike : ℕ) (out : List ℕ) → Outcome (List ℕ)
   bikeCall site bike out =
-      answered (verdict (forSite sites faults book (leb bikeSize (length out)) site then ltb bike bikes else Range ⨾ granted))
-      (splice out 0 (bikeBytes (siteIn sites faults book site .ledger .state bike)))
+      answered (verdict (forSite table book (leb bikeSize (length out)) site then ltb bike bikes else Range ⨾ granted))
+      (splice out 0 (bikeBytes (siteIn table book site .ledger .state bike)))
       out
 
   -- The k-th delivery.
   unfoldable pub deliveryCall : (site : List ℕ) (k : ℕ) (out : List ℕ) → Outcome (List ℕ)
   deliveryCall site k out =
-      answered (verdict (forSite sites faults book (leb deliverySize (length out)) site then isSome (nth (siteIn sites faults book site .ledger .deliveries) k) else Range ⨾ granted))
-      (splice out 0 (foundBytes (nth (siteIn sites faults book site .ledger .deliveries) k)))
+      answered (verdict (forSite table book (leb deliverySize (length out)) site then isSome (nth (siteIn table book site .ledger .deliveries) k) else Range ⨾ granted))
+      (splice out 0 (foundBytes (nth (siteIn table book site .ledger .deliveries) k)))
       out

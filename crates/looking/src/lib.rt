@@ -1,16 +1,16 @@
 // The calls that look at a lent site: its status, a bike of its register, a delivery. Each judges what it is lent and writes what it finds.
 ghost use mathlib.Core.Path.{_≡_};
-ghost use mathlib.Core.List.{_++_};
 ghost use Prim.Native.Nat.{_≤_, _<_};
 ghost use lib.ListN.{length};
-ghost use Rattle.wire.specs.Wire.{bytes, readLe, splice};
+ghost use Rattle.wire.specs.Wire.{splice};
 ghost use Rattle.sets.specs.Sets.{capacity};
 ghost use Rattle.register.specs.Register.{bikes};
 ghost use Rattle.register.specs.Lent.{bikeSize, registerOf, bikeBytes};
-ghost use Rattle.layout.specs.Layout.{siteSize, roundPlace, phasePlace, countPlace, positionPlace, registerPlace, deliverySize, deliveryOf, deliveryBytes};
+ghost use Rattle.layout.specs.Layout.{siteSize, headOf, registerPlace, deliverySize, deliveryOf, deliveryBytes};
 ghost use Rattle.judging.specs.Outcomes.{outcome};
-ghost use Rattle.looking.specs.Looking.{statusSize, statusCall, bikeCall, deliveryCall};
+ghost use Rattle.looking.specs.Looking.{statusSize, phaseNumber, headStatus, statusCall, bikeCall, deliveryCall};
 use judging::Judgement;
+use layout::Phase;
 use layout::Site;
 use refusals::Refusal;
 use register::Bike;
@@ -18,30 +18,36 @@ use register::Bike;
 // The bytes of a status: round, phase, number of deliveries, log position.
 pub const STATUS_BYTES: usize = 5;
 
-// The numbers of a site's header are written.
-fn write_status(site: &[u8], out: &mut [u8])
-    requires { ⌜ (length (now site) ≡ siteSize) × (readLe 2 (now site) countPlace ≤ capacity) × (statusSize ≤ length (now out)) ⌝ }
-    ensures { λ _. ⌜ now (out .exit) ≡ splice (now (out .entry)) 0
-        (((bytes 1 (readLe 1 (now (site .entry)) roundPlace) ++ bytes 1 (readLe 1 (now (site .entry)) phasePlace))
-        ++ bytes 1 (readLe 2 (now (site .entry)) countPlace)) ++ bytes 2 (readLe 2 (now (site .entry)) positionPlace)) ⌝ }
+// The number that a status has for a phase.
+fn phase_number(phase: Phase) -> u8
+    ensures { λ r. ⌜ r ≡ phaseNumber phase ⌝ }
 {
-    let round = wire::get1(site, Site::ROUND);
-    let phase = wire::get1(site, Site::PHASE);
-    let deliveries = wire::get2(site, Site::COUNT) as u8;
-    let position = wire::get2(site, Site::POSITION);
-    wire::put1(out, 0, round);
-    wire::put1(out, 1, phase);
-    wire::put1(out, 2, deliveries);
-    wire::put2(out, 3, position);
+    match phase {
+        Phase::Acknowledging => 0,
+        Phase::Waiting(_) => 1,
+    }
+}
+
+// The status of a site is written.
+fn write_status(site: &[u8], out: &mut [u8])
+    requires { ⌜ (length (now site) ≡ siteSize) × (headOf (now site) .deliveries ≤ capacity) × (statusSize ≤ length (now out)) ⌝ }
+    ensures { λ _. ⌜ now (out .exit) ≡ splice (now (out .entry)) 0 (headStatus (headOf (now (site .entry)))) ⌝ }
+{
+    let header = Site::read(site);
+    let phase = header.phase;
+    wire::put1(out, 0, header.round);
+    wire::put1(out, 1, phase_number(phase));
+    wire::put1(out, 2, header.deliveries as u8);
+    wire::put2(out, 3, header.position);
 }
 
 // A site's status is written: round (1), phase (1: 0 acknowledging, 1 waiting), number of deliveries (1), log position (2).
-pub fn status(sites: usize, faults: usize, book: &[u8], site: &[u8], out: &mut [u8]) -> u32
-    ensures { λ r. ⌜ outcome r (now (out .exit)) ≡ statusCall sites faults (now (book .entry)) (now (site .entry)) (now (out .entry)) ⌝ }
+pub fn status(table: &[u8], book: &[u8], site: &[u8], out: &mut [u8]) -> u32
+    ensures { λ r. ⌜ outcome r (now (out .exit)) ≡ statusCall (now (table .entry)) (now (book .entry)) (now (site .entry)) (now (out .entry)) ⌝ }
 {
     let enough = out.len() >= STATUS_BYTES;
     let mut places = [0u64; commands::MAX_COMMANDS];
-    let judged = judging::judge_site(enough, sites, faults, book, site, &mut places);
+    let judged = judging::judge_site(enough, table, book, site, &mut places);
     if let Judgement::Refused(_) = judged {
         return judging::number(judged);
     }
@@ -60,19 +66,12 @@ fn write_bike(site: &[u8], bike: usize, out: &mut [u8])
 }
 
 // A bike's reading (4) and dash (4) are written.
-pub fn bike(
-    sites: usize,
-    faults: usize,
-    book: &[u8],
-    site: &[u8],
-    bike: usize,
-    out: &mut [u8],
-) -> u32
-    ensures { λ r. ⌜ outcome r (now (out .exit)) ≡ bikeCall sites faults (now (book .entry)) (now (site .entry)) bike (now (out .entry)) ⌝ }
+pub fn bike(table: &[u8], book: &[u8], site: &[u8], bike: usize, out: &mut [u8]) -> u32
+    ensures { λ r. ⌜ outcome r (now (out .exit)) ≡ bikeCall (now (table .entry)) (now (book .entry)) (now (site .entry)) bike (now (out .entry)) ⌝ }
 {
     let enough = out.len() >= Bike::SIZE;
     let mut places = [0u64; commands::MAX_COMMANDS];
-    let judged = judging::judge_site(enough, sites, faults, book, site, &mut places);
+    let judged = judging::judge_site(enough, table, book, site, &mut places);
     if let Judgement::Refused(_) = judged {
         return judging::number(judged);
     }
@@ -86,10 +85,10 @@ pub fn bike(
 // How many deliveries a site has recorded.
 fn count(site: &[u8]) -> usize
     requires { ⌜ length (now site) ≡ siteSize ⌝ }
-    ensures { λ r. ⌜ r ≡ readLe 2 (now (site .entry)) countPlace ⌝ }
+    ensures { λ r. ⌜ r ≡ headOf (now (site .entry)) .deliveries ⌝ }
 {
-    let deliveries = wire::get2(site, Site::COUNT);
-    deliveries as usize
+    let header = Site::read(site);
+    header.deliveries as usize
 }
 
 // The k-th delivery is written.
@@ -105,19 +104,12 @@ fn write_delivery(site: &[u8], k: usize, out: &mut [u8])
 }
 
 // The k-th delivery, from 0, is written: command (1) and answer (4).
-pub fn delivery(
-    sites: usize,
-    faults: usize,
-    book: &[u8],
-    site: &[u8],
-    k: usize,
-    out: &mut [u8],
-) -> u32
-    ensures { λ r. ⌜ outcome r (now (out .exit)) ≡ deliveryCall sites faults (now (book .entry)) (now (site .entry)) k (now (out .entry)) ⌝ }
+pub fn delivery(table: &[u8], book: &[u8], site: &[u8], k: usize, out: &mut [u8]) -> u32
+    ensures { λ r. ⌜ outcome r (now (out .exit)) ≡ deliveryCall (now (table .entry)) (now (book .entry)) (now (site .entry)) k (now (out .entry)) ⌝ }
 {
     let enough = out.len() >= Site::DELIVERY;
     let mut places = [0u64; commands::MAX_COMMANDS];
-    let judged = judging::judge_site(enough, sites, faults, book, site, &mut places);
+    let judged = judging::judge_site(enough, table, book, site, &mut places);
     if let Judgement::Refused(_) = judged {
         return judging::number(judged);
     }

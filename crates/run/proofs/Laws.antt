@@ -16,7 +16,7 @@ use Rattle.theory.specs.Sets.{pick}
 use Rattle.theory.specs.Counting.{both as both-true, left, right, never}
 use Rattle.wire.specs.Wire.{readLe, splice}
 use Rattle.table.specs.declared.SiteTable.{SiteTable}
-use Rattle.table.specs.Table.{isGood, faultyCountOf}
+use Rattle.table.specs.Table.{isGood, faultyCountOf, markedIn}
 use Rattle.table.proofs.Laws.{good-limits, good-few}
 use Rattle.register.specs.declared.Command.{Command}
 use Rattle.commands.specs.Book.{maxCommands, commandsOf, Placed}
@@ -36,7 +36,7 @@ use Rattle.header.specs.declared.Run.{Run}
 use Rattle.header.specs.declared.Opened.the-variants as opened
 use Rattle.header.specs.Header.{judgeRun, placesAfter}
 use Rattle.header.proofs.Laws.{Sound, judged-taken, places-noted, past-places}
-use Rattle.runs.specs.Run.{maxRun, headerSize, bookSize, tableOf, bookOf, stepBytes, forRun, siteLines, played, printAs, printOf}
+use Rattle.runs.specs.Run.{maxRun, headerSize, bookSize, bookOf, stepBytes, forRun, siteLines, played, printAs, printOf}
 use Rattle.layout.specs.Layout.{siteAt, siteSize, spanPlace}
 use Rattle.world.specs.World.{Buffers, HoldsWorld}
 use Rattle.world.specs.Started.{Started}
@@ -124,7 +124,7 @@ module _ (run : List ℕ) where
   unfolding printOf
   print-refused {s} {after} {end} r e q w = subst (λ (l : List ℕ). Wrote after end s 0 l) (ap refusedLine q ∙ sym (ap (printAs run) e)) w
 
-  pub print-taken : {s after : List ℕ} {end : ℕ} {t : SiteTable} {book steps : List ℕ} → verdict (forRun run) ≡ Taken → t ≡ tableOf run → book ≡ bookOf run → steps ≡ stepBytes run
+  pub print-taken : {s after : List ℕ} {end : ℕ} {t : SiteTable} {book steps : List ℕ} → verdict (forRun run) ≡ Taken → t ≡ markedIn run → book ≡ bookOf run → steps ≡ stepBytes run
       → Wrote after end s 0 (played t (commandsOf book) (stepsOf steps)) → Wrote after end s 0 (printOf run)
   unfolding printOf
   print-taken {s} {after} {end} e et eb es w =
@@ -181,7 +181,7 @@ module _ (run : List ℕ) (w : Working) (out : List ℕ) where
         worked = λ e. absurd (never (isTaken (verdict (forRun run))) (right (isRoomy w out) (isTaken (verdict (forRun run))) e) (ap isTaken h));
       }
 
-  pub played-left : {t : SiteTable} {book steps : List ℕ} {after : Working} → isRoomy w out ≡ true → verdict (forRun run) ≡ Taken → t ≡ tableOf run → book ≡ bookOf run
+  pub played-left : {t : SiteTable} {book steps : List ℕ} {after : Working} → isRoomy w out ≡ true → verdict (forRun run) ≡ Taken → t ≡ markedIn run → book ≡ bookOf run
       → steps ≡ stepBytes run → Worked t (commandsOf book) (stepsOf steps) w after → Left run w out after
   played-left {t} {book} {steps} {after} room h et eb es x =
       record {

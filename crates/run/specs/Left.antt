@@ -12,7 +12,8 @@ use Rattle.commands.specs.Book.{commandsOf}
 use Rattle.protocol.specs.System.{verdict}
 use Rattle.steps.specs.declared.Reading.{Reading}
 use Rattle.steps.specs.Steps.{stepsOf}
-use Rattle.runs.specs.Run.{tableOf, bookOf, stepBytes, forRun}
+use Rattle.table.specs.Table.{markedIn}
+use Rattle.runs.specs.Run.{bookOf, stepBytes, forRun}
 use Rattle.wire.specs.Wire.{readLe}
 use Rattle.layout.specs.Layout.{siteAt, siteSize, spanPlace, rowAt}
 use Rattle.sent.specs.Sent.{sentSize}
@@ -41,4 +42,4 @@ isPlayed run w out = isRoomy w out && isTaken (verdict (forRun run))
 -- The working memory after a call: as it was, or with the world that the run has led to.
 pub record Left (run : List ℕ) (before : Working) (out : List ℕ) (after : Working) : Type 0 where
   pub kept : isPlayed run before out ≡ false → after ≡ before
-  pub worked : isPlayed run before out ≡ true → Worked (tableOf run) (commandsOf (bookOf run)) (stepsOf (stepBytes run)) before after
+  pub worked : isPlayed run before out ≡ true → Worked (markedIn run) (commandsOf (bookOf run)) (stepsOf (stepBytes run)) before after

@@ -4,7 +4,7 @@ use mathlib.Core.Bool.{Bool, true, false}
 use mathlib.Core.List.{List, [], _∷_, _++_}
 use Prim.Native.Nat.{ℕ, zero, suc, _+_}
 use lib.Dec.{leb}
-use lib.ListN.{length, take, drop, getD}
+use lib.ListN.{length, take, drop}
 use Rattle.refusals.specs.Refusals.{numberOf, isTaken}
 use Rattle.refusals.specs.declared.Refusal.the-variants.{Book, Table, Size, Form}
 use Rattle.refusals.specs.declared.Verdict.{Verdict}
@@ -12,7 +12,7 @@ use Rattle.refusals.specs.declared.Verdict.the-variants.{Taken, Refused}
 use Rattle.wire.specs.Wire.{readLe}
 use Rattle.theory.specs.Sets.{pick}
 use Rattle.table.specs.declared.SiteTable.{SiteTable}
-use Rattle.table.specs.Table.{goodTable, faultyCountOf}
+use Rattle.table.specs.Table.{isGood, markedSize, markedIn, faultyCountOf}
 use Rattle.register.specs.declared.Command.{Command}
 use Rattle.commands.specs.Book.{judgeBook, commandsOf}
 use Rattle.protocol.specs.System.{System, Demands, granted, _else_⨾_, verdict, correct}
@@ -28,16 +28,12 @@ use Rattle.lines.specs.Lines.{runLine, stepLine, refusedLine, siteLine}
 abbrev pub maxRun : ℕ
 maxRun = 60000
 
--- The site table and the book's length.
+-- The site table with its mask, and the book's length in 2 bytes.
 abbrev pub headerSize : ℕ
-headerSize = 6
-
--- n, f, the mask of faulty sites, the book's length in bytes.
-abbrev pub tableOf : List ℕ → SiteTable
-tableOf run = record { sites = getD run 0 0; faults = getD run 1 0; mask = readLe 2 run 2 }
+headerSize = markedSize + 2
 
 abbrev pub bookSize : List ℕ → ℕ
-bookSize run = readLe 2 run 4
+bookSize run = readLe 2 run markedSize
 
 -- The book is the part of the run that starts at byte 6.
 abbrev pub bookOf : List ℕ → List ℕ
@@ -52,7 +48,7 @@ abbrev pub forRun : List ℕ → Demands
 forRun run =
     leb (length run) maxRun else Size
     ⨾ leb headerSize (length run) else Table
-    ⨾ goodTable (tableOf run .sites) (tableOf run .faults) (tableOf run .mask) else Table
+    ⨾ isGood (markedIn run) else Table
     ⨾ leb (headerSize + bookSize run) (length run) else Table
     ⨾ isTaken (judgeBook (bookOf run)) else Book
     ⨾ granted
@@ -91,7 +87,7 @@ module _ (t : SiteTable) (book : List Command) where
 
 -- What a run prints, by the verdict on it.
 abbrev pub printAs : List ℕ → Verdict → List ℕ
-printAs run Taken = played (tableOf run) (commandsOf (bookOf run)) (stepsOf (stepBytes run))
+printAs run Taken = played (markedIn run) (commandsOf (bookOf run)) (stepsOf (stepBytes run))
 printAs run (Refused r) = refusedLine (numberOf r)
 
 unfoldable pub printOf : List ℕ → List ℕ

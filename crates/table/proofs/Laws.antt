@@ -1,24 +1,27 @@
--- What the limits of a site table give: the quorum inequalities, and few faulty sites.
+-- What the limits of a site table give: the quorum inequalities, and few faulty sites; and what a table that is read of bytes is judged to be.
 -- Assumes nothing.
-use mathlib.Core.Path.{_≡_, refl, subst}
-use mathlib.Core.Bool.{Bool, true, false, cond, _&&_}
+use mathlib.Core.Path.{_≡_, refl, sym, subst, _∙_}
+use mathlib.Core.Bool.{Bool, true, false, _&&_}
+use mathlib.Core.List.{List}
 use Prim.Native.Nat.{ℕ, _+_, _-_, _*_, _/_, _^_, _≤_, _<_}
 use native.Mathlib.Nat.{div-eq-of-lt, div-lt-iff-lt-mul, one-mul}
 use native.Mathlib.Omega.{arith}
 use mathlib.Core.Logic.{inl, inr, _⊎_}
 use lib.Dec.{leb, ltb}
+use lib.ListN.{length}
 use lib.Pow.{pow-pos}
 use lib.Count.{ones}
 use borrow.Author.Tests.{lt-ltb, le-ltb, le-leb, lt-leb, leb-true, ltb-true}
 use Rattle.theory.specs.Sets.{count}
 use Rattle.theory.specs.Counting.{left, right, lt-or-le}
 use Rattle.theory.specs.Quorums.{Quorums}
+use Rattle.wire.specs.Wire.{readLe}
 use Rattle.sets.specs.Sets.{has}
 use Rattle.sets.proofs.Laws.{ones-count}
 use Rattle.refusals.specs.declared.Refusal.{Refusal}
 use Rattle.refusals.specs.declared.Refusal.the-variants.{Table}
 use Rattle.table.specs.declared.Judged.the-variants.{Good, Refused}
-use Rattle.table.specs.Table.{maxSites, maxFaults, goodTable, isGood, judgeTable, roundedUpHalf, faultyCountOf, nAckOf, nChkOf, majorityOf}
+use Rattle.table.specs.Table.{maxSites, maxFaults, goodTable, isGood, tableSize, markedSize, tableWith, tableIn, markedIn, tableAs, readTable, readMarked, roundedUpHalf, faultyCountOf, nAckOf, nChkOf, majorityOf}
 use Rattle.table.specs.declared.SiteTable.{SiteTable}
 
 -- The limits, one by one.
@@ -69,21 +72,38 @@ good-quorums t h = table-quorums (t .sites) (t .faults) (t .mask) h
 pub good-few : (t : SiteTable) → isGood t ≡ true → faultyCountOf t ≤ t .faults
 good-few t h = good-limits t h .few
 
--- A table that was judged good is within the limits, and has the numbers that were judged.
-pub judged-good : (n f mask : ℕ) {t : SiteTable} → judgeTable n f mask ≡ Good t → (goodTable n f mask ≡ true) × (t ≡ record { sites = n; faults = f; mask = mask })
-judged-good n f mask {t} = go (goodTable n f mask)
-  where
-    go : (b : Bool) → cond b (Good (record { sites = n; faults = f; mask = mask })) (Refused Table) ≡ Good t → (b ≡ true) × (t ≡ record { sites = n; faults = f; mask = mask })
-    go true h = (refl, cc)
-    go false h = absurd (let z : _≡_ {A = ℕ} 0 1 = cc in omega arith)
+-- A table that was judged good is good, and the table that is told.
+pub judged-good : (g : Bool) (u : SiteTable) {t : SiteTable} → tableAs g u ≡ Good t → (g ≡ true) × (t ≡ u)
+judged-good true u h = (refl, cc)
+judged-good false u h = absurd (let z : _≡_ {A = ℕ} 0 1 = cc in omega arith)
 
 -- One that was refused is not, and the refusal is that of a table.
-pub judged-refused : (n f mask : ℕ) {r : Refusal} → judgeTable n f mask ≡ Refused r → (goodTable n f mask ≡ false) × (r ≡ Table)
-judged-refused n f mask {r} = go (goodTable n f mask)
-  where
-    go : (b : Bool) → cond b (Good (record { sites = n; faults = f; mask = mask })) (Refused Table) ≡ Refused r → (b ≡ false) × (r ≡ Table)
-    go true h = absurd (let z : _≡_ {A = ℕ} 0 1 = cc in omega arith)
-    go false h = (refl, cc)
+pub judged-refused : (g : Bool) (u : SiteTable) {r : Refusal} → tableAs g u ≡ Refused r → (g ≡ false) × (r ≡ Table)
+judged-refused true u h = absurd (let z : _≡_ {A = ℕ} 0 1 = cc in omega arith)
+judged-refused false u h = (refl, cc)
+
+-- ---- the table in bytes
+
+module _ (b : List ℕ) (mask : ℕ) {n f : ℕ} (en : n ≡ readLe 1 b 0) (ef : f ≡ readLe 1 b 1) where
+  pub within-good : goodTable n f mask ≡ true → Good (record { sites = n; faults = f; mask = mask }) ≡ tableAs (isGood (tableWith b mask)) (tableWith b mask)
+  within-good h = (λ i. tableAs (sym h i) (record { sites = n; faults = f; mask = mask })) ∙ (λ i. tableAs (goodTable (en i) (ef i) mask) (record { sites = en i; faults = ef i; mask = mask }))
+
+  pub within-bad : goodTable n f mask ≡ false → Refused Table ≡ tableAs (isGood (tableWith b mask)) (tableWith b mask)
+  within-bad h = (λ i. tableAs (sym h i) (tableWith b mask)) ∙ (λ i. tableAs (goodTable (en i) (ef i) mask) (tableWith b mask))
+
+-- Bytes that are too short for a table have none that is good.
+pub cut-table : (b : List ℕ) → length b < tableSize → Refused Table ≡ readTable b
+cut-table b h = rw (lt-leb tableSize (length b) h) refl
+
+pub cut-marked : (b : List ℕ) → length b < markedSize → Refused Table ≡ readMarked b
+cut-marked b h = rw (lt-leb markedSize (length b) h) refl
+
+-- In others it is the limits alone that count.
+pub whole-table : (b : List ℕ) → tableSize ≤ length b → tableAs (isGood (tableIn b)) (tableIn b) ≡ readTable b
+whole-table b h = rw (le-leb tableSize (length b) h) refl
+
+pub whole-marked : (b : List ℕ) → markedSize ≤ length b → tableAs (isGood (markedIn b)) (markedIn b) ≡ readMarked b
+whole-marked b h = rw (le-leb markedSize (length b) h) refl
 
 -- ---- how the code finds the limits
 

@@ -1,8 +1,11 @@
 -- The site table: its limits, what it is refused for, and the thresholds that follow from it (document 01, "Site table and thresholds").
 -- Assumes nothing.
 use mathlib.Core.Bool.{Bool, cond, _&&_}
+use mathlib.Core.List.{List}
 use Prim.Native.Nat.{ℕ, _+_, _-_, _*_, _/_, _^_}
 use lib.Dec.{leb, ltb}
+use lib.ListN.{length}
+use Rattle.wire.specs.Wire.{readLe}
 use Rattle.theory.specs.Sets.{count}
 use Rattle.sets.specs.Sets.{has}
 use Rattle.refusals.specs.declared.Refusal.the-variants.{Table}
@@ -28,9 +31,45 @@ goodTable n f mask =
 abbrev pub isGood : SiteTable → Bool
 isGood t = goodTable (t .sites) (t .faults) (t .mask)
 
--- The table where it is within the limits, else the refusal.
-abbrev pub judgeTable : ℕ → ℕ → ℕ → Judged
-judgeTable n f mask = cond (goodTable n f mask) (Good (record { sites = n; faults = f; mask = mask })) (Refused Table)
+-- ---- the table in bytes
+
+-- A table is lent to one site in 2 bytes: n, f. A run's header begins with them, and then comes the mask.
+abbrev pub tableSize : ℕ
+tableSize = 2
+
+abbrev pub markedSize : ℕ
+markedSize = tableSize + 2
+
+-- The table that bytes begin with, with a mask.
+abbrev pub tableWith : List ℕ → ℕ → SiteTable
+tableWith b mask = record { sites = readLe 1 b 0; faults = readLe 1 b 1; mask = mask }
+
+-- With no site marked as faulty, as one site has it.
+abbrev pub tableIn : List ℕ → SiteTable
+tableIn b = tableWith b 0
+
+-- With the mask that follows, as a run has it.
+abbrev pub markedIn : List ℕ → SiteTable
+markedIn b = tableWith b (readLe 2 b tableSize)
+
+-- The bytes begin with a table within the limits; what follows it may be anything.
+abbrev pub goodTableIn : List ℕ → Bool
+goodTableIn b = leb tableSize (length b) && isGood (tableIn b)
+
+abbrev pub goodMarkedIn : List ℕ → Bool
+goodMarkedIn b = leb markedSize (length b) && isGood (markedIn b)
+
+-- The table where it is good, else the refusal.
+abbrev pub tableAs : Bool → SiteTable → Judged
+tableAs good t = cond good (Good t) (Refused Table)
+
+abbrev pub readTable : List ℕ → Judged
+readTable b = tableAs (goodTableIn b) (tableIn b)
+
+abbrev pub readMarked : List ℕ → Judged
+readMarked b = tableAs (goodMarkedIn b) (markedIn b)
+
+-- ---- the thresholds
 
 -- How many acknowledgments deliver fast.
 abbrev pub nAckOf : SiteTable → ℕ

@@ -1,7 +1,10 @@
 // The site table: how many sites there are, how many of them may be faulty, which are, and the thresholds that follow.
 ghost use mathlib.Core.Bool.{true};
 ghost use mathlib.Core.Path.{_≡_};
-ghost use Rattle.table.specs.Table.{goodTable, isGood, judgeTable, nAckOf, nChkOf, majorityOf, faultyOf, faultyCountOf};
+ghost use Prim.Native.Nat.{_≤_};
+ghost use lib.ListN.{length};
+ghost use Rattle.table.specs.Table.{goodTable, isGood, tableSize, tableWith, tableAs, readTable, readMarked};
+ghost use Rattle.table.specs.Table.{nAckOf, nChkOf, majorityOf, faultyOf, faultyCountOf};
 
 // A site table. Bit i of the mask marks site i as faulty.
 pub struct SiteTable {
@@ -29,16 +32,44 @@ impl SiteTable {
     pub const MAX_FAULTS: usize = 2;
     // The bits of a mask.
     pub const MASK_BITS: usize = 16;
+    // The bytes of a site table as it is lent to one site: n, f. A run's header begins with them.
+    pub const BYTES: usize = 2;
+    // The same with the mask of 2 bytes after them.
+    pub const MARKED_BYTES: usize = SiteTable::BYTES + 2;
 
-    // The table of these numbers, or the refusal where they are against its limits.
-    pub fn judge(sites: usize, faults: usize, mask: u16) -> Judged
-        ensures { λ r. ⌜ r ≡ judgeTable sites faults mask ⌝ }
+    // The site table that lent bytes begin with, no site marked as faulty; a cut one is refused.
+    pub fn read(bytes: &[u8]) -> Judged
+        ensures { λ r. ⌜ r ≡ readTable (now (bytes .entry)) ⌝ }
     {
+        if bytes.len() < SiteTable::BYTES {
+            return Judged::Refused(refusals::Refusal::Table);
+        }
+        SiteTable::read_with(bytes, 0)
+    }
+
+    // The same with its mask.
+    pub fn read_marked(bytes: &[u8]) -> Judged
+        ensures { λ r. ⌜ r ≡ readMarked (now (bytes .entry)) ⌝ }
+    {
+        if bytes.len() < SiteTable::MARKED_BYTES {
+            return Judged::Refused(refusals::Refusal::Table);
+        }
+        let mask = wire::get2(bytes, SiteTable::BYTES);
+        SiteTable::read_with(bytes, mask)
+    }
+
+    // The table of n, f and a mask, or the refusal where it is against the limits.
+    fn read_with(bytes: &[u8], mask: u16) -> Judged
+        requires { ⌜ tableSize ≤ length (now bytes) ⌝ }
+        ensures { λ r. ⌜ r ≡ tableAs (isGood (tableWith (now (bytes .entry)) mask)) (tableWith (now (bytes .entry)) mask) ⌝ }
+    {
+        let sites = wire::get1(bytes, 0) as usize;
+        let faults = wire::get1(bytes, 1) as usize;
         if SiteTable::is_within_limits(sites, faults, mask) {
             Judged::Good(SiteTable {
-                sites: sites,
-                faults: faults,
-                mask: mask,
+                sites,
+                faults,
+                mask,
             })
         } else {
             Judged::Refused(refusals::Refusal::Table)

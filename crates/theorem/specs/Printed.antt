@@ -10,7 +10,7 @@ use Rattle.refusals.specs.declared.Verdict.{Verdict}
 use Rattle.refusals.specs.declared.Verdict.the-variants.{Taken, Refused}
 use Rattle.theory.specs.Counting.{never}
 use Rattle.table.specs.declared.SiteTable.{SiteTable}
-use Rattle.table.specs.Table.{faultyCountOf}
+use Rattle.table.specs.Table.{faultyCountOf, markedIn}
 use Rattle.register.specs.declared.Command.{Command}
 use Rattle.commands.specs.Book.{judgeBook, commandsOf}
 use Rattle.protocol.specs.System.{verdict}
@@ -23,7 +23,7 @@ use Rattle.steps.specs.declared.Reading.the-variants.{Whole, Unreadable}
 use Rattle.steps.specs.Steps.{stepsOf}
 use Rattle.steps.specs.Meaning.{meaning}
 use Rattle.lines.specs.Lines.{runLine}
-use Rattle.runs.specs.Run.{tableOf, bookOf, stepBytes, forRun, stepLines, worldAfter, siteLines, printAs, printOf}
+use Rattle.runs.specs.Run.{bookOf, stepBytes, forRun, stepLines, worldAfter, siteLines, printAs, printOf}
 use Rattle.theorem.specs.Demand3.{demand3}
 
 -- The steps of a run, up to one that cannot be read.
@@ -46,11 +46,11 @@ judged (Refused r) h = absurd (never false h refl)
 pub record Explained (run : List ℕ) : Type 0 where
   pub text :
       printOf run
-      ≡ runLine (tableOf run .sites) (faultyCountOf (tableOf run)) (length (commandsOf (bookOf run)))
-      ++ stepLines (tableOf run) (commandsOf (bookOf run)) 1 (start (dash (tableOf run) (commandsOf (bookOf run)))) (stepsOf (stepBytes run))
-      ++ siteLines (tableOf run) (commandsOf (bookOf run)) (tableOf run .sites)
-      (play (dash (tableOf run) (commandsOf (bookOf run))) (start (dash (tableOf run) (commandsOf (bookOf run)))) (readSteps (stepsOf (stepBytes run))))
-  pub sequence : CommonSequence (dash (tableOf run) (commandsOf (bookOf run))) (readSteps (stepsOf (stepBytes run)))
+      ≡ runLine (markedIn run .sites) (faultyCountOf (markedIn run)) (length (commandsOf (bookOf run)))
+      ++ stepLines (markedIn run) (commandsOf (bookOf run)) 1 (start (dash (markedIn run) (commandsOf (bookOf run)))) (stepsOf (stepBytes run))
+      ++ siteLines (markedIn run) (commandsOf (bookOf run)) (markedIn run .sites)
+      (play (dash (markedIn run) (commandsOf (bookOf run))) (start (dash (markedIn run) (commandsOf (bookOf run)))) (readSteps (stepsOf (stepBytes run))))
+  pub sequence : CommonSequence (dash (markedIn run) (commandsOf (bookOf run))) (readSteps (stepsOf (stepBytes run)))
 
 pub printed : (run : List ℕ) → verdict (forRun run) ≡ Taken → Explained run
 unfolding printOf
@@ -60,10 +60,10 @@ printed run h =
       text =
           ap (printAs run) h
           ∙ ap
-          (λ (w : World (dash (tableOf run) (commandsOf (bookOf run)))).
-          runLine (tableOf run .sites) (faultyCountOf (tableOf run)) (length (commandsOf (bookOf run)))
-          ++ stepLines (tableOf run) (commandsOf (bookOf run)) 1 (start (dash (tableOf run) (commandsOf (bookOf run)))) (stepsOf (stepBytes run))
-          ++ siteLines (tableOf run) (commandsOf (bookOf run)) (tableOf run .sites) w)
-          (printed-world (tableOf run) (commandsOf (bookOf run)) (start (dash (tableOf run) (commandsOf (bookOf run)))) (stepsOf (stepBytes run)));
-      sequence = demand3 (tableOf run) (bookOf run) (m .1 .1 .0) (judged (judgeBook (bookOf run)) (m .1 .1 .1 .1 .0)) (readSteps (stepsOf (stepBytes run)));
+          (λ (w : World (dash (markedIn run) (commandsOf (bookOf run)))).
+          runLine (markedIn run .sites) (faultyCountOf (markedIn run)) (length (commandsOf (bookOf run)))
+          ++ stepLines (markedIn run) (commandsOf (bookOf run)) 1 (start (dash (markedIn run) (commandsOf (bookOf run)))) (stepsOf (stepBytes run))
+          ++ siteLines (markedIn run) (commandsOf (bookOf run)) (markedIn run .sites) w)
+          (printed-world (markedIn run) (commandsOf (bookOf run)) (start (dash (markedIn run) (commandsOf (bookOf run)))) (stepsOf (stepBytes run)));
+      sequence = demand3 (markedIn run) (bookOf run) (m .1 .1 .0) (judged (judgeBook (bookOf run)) (m .1 .1 .1 .1 .0)) (readSteps (stepsOf (stepBytes run)));
     }

@@ -27,31 +27,29 @@ same-length : tie.Need-same-length
 same-length c = search needs
 
 returns : tie.Need-returns
-returns c = let a = c .before .before .before .before .before .before .before .before .before .before .args in end-refused (a .sites) (a .faults) (now (a .book)) (now (a .site)) (now (a .log)) (c .before .before .before .before .judge-site-and-log .ensures .0) (c .before .enum-told .given .1) (c .number .ensures)
+returns c = let a = c .before .before .before .before .before .before .before .before .before .before .before .args in end-refused (now (a .table)) (now (a .book)) (now (a .site)) (now (a .log)) (c .before .before .before .before .judge-site-and-log .ensures .0) (c .before .enum-told .given .1) (c .number .ensures)
 
 slice-aggregate-conflict-rows : tie.Need-slice-aggregate-conflict-rows
 slice-aggregate-conflict-rows c = search needs
 
 conflict-rows-requires : tie.Need-conflict-rows-requires
-conflict-rows-requires c κs =
-    let a = c .before .before .before .before .before .before .before .before .before .before .before .args in
+conflict-rows-requires c κs = let a = c .before .before .before .before .before .before .before .before .before .before .before .before .args in
     let e = c .before .before .before .before .before .judge-site-and-log .ensures in
-    end-placed (a .sites) (a .faults) (now (a .book)) (now (a .site)) (now (a .log)) (e .0) (c .before .before .judged .given .1) (e .1)
+    end-placed (now (a .table)) (now (a .book)) (now (a .site)) (now (a .log)) (e .0) (c .before .before .judged .given .1) (e .1)
 
 slice-relend-prefix-end-round : tie.Need-slice-relend-prefix-end-round
-slice-relend-prefix-end-round c = let a = c .before .before .before .before .before .before .before .before .before .before .before .before .before .args in end-sized (a .sites) (a .faults) (now (a .book)) (now (a .site)) (now (a .log)) (c .before .before .before .before .before .before .before .judge-site-and-log .ensures .0) (c .before .before .before .before .judged .given .1)
+slice-relend-prefix-end-round c = let a = c .before .before .before .before .before .before .before .before .before .before .before .before .before .before .args in end-sized (now (a .table)) (now (a .book)) (now (a .site)) (now (a .log)) (c .before .before .before .before .before .before .before .judge-site-and-log .ensures .0) (c .before .before .before .before .judged .given .1)
 
 slice-aggregate-end-round : tie.Need-slice-aggregate-end-round
-slice-aggregate-end-round c = let a = c .before .before .before .before .before .before .before .before .before .before .before .before .before .before .args in first-length siteSize (now (a .site)) (end-sized (a .sites) (a .faults) (now (a .book)) (now (a .site)) (now (a .log)) (c .before .before .before .before .before .before .before .before .judge-site-and-log .ensures .0) (c .before .before .before .before .before .judged .given .1))
+slice-aggregate-end-round c = let a = c .before .before .before .before .before .before .before .before .before .before .before .before .before .before .before .args in first-length siteSize (now (a .site)) (end-sized (now (a .table)) (now (a .book)) (now (a .site)) (now (a .log)) (c .before .before .before .before .before .before .before .before .judge-site-and-log .ensures .0) (c .before .before .before .before .before .judged .given .1))
 
 slice-aggregate-end-round-2 : tie.Need-slice-aggregate-end-round-2
 slice-aggregate-end-round-2 c = search needs
 
 end-round-requires : tie.Need-end-round-requires
-end-round-requires c κs =
-    let a = c .before .before .before .before .before .before .before .before .before .before .before .before .before .before .before .args in
+end-round-requires c κs = let a = c .before .before .before .before .before .before .before .before .before .before .before .before .before .before .before .before .args in
     let e = c .before .before .before .before .before .before .before .before .before .judge-site-and-log .ensures in
-    end-ready (a .sites) (a .faults) (now (a .book)) (now (a .site)) (now (a .log)) (e .0) (c .before .before .before .before .before .before .judged .given .1) (e .1) (c .before .before .before .conflict-rows .ensures)
+    end-ready (now (a .table)) (now (a .book)) (now (a .site)) (now (a .log)) (e .0) (c .before .before .before .before .before .before .judged .given .1) (e .1) (c .before .before .before .conflict-rows .ensures)
 
 code-requires : tie.Need-code-requires
 code-requires c κs = search needs
@@ -60,7 +58,7 @@ same-length-2 : tie.Need-same-length-2
 same-length-2 c = search needs
 
 returns-2 : tie.Need-returns-2
-returns-2 c = let a = c .before .before .before .before .before .before .before .before .before .before .before .before .before .before .before .before .before .before .before .args in end-done (a .sites) (a .faults) (now (a .book)) (now (a .site)) (now (a .log)) (c .before .before .before .before .before .before .before .before .before .before .before .before .before .judge-site-and-log .ensures .0) (c .before .before .before .before .before .before .before .before .before .before .judged .given .1) (λ i. c .before .before .before .before .before .before .before .before .before .before .before .before .before .before .before .before .before .slice-known .given i .fits) (c .before .before .before .end-round .ensures) (c .code .ensures)
+returns-2 c = let a = c .before .before .before .before .before .before .before .before .before .before .before .before .before .before .before .before .before .before .before .before .args in end-done (now (a .table)) (now (a .book)) (now (a .site)) (now (a .log)) (c .before .before .before .before .before .before .before .before .before .before .before .before .before .judge-site-and-log .ensures .0) (c .before .before .before .before .before .before .before .before .before .before .judged .given .1) (λ i. c .before .before .before .before .before .before .before .before .before .before .before .before .before .before .before .before .before .slice-known .given i .fits) (c .before .before .before .end-round .ensures) (c .code .ensures)
 
 pub round-end-spec : {M : Type 1} → statement M
 round-end-spec =

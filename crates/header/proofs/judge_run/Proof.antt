@@ -3,8 +3,7 @@
 use borrow.Author.Needs.{needs}
 use denote.Ref.{now}
 use mathlib.Core.Path.{sym, _∙_}
-use native.Mathlib.Omega.{arith}
-use Rattle.header.proofs.Laws.{too-long, header-cut, bad-table, book-cut, header-taken, book-part, run-refused, run-counted, run-unreadable}
+use Rattle.header.proofs.Laws.{too-long, header-cut, bad-table, good-table, book-cut, header-taken, book-part, run-refused, run-counted, run-unreadable}
 use Rattle.header.proofs.judge_run.Statement.{statement}
 use Rattle.header.proofs.judge_run.Tie as tie
 
@@ -14,26 +13,29 @@ returns c = let a = c .before .before .before .args in run-refused (now (a .run)
 returns-2 : tie.Need-returns-2
 returns-2 c = let a = c .before .before .before .before .args in run-refused (now (a .run)) (now (a .places)) (sym (header-cut (now (a .run)) (c .before .if1 .left) (c .if2 .taken)))
 
-table-of-requires : tie.Need-table-of-requires
-table-of-requires c κs = search needs
+read-marked-requires : tie.Need-read-marked-requires
+read-marked-requires c κs = search needs
 
-judge-requires : tie.Need-judge-requires
-judge-requires c κs = search needs
+enum-known-judged : tie.Need-enum-known-judged
+enum-known-judged c = search needs
 
 enum-told : tie.Need-enum-told
 enum-told c = search needs
 
-enum-told-2 : tie.Need-enum-told-2
-enum-told-2 c = search needs
-
 returns-3 : tie.Need-returns-3
-returns-3 c = let a = c .before .before .before .before .before .before .before .before .args in run-refused (now (a .run)) (now (a .places)) (sym (bad-table (now (a .run)) (c .before .before .before .before .before .if1 .left) (c .before .before .before .before .if2 .left) (c .before .before .before .table-of .ensures) (sym (c .before .before .judge .ensures) ∙ c .enum-told2 .given .1)))
+returns-3 c =
+    let a = c .before .before .before .before .before .before .before .args in
+    run-refused (now (a .run)) (now (a .places))
+    (sym (bad-table (now (a .run)) (c .before .before .before .before .if1 .left) (c .before .before .before .if2 .left) (sym (c .before .before .read-marked .ensures) ∙ c .enum-told .given .1)))
 
 book-end-requires : tie.Need-book-end-requires
 book-end-requires c κs = search needs
 
 returns-4 : tie.Need-returns-4
-returns-4 c = let a = c .before .before .before .before .before .before .before .before .before .before .args in run-refused (now (a .run)) (now (a .places)) (sym (book-cut (now (a .run)) (c .before .before .before .before .before .before .before .if1 .left) (c .before .before .before .before .before .before .if2 .left) (c .before .before .before .before .before .table-of .ensures) (sym (c .before .before .before .before .judge .ensures) ∙ c .before .before .enum-told .given .1) (c .before .book-end .ensures) (c .if3 .taken)))
+returns-4 c =
+    let a = c .before .before .before .before .before .before .before .before .before .before .args in
+    run-refused (now (a .run)) (now (a .places))
+    (sym (book-cut (now (a .run)) (c .before .before .before .before .before .before .before .if1 .left) (c .before .before .before .before .before .before .if2 .left) (sym (c .before .before .before .before .before .read-marked .ensures) ∙ c .before .before .before .judged .given .1) (c .before .book-end .ensures) (c .if3 .taken)))
 
 sub-note : tie.Need-sub-note
 sub-note c = search needs
@@ -50,8 +52,8 @@ note-requires c κs = search needs
 enum-known-measured : tie.Need-enum-known-measured
 enum-known-measured c = search needs
 
-enum-told-3 : tie.Need-enum-told-3
-enum-told-3 c = search needs
+enum-told-2 : tie.Need-enum-told-2
+enum-told-2 c = search needs
 
 same-length : tie.Need-same-length
 same-length c = search needs
@@ -59,8 +61,8 @@ same-length c = search needs
 returns-5 : tie.Need-returns-5
 returns-5 c =
     let a = c .before .before .before .before .before .before .before .before .before .before .before .before .before .before .before .before .before .args in
-    let h = sym (header-taken (now (a .run)) (c .before .before .before .before .before .before .before .before .before .before .before .before .before .before .if1 .left) (c .before .before .before .before .before .before .before .before .before .before .before .before .before .if2 .left) (c .before .before .before .before .before .before .before .before .before .before .before .before .table-of .ensures) (sym (c .before .before .before .before .before .before .before .before .before .before .before .judge .ensures) ∙ c .before .before .before .before .before .before .before .before .before .enum-told .given .1) (c .before .before .before .before .before .before .before .before .book-end .ensures) (c .before .before .before .before .before .before .before .if3 .left)) in
-    run-unreadable (now (a .run)) (now (a .places)) h (book-part (now (a .run)) (c .before .before .before .before .before .before .before .before .book-end .ensures)) (c .before .before .before .before .note .ensures .1) (sym (c .before .before .before .before .note .ensures .0) ∙ c .enum-told3 .given .1)
+    let h = sym (header-taken (now (a .run)) (c .before .before .before .before .before .before .before .before .before .before .before .before .before .before .if1 .left) (c .before .before .before .before .before .before .before .before .before .before .before .before .before .if2 .left) (sym (c .before .before .before .before .before .before .before .before .before .before .before .before .read-marked .ensures) ∙ c .before .before .before .before .before .before .before .before .before .before .judged .given .1) (c .before .before .before .before .before .before .before .before .book-end .ensures) (c .before .before .before .before .before .before .before .if3 .left)) in
+    run-unreadable (now (a .run)) (now (a .places)) h (book-part (now (a .run)) (c .before .before .before .before .before .before .before .before .book-end .ensures)) (c .before .before .before .before .note .ensures .1) (sym (c .before .before .before .before .note .ensures .0) ∙ c .enum-told2 .given .1)
 
 same-length-2 : tie.Need-same-length-2
 same-length-2 c = search needs
@@ -68,8 +70,10 @@ same-length-2 c = search needs
 returns-6 : tie.Need-returns-6
 returns-6 c =
     let a = c .before .before .before .before .before .before .before .before .before .before .before .before .before .before .before .before .before .before .args in
-    let h = sym (header-taken (now (a .run)) (c .before .before .before .before .before .before .before .before .before .before .before .before .before .before .before .if1 .left) (c .before .before .before .before .before .before .before .before .before .before .before .before .before .before .if2 .left) (c .before .before .before .before .before .before .before .before .before .before .before .before .before .table-of .ensures) (sym (c .before .before .before .before .before .before .before .before .before .before .before .before .judge .ensures) ∙ c .before .before .before .before .before .before .before .before .before .before .enum-told .given .1) (c .before .before .before .before .before .before .before .before .before .book-end .ensures) (c .before .before .before .before .before .before .before .before .if3 .left)) in
-    run-counted (now (a .run)) (now (a .places)) h (book-part (now (a .run)) (c .before .before .before .before .before .before .before .before .before .book-end .ensures)) (c .before .before .before .before .before .note .ensures .1) (sym (c .before .before .before .before .before .note .ensures .0) ∙ c .before .measured .given .1) (c .before .before .before .before .before .before .before .before .before .before .before .before .before .table-of .ensures) (c .before .before .before .before .before .before .before .before .before .book-end .ensures)
+    let t = sym (c .before .before .before .before .before .before .before .before .before .before .before .before .before .read-marked .ensures) ∙ c .before .before .before .before .before .before .before .before .before .before .before .judged .given .1 in
+    let h = sym (header-taken (now (a .run)) (c .before .before .before .before .before .before .before .before .before .before .before .before .before .before .before .if1 .left) (c .before .before .before .before .before .before .before .before .before .before .before .before .before .before .if2 .left) t (c .before .before .before .before .before .before .before .before .before .book-end .ensures) (c .before .before .before .before .before .before .before .before .if3 .left)) in
+    run-counted (now (a .run)) (now (a .places)) h (book-part (now (a .run)) (c .before .before .before .before .before .before .before .before .before .book-end .ensures)) (c .before .before .before .before .before .note .ensures .1) (sym (c .before .before .before .before .before .note .ensures .0) ∙ c .before .measured .given .1)
+    (good-table (now (a .run)) (c .before .before .before .before .before .before .before .before .before .before .before .before .before .before .before .if1 .left) (c .before .before .before .before .before .before .before .before .before .before .before .before .before .before .if2 .left) t .1) (c .before .before .before .before .before .before .before .before .before .book-end .ensures)
 
 pub judge-run-spec : {M : Type 1} → statement M
 judge-run-spec =
@@ -77,10 +81,9 @@ judge-run-spec =
     (tie.spec
     returns
     returns-2
-    table-of-requires
-    judge-requires
+    read-marked-requires
+    enum-known-judged
     enum-told
-    enum-told-2
     returns-3
     book-end-requires
     returns-4
@@ -89,7 +92,7 @@ judge-run-spec =
     part-note-end
     note-requires
     enum-known-measured
-    enum-told-3
+    enum-told-2
     same-length
     returns-5
     same-length-2

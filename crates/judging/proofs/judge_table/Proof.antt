@@ -1,13 +1,14 @@
--- `judging::judge_table`: 0, or the number of the table's refusal.
+-- `judging::judge_table`: by the table that is read.
 -- Assumes nothing.
 use borrow.Author.Needs.{needs}
+use denote.Ref.{now}
 use mathlib.Core.Path.{sym, _∙_}
 use Rattle.judging.proofs.Laws.{table-good, table-refused}
 use Rattle.judging.proofs.judge_table.Statement.{statement}
 use Rattle.judging.proofs.judge_table.Tie as tie
 
-judge-requires : tie.Need-judge-requires
-judge-requires c κs = search needs
+read-marked-requires : tie.Need-read-marked-requires
+read-marked-requires c κs = search needs
 
 enum-told : tie.Need-enum-told
 enum-told c = search needs
@@ -19,12 +20,12 @@ number-requires : tie.Need-number-requires
 number-requires c κs = search needs
 
 returns : tie.Need-returns
-returns c = table-good _ _ _ (sym (c .before .before .judge .ensures) ∙ c .enum-told .given .1)
+returns c = table-good (now (c .before .before .before .before .args .table)) (sym (c .before .before .read-marked .ensures) ∙ c .enum-told .given .1)
 
 returns-2 : tie.Need-returns-2
-returns-2 c = table-refused _ _ _ (sym (c .before .before .before .before .judge .ensures) ∙ c .before .before .judged .given .1) (c .number .ensures)
+returns-2 c = table-refused (now (c .before .before .before .before .before .before .args .table)) (sym (c .before .before .before .before .read-marked .ensures) ∙ c .before .before .judged .given .1) (c .number .ensures)
 
 pub judge-table-spec : {M : Type 1} → statement M
 judge-table-spec =
     tie.close
-    (tie.spec judge-requires enum-told enum-known-judged number-requires returns returns-2)
+    (tie.spec read-marked-requires enum-told enum-known-judged number-requires returns returns-2)
