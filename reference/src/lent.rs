@@ -1,13 +1,21 @@
-//! One site lent by a host, with a log as bytes: the steps of `site`, after the lent state is judged.
+//! One site lent by a host, with site table, message and log as bytes: the steps of `site`, after what is lent is judged.
 //!
 //! A number out of range, a set beyond the book, or an entry before the log position that a log read would
-//! refuse is 4; a log that ends in a cut entry is 3, before that. Any other site is stepped as it is.
+//! refuse is 4; a log that ends in a cut entry and a message of another form are 3, before that. Any other site is
+//! stepped as it is.
 
 use crate::book::MOST_READING;
 use crate::log::{judge, read_log, Entry};
+use crate::message::Message;
 use crate::refusal::{self, Refusal};
-use crate::site::{is_round, Phase, Rules, Sent, Site};
-use crate::Set;
+use crate::site::{is_round, Phase, Rules, Site};
+use crate::{Book, SiteTable};
+
+/// The site table and the book that are lent, or the refusal of one of them: 2 comes before 1.
+pub fn rules(table: &[u8], book: &[u8]) -> Result<Rules, Refusal> {
+    let table = SiteTable::read(table)?;
+    Ok(Rules { table, book: Book::read(book)? })
+}
 
 /// Whether every number of a lent site is in range and every set within the book.
 pub fn check_site(site: &Site, rules: &Rules) -> Result<(), Refusal> {
@@ -55,31 +63,27 @@ pub fn receive_command(site: &mut Site, rules: &Rules, command: usize) -> Result
     site.receive_command(rules, command)
 }
 
-pub fn receive_acknowledgment(
-    site: &mut Site,
-    rules: &Rules,
-    sender: usize,
-    round: usize,
-    set: &Set,
-) -> Result<(), Refusal> {
+/// A message as its bytes; the host vouches for the sender.
+pub fn receive(site: &mut Site, rules: &Rules, sender: usize, message: &[u8]) -> Result<(), Refusal> {
+    let message = Message::read(message)?;
     check_site(site, rules)?;
-    site.receive_acknowledgment(rules, sender, round, set)
+    site.receive(rules, sender, &message)
 }
 
-pub fn receive_check(site: &mut Site, rules: &Rules, set: &Set) -> Result<(), Refusal> {
-    check_site(site, rules)?;
-    site.receive_check(rules, set)
+/// What a turn hands to the host: the bytes of a message to all sites, and those of an entry for the log where the
+/// site proposes.
+#[derive(Clone, Debug, PartialEq, Eq)]
+pub struct Turn {
+    pub message: Vec<u8>,
+    pub entry: Option<Vec<u8>>,
 }
 
-/// A turn of site `own`; a proposal is appended to the lent log.
-pub fn turn(site: &mut Site, rules: &Rules, own: usize, log: &mut Vec<u8>) -> Result<Sent, Refusal> {
+/// A turn of site `own`.
+pub fn turn(site: &mut Site, rules: &Rules, own: usize, log: &[u8]) -> Result<Turn, Refusal> {
     let mut entries = check(site, rules, log)?;
-    let count = entries.len();
-    let sent = site.turn(rules, own, &mut entries)?;
-    for entry in entries.iter().skip(count) {
-        log.extend(entry.bytes());
-    }
-    Ok(sent)
+    let before = entries.len();
+    let message = site.turn(rules, own, &mut entries)?.bytes();
+    Ok(Turn { message, entry: entries.get(before).map(Entry::bytes) })
 }
 
 pub fn fast_delivery(site: &mut Site, rules: &Rules, command: usize) -> Result<(), Refusal> {

@@ -5,9 +5,9 @@ pub type Refusal = u32;
 
 /// A book with an unknown kind, a cut operand, a bike or start out of range, or a 65th command.
 pub const BOOK: Refusal = 1;
-/// A cut header, a book length past the end, or a site table against its limits.
+/// A cut header or site table, a book length past the end, or a site table against its limits.
 pub const HEADER: Refusal = 2;
-/// An unknown step code, cut operands, or a lent log that ends in a cut entry.
+/// An unknown step code, cut operands, a lent log that ends in a cut entry, or a lent message of another length or kind.
 pub const FORM: Refusal = 3;
 /// A number out of range, or a set with a command beyond the book.
 pub const RANGE: Refusal = 4;

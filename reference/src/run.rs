@@ -28,9 +28,8 @@ fn read_opening(input: &[u8]) -> Result<(World, &[u8]), Refusal> {
         return Err(refusal::ROOM);
     }
     let (header, rest) = input.split_first_chunk::<HEADER_BYTES>().ok_or(refusal::HEADER)?;
-    let [sites, faults, mask_low, mask_high, length_low, length_high] = *header;
-    let table = SiteTable::new(usize::from(sites), usize::from(faults))?;
-    let faulty = table.faulty(u16::from_le_bytes([mask_low, mask_high]))?;
+    let (table, faulty) = SiteTable::read_marked(header)?;
+    let [.., length_low, length_high] = *header;
     let book_length = usize::from(u16::from_le_bytes([length_low, length_high]));
     if book_length > rest.len() {
         return Err(refusal::HEADER);

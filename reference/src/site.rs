@@ -3,6 +3,7 @@
 //! Every step works on any state, whether a run can lead to it or not. A refused step changes nothing.
 
 use crate::log::{self, decide, Decision, Entry};
+use crate::message::{Message, MessageKind};
 use crate::refusal::{self, Refusal};
 use crate::{union, without, Book, Register, Set, SiteTable};
 use std::collections::BTreeMap;
@@ -35,13 +36,6 @@ pub enum Phase {
 pub struct Delivery {
     pub command: usize,
     pub answer: i32,
-}
-
-/// What a turn sends: its pending set, or what it received and has not delivered.
-#[derive(Clone, Debug, PartialEq, Eq)]
-pub enum Sent {
-    Acknowledgment(Set),
-    Check(Set),
 }
 
 #[derive(Clone, Debug, PartialEq, Eq)]
@@ -90,28 +84,16 @@ impl Site {
         Ok(())
     }
 
-    /// Receive an acknowledgment of any round (lines 8 and 9); it is kept under its sender and its own round.
-    pub fn receive_acknowledgment(
-        &mut self,
-        rules: &Rules,
-        sender: usize,
-        round: usize,
-        set: &Set,
-    ) -> Result<(), Refusal> {
-        if sender >= rules.table.sites() || !is_round(round) || !rules.book.holds(set) {
+    /// Receive a message of any round (lines 8 to 11); an acknowledgment is kept under its sender and its own round.
+    pub fn receive(&mut self, rules: &Rules, sender: usize, message: &Message) -> Result<(), Refusal> {
+        let Message { kind, round, set } = message;
+        if sender >= rules.table.sites() || !is_round(*round) || !rules.book.holds(set) {
             return Err(refusal::RANGE);
         }
         self.received.extend(set);
-        self.heard.entry((round, sender)).or_default().extend(set);
-        Ok(())
-    }
-
-    /// Receive a check message of any round (lines 10 and 11).
-    pub fn receive_check(&mut self, rules: &Rules, set: &Set) -> Result<(), Refusal> {
-        if !rules.book.holds(set) {
-            return Err(refusal::RANGE);
+        if *kind == MessageKind::Acknowledgment {
+            self.heard.entry((*round, sender)).or_default().extend(set);
         }
-        self.received.extend(set);
         Ok(())
     }
 
@@ -126,8 +108,9 @@ impl Site {
         self.phase == Phase::Acknowledging && !new.is_empty()
     }
 
-    /// A turn of site `own` (lines 12 to 18): it acknowledges, or sends a check message and appends a proposal.
-    pub fn turn(&mut self, rules: &Rules, own: usize, log: &mut Vec<Entry>) -> Result<Sent, Refusal> {
+    /// A turn of site `own` (lines 12 to 18): the message that it sends to all. It acknowledges all that it received
+    /// and has not delivered, or sends that as a check message and appends a proposal.
+    pub fn turn(&mut self, rules: &Rules, own: usize, log: &mut Vec<Entry>) -> Result<Message, Refusal> {
         if own >= rules.table.sites() {
             return Err(refusal::RANGE);
         }
@@ -137,7 +120,7 @@ impl Site {
         let open = self.open();
         if rules.book.is_free_of_conflict(&open) {
             self.pending = open.clone();
-            return Ok(Sent::Acknowledgment(open));
+            return Ok(Message { kind: MessageKind::Acknowledgment, round: self.round, set: open });
         }
         if log::has_two(log, own, self.round) {
             return Err(refusal::THIRD_ENTRY);
@@ -148,7 +131,7 @@ impl Site {
         let proposal = Proposal { nc: self.pending.clone(), c: without(&open, &self.pending) };
         log.push(Entry { site: own, round: self.round, nc: proposal.nc.clone(), c: proposal.c.clone() });
         self.phase = Phase::Waiting(proposal);
-        Ok(Sent::Check(open))
+        Ok(Message { kind: MessageKind::Check, round: self.round, set: open })
     }
 
     /// Line 26: m is pending, not yet delivered fast, and n_ack senders acknowledged it in this round.

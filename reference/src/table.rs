@@ -24,8 +24,21 @@ impl SiteTable {
         }
     }
 
+    /// The table whose first bytes are n and f, as in a run's header; 2 where they are cut.
+    pub fn read(bytes: &[u8]) -> Result<SiteTable, Refusal> {
+        let [sites, faults] = *bytes.first_chunk().ok_or(refusal::HEADER)?;
+        SiteTable::new(usize::from(sites), usize::from(faults))
+    }
+
+    /// The same with the faulty sites, which the next 2 bytes mark.
+    pub fn read_marked(bytes: &[u8]) -> Result<(SiteTable, BTreeSet<usize>), Refusal> {
+        let [_, _, low, high] = *bytes.first_chunk().ok_or(refusal::HEADER)?;
+        let table = SiteTable::read(bytes)?;
+        Ok((table, table.faulty(u16::from_le_bytes([low, high]))?))
+    }
+
     /// The faulty sites that a mask marks: at most f of them, none from n on.
-    pub fn faulty(&self, mask: u16) -> Result<BTreeSet<usize>, Refusal> {
+    fn faulty(&self, mask: u16) -> Result<BTreeSet<usize>, Refusal> {
         let marked: BTreeSet<usize> = (0..16).filter(|i| mask >> i & 1 == 1).collect();
         if marked.len() <= self.faults && marked.iter().all(|i| *i < self.sites) {
             Ok(marked)

@@ -1,8 +1,9 @@
 //! The world of all sites: their states, the log, and the messages that correct sites have sent.
 
 use crate::log::{self, Entry};
+use crate::message::{Message, MessageKind};
 use crate::refusal::{self, Refusal};
-use crate::site::{is_round, Rules, Sent, Site};
+use crate::site::{is_round, Rules, Site};
 use crate::step::Step;
 use crate::Set;
 use std::collections::{BTreeMap, BTreeSet};
@@ -55,12 +56,10 @@ impl World {
             Step::Acknowledgment { to, from, round, a } => self.bring_acknowledgment(*to, *from, *round, *a),
             Step::Check { to, from, round } => self.bring_check(*to, *from, *round),
             Step::FaultyAcknowledgment { to, from, round, set } => {
-                let (rules, site) = self.site(*to)?;
-                site.receive_acknowledgment(rules, *from, *round, set)
+                self.bring(*to, *from, MessageKind::Acknowledgment, *round, set.clone())
             }
-            Step::FaultyCheck { to, set, .. } => {
-                let (rules, site) = self.site(*to)?;
-                site.receive_check(rules, set)
+            Step::FaultyCheck { to, from, round, set } => {
+                self.bring(*to, *from, MessageKind::Check, *round, set.clone())
             }
             Step::FaultyEntry { from, round, nc, c } => {
                 self.append(Entry { site: *from, round: *round, nc: nc.clone(), c: c.clone() })
@@ -121,20 +120,24 @@ impl World {
         Ok((&self.rules, site))
     }
 
+    /// Brings a message to a site.
+    fn bring(&mut self, to: usize, from: usize, kind: MessageKind, round: usize, set: Set) -> Result<(), Refusal> {
+        let (rules, site) = self.site(to)?;
+        site.receive(rules, from, &Message { kind, round, set })
+    }
+
     /// Brings the a-th acknowledgment that a correct site sent in a round; 6 where it was never sent.
     fn bring_acknowledgment(&mut self, to: usize, from: usize, round: usize, a: usize) -> Result<(), Refusal> {
         let sent = self.acknowledgments.get(&(from, round));
         let message = sent.and_then(|sets| sets.get(a.checked_sub(1)?));
         let set = message.ok_or(refusal::NOT_ENABLED)?.clone();
-        let (rules, site) = self.site(to)?;
-        site.receive_acknowledgment(rules, from, round, &set)
+        self.bring(to, from, MessageKind::Acknowledgment, round, set)
     }
 
     /// Brings the check message that a correct site sent in a round; 6 where it was never sent.
     fn bring_check(&mut self, to: usize, from: usize, round: usize) -> Result<(), Refusal> {
         let set = self.checks.get(&(from, round)).ok_or(refusal::NOT_ENABLED)?.clone();
-        let (rules, site) = self.site(to)?;
-        site.receive_check(rules, &set)
+        self.bring(to, from, MessageKind::Check, round, set)
     }
 
     /// Appends a faulty site's entry, judged by the whole log before it.
@@ -146,12 +149,10 @@ impl World {
 
     fn turn(&mut self, number: usize) -> Result<(), Refusal> {
         let site = self.sites.get_mut(number).ok_or(refusal::RANGE)?;
-        let key = (number, site.round);
-        match site.turn(&self.rules, number, &mut self.log)? {
-            Sent::Acknowledgment(set) => self.acknowledgments.entry(key).or_default().push(set),
-            Sent::Check(set) => {
-                self.checks.insert(key, set);
-            }
+        let Message { kind, round, set } = site.turn(&self.rules, number, &mut self.log)?;
+        match kind {
+            MessageKind::Acknowledgment => self.acknowledgments.entry((number, round)).or_default().push(set),
+            MessageKind::Check => _ = self.checks.insert((number, round), set),
         }
         Ok(())
     }

@@ -1,6 +1,7 @@
 //! Every row of document 01's table of cases, and the whole case.
 
-use reference::{decide, play, refusal, Book, Entry, Register, Rules, Set, Site, SiteTable, Step, World};
+use reference::{decide, play, refusal, Book, Entry, Message, MessageKind, Register};
+use reference::{Rules, Set, Site, SiteTable, Step, World};
 
 fn book(bytes: &[u8]) -> Book {
     Book::read(bytes).expect("the book is taken")
@@ -101,14 +102,17 @@ fn fast_delivery_needs_n_ack_senders() {
     let mut site = Site::start();
     site.receive_command(&rules, 0).unwrap();
     site.turn(&rules, 0, &mut Vec::new()).unwrap();
+    let message = |kind, round| Message { kind, round, set: set(&[0]) };
+    let acknowledgment = message(MessageKind::Acknowledgment, 1);
     for sender in 0..4 {
-        site.receive_acknowledgment(&rules, sender, 1, &set(&[0])).unwrap();
+        site.receive(&rules, sender, &acknowledgment).unwrap();
     }
-    // The same sender again, and another round, are no fifth sender.
-    site.receive_acknowledgment(&rules, 3, 1, &set(&[0])).unwrap();
-    site.receive_acknowledgment(&rules, 4, 2, &set(&[0])).unwrap();
+    // The same sender again, another round, and a check message are no fifth sender.
+    site.receive(&rules, 3, &acknowledgment).unwrap();
+    site.receive(&rules, 4, &message(MessageKind::Acknowledgment, 2)).unwrap();
+    site.receive(&rules, 4, &message(MessageKind::Check, 1)).unwrap();
     assert_eq!(site.fast_delivery(&rules, 0), Err(refusal::NOT_ENABLED));
-    site.receive_acknowledgment(&rules, 5, 1, &set(&[0])).unwrap();
+    site.receive(&rules, 5, &acknowledgment).unwrap();
     assert_eq!(site.fast_delivery(&rules, 0), Ok(()));
     assert_eq!(site.deliveries.len(), 1);
     // Fast delivery of m a second time.

@@ -1,6 +1,8 @@
 //! Small runs of several sites, and the checker of the common sequence on them.
 
-use reference::{common_sequence, decide, Book, Entry, Phase, Rules, Set, SiteTable, Step, World};
+use reference::{
+    common_sequence, decide, Book, Entry, Message, MessageKind, Phase, Rules, Set, SiteTable, Step, World,
+};
 
 /// ADD 3 on bike 0, FIT 100 on bike 0, READ bike 0, ADD 4 on bike 0, READ bike 1.
 const BOOK: [u8; 22] = [1, 0, 3, 0, 2, 0, 9, 0, 0, 0, 100, 0, 0, 0, 3, 0, 1, 0, 4, 0, 3, 1];
@@ -202,7 +204,8 @@ fn the_checker_finds_an_order_without_a_sequence() {
         let rules = stage.world.rules.clone();
         stage.world.sites[site].pending = set(&[0, 1]);
         for sender in 0..2 {
-            stage.world.sites[site].receive_acknowledgment(&rules, sender, 1, &set(&[0, 1])).unwrap();
+            let message = Message { kind: MessageKind::Acknowledgment, round: 1, set: set(&[0, 1]) };
+            stage.world.sites[site].receive(&rules, sender, &message).unwrap();
         }
         for command in order {
             stage.step(fast(site, command)).unwrap();
