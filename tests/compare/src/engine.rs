@@ -1,44 +1,35 @@
-//! The one-site engine of a static archive, called through the functions of include/dash_register.h.
+//! The one-site engine of the static archive, called through the functions of include/dash_register.h.
 
 use crate::lent_calls::{Buffer, Call, Engine, Lent};
 
 mod header {
     unsafe extern "C" {
-        pub fn dash_register_judge_table(sites: usize, faults: usize, mask: u16) -> u32;
+        pub fn dash_register_judge_table(table: *const u8, table_length: usize) -> u32;
         pub fn dash_register_judge_book(book: *const u8, book_length: usize) -> u32;
         pub fn dash_register_fresh(site: *mut u8, site_length: usize) -> u32;
         pub fn dash_register_receive_command(
-            sites: usize,
-            faults: usize,
+            table: *const u8,
+            table_length: usize,
             book: *const u8,
             book_length: usize,
             site: *mut u8,
             site_length: usize,
             command: usize,
         ) -> u32;
-        pub fn dash_register_receive_acknowledgment(
-            sites: usize,
-            faults: usize,
+        pub fn dash_register_receive(
+            table: *const u8,
+            table_length: usize,
             book: *const u8,
             book_length: usize,
             site: *mut u8,
             site_length: usize,
             sender: usize,
-            round: usize,
-            set: u64,
-        ) -> u32;
-        pub fn dash_register_receive_check(
-            sites: usize,
-            faults: usize,
-            book: *const u8,
-            book_length: usize,
-            site: *mut u8,
-            site_length: usize,
-            set: u64,
+            message: *const u8,
+            message_length: usize,
         ) -> u32;
         pub fn dash_register_turn(
-            sites: usize,
-            faults: usize,
+            table: *const u8,
+            table_length: usize,
             book: *const u8,
             book_length: usize,
             site: *mut u8,
@@ -46,12 +37,14 @@ mod header {
             log: *const u8,
             log_length: usize,
             own: usize,
-            turn: *mut u8,
-            turn_length: usize,
+            message: *mut u8,
+            message_length: usize,
+            entry: *mut u8,
+            entry_length: usize,
         ) -> u32;
         pub fn dash_register_fast_delivery(
-            sites: usize,
-            faults: usize,
+            table: *const u8,
+            table_length: usize,
             book: *const u8,
             book_length: usize,
             site: *mut u8,
@@ -59,8 +52,8 @@ mod header {
             command: usize,
         ) -> u32;
         pub fn dash_register_log_read(
-            sites: usize,
-            faults: usize,
+            table: *const u8,
+            table_length: usize,
             book: *const u8,
             book_length: usize,
             site: *mut u8,
@@ -69,8 +62,8 @@ mod header {
             log_length: usize,
         ) -> u32;
         pub fn dash_register_round_end(
-            sites: usize,
-            faults: usize,
+            table: *const u8,
+            table_length: usize,
             book: *const u8,
             book_length: usize,
             site: *mut u8,
@@ -79,8 +72,8 @@ mod header {
             log_length: usize,
         ) -> u32;
         pub fn dash_register_status(
-            sites: usize,
-            faults: usize,
+            table: *const u8,
+            table_length: usize,
             book: *const u8,
             book_length: usize,
             site: *const u8,
@@ -89,8 +82,8 @@ mod header {
             status_length: usize,
         ) -> u32;
         pub fn dash_register_bike(
-            sites: usize,
-            faults: usize,
+            table: *const u8,
+            table_length: usize,
             book: *const u8,
             book_length: usize,
             site: *const u8,
@@ -100,8 +93,8 @@ mod header {
             out_length: usize,
         ) -> u32;
         pub fn dash_register_delivery(
-            sites: usize,
-            faults: usize,
+            table: *const u8,
+            table_length: usize,
             book: *const u8,
             book_length: usize,
             site: *const u8,
@@ -114,87 +107,182 @@ mod header {
 }
 
 /// The archive's engine. All lent memory stays the caller's, so it has no state.
-pub struct Host;
+pub struct Archive;
 
-/// Pointer and length of a buffer. The pointer allows writing, so that a write into what is lent for reading
-/// is seen afterwards and not undefined.
-fn lend(buffer: &mut Buffer) -> (*mut u8, usize) {
-    (buffer.pointer(), buffer.length())
+/// A buffer as C sees it. The pointer allows writing, so that a write into what is lent for reading is seen afterwards
+/// and not undefined.
+struct Bytes {
+    at: *mut u8,
+    length: usize,
+}
+
+fn lend(buffer: &mut Buffer) -> Bytes {
+    Bytes { at: buffer.pointer(), length: buffer.length() }
 }
 
 // SAFETY of all calls below: each pointer comes with the length of its own live buffer, or is null with length 0,
 // no two buffers overlap, and the functions keep none of them.
 
+/// The calls that are lent a table, a book or a site alone.
+fn judge_or_start(call: &Call, lent: &mut Lent) -> u32 {
+    let [table, book, site] = [&mut lent.table, &mut lent.book, &mut lent.site].map(lend);
+    match call {
+        Call::JudgeTable => unsafe { header::dash_register_judge_table(table.at, table.length) },
+        Call::JudgeBook => unsafe { header::dash_register_judge_book(book.at, book.length) },
+        Call::Fresh => unsafe { header::dash_register_fresh(site.at, site.length) },
+        _ => unreachable!("{call:?} is lent all three"),
+    }
+}
+
 fn receive(call: &Call, lent: &mut Lent) -> u32 {
-    let (n, f) = (lent.sites, lent.faults);
-    let ((book, book_length), (site, length)) = (lend(&mut lent.book), lend(&mut lent.site));
+    let [table, book, site] = [&mut lent.table, &mut lent.book, &mut lent.site].map(lend);
+    let message = lend(&mut lent.message);
     match *call {
         Call::ReceiveCommand { command } => unsafe {
-            header::dash_register_receive_command(n, f, book, book_length, site, length, command)
+            header::dash_register_receive_command(
+                table.at,
+                table.length,
+                book.at,
+                book.length,
+                site.at,
+                site.length,
+                command,
+            )
         },
-        Call::ReceiveAcknowledgment { sender, round, set } => unsafe {
-            header::dash_register_receive_acknowledgment(n, f, book, book_length, site, length, sender, round, set)
+        Call::Receive { sender } => unsafe {
+            header::dash_register_receive(
+                table.at,
+                table.length,
+                book.at,
+                book.length,
+                site.at,
+                site.length,
+                sender,
+                message.at,
+                message.length,
+            )
         },
-        Call::ReceiveCheck { set } => unsafe {
-            header::dash_register_receive_check(n, f, book, book_length, site, length, set)
-        },
-        _ => unreachable!("{call:?} brings no message"),
+        _ => unreachable!("{call:?} brings nothing"),
+    }
+}
+
+fn turn(own: usize, lent: &mut Lent) -> u32 {
+    let [table, book, site] = [&mut lent.table, &mut lent.book, &mut lent.site].map(lend);
+    let [log, message, entry] = [&mut lent.log, &mut lent.message, &mut lent.entry].map(lend);
+    unsafe {
+        header::dash_register_turn(
+            table.at,
+            table.length,
+            book.at,
+            book.length,
+            site.at,
+            site.length,
+            log.at,
+            log.length,
+            own,
+            message.at,
+            message.length,
+            entry.at,
+            entry.length,
+        )
     }
 }
 
 fn step(call: &Call, lent: &mut Lent) -> u32 {
-    let (n, f) = (lent.sites, lent.faults);
-    let ((book, book_length), (site, length)) = (lend(&mut lent.book), lend(&mut lent.site));
-    let ((log, log_length), (out, out_length)) = (lend(&mut lent.log), lend(&mut lent.out));
+    let [table, book, site] = [&mut lent.table, &mut lent.book, &mut lent.site].map(lend);
+    let log = lend(&mut lent.log);
     match *call {
-        Call::Turn { own } => unsafe {
-            header::dash_register_turn(n, f, book, book_length, site, length, log, log_length, own, out, out_length)
-        },
         Call::FastDelivery { command } => unsafe {
-            header::dash_register_fast_delivery(n, f, book, book_length, site, length, command)
+            header::dash_register_fast_delivery(
+                table.at,
+                table.length,
+                book.at,
+                book.length,
+                site.at,
+                site.length,
+                command,
+            )
         },
         Call::LogRead => unsafe {
-            header::dash_register_log_read(n, f, book, book_length, site, length, log, log_length)
+            header::dash_register_log_read(
+                table.at,
+                table.length,
+                book.at,
+                book.length,
+                site.at,
+                site.length,
+                log.at,
+                log.length,
+            )
         },
         Call::RoundEnd => unsafe {
-            header::dash_register_round_end(n, f, book, book_length, site, length, log, log_length)
+            header::dash_register_round_end(
+                table.at,
+                table.length,
+                book.at,
+                book.length,
+                site.at,
+                site.length,
+                log.at,
+                log.length,
+            )
         },
         _ => unreachable!("{call:?} is no step"),
     }
 }
 
 fn look(call: &Call, lent: &mut Lent) -> u32 {
-    let (n, f) = (lent.sites, lent.faults);
-    let ((book, book_length), (site, length)) = (lend(&mut lent.book), lend(&mut lent.site));
-    let (out, out_length) = lend(&mut lent.out);
+    let [table, book, site, out] = [&mut lent.table, &mut lent.book, &mut lent.site, &mut lent.out].map(lend);
     match *call {
-        Call::Status => unsafe { header::dash_register_status(n, f, book, book_length, site, length, out, out_length) },
+        Call::Status => unsafe {
+            header::dash_register_status(
+                table.at,
+                table.length,
+                book.at,
+                book.length,
+                site.at,
+                site.length,
+                out.at,
+                out.length,
+            )
+        },
         Call::Bike { bike } => unsafe {
-            header::dash_register_bike(n, f, book, book_length, site, length, bike, out, out_length)
+            header::dash_register_bike(
+                table.at,
+                table.length,
+                book.at,
+                book.length,
+                site.at,
+                site.length,
+                bike,
+                out.at,
+                out.length,
+            )
         },
         Call::Delivery { place } => unsafe {
-            header::dash_register_delivery(n, f, book, book_length, site, length, place, out, out_length)
+            header::dash_register_delivery(
+                table.at,
+                table.length,
+                book.at,
+                book.length,
+                site.at,
+                site.length,
+                place,
+                out.at,
+                out.length,
+            )
         },
         _ => unreachable!("{call:?} changes what is lent"),
     }
 }
 
-impl Engine for Host {
+impl Engine for Archive {
     fn call(&mut self, call: &Call, lent: &mut Lent) -> u32 {
         match *call {
-            Call::JudgeTable { mask } => unsafe { header::dash_register_judge_table(lent.sites, lent.faults, mask) },
-            Call::JudgeBook => {
-                let (book, length) = lend(&mut lent.book);
-                unsafe { header::dash_register_judge_book(book, length) }
-            }
-            Call::Fresh => {
-                let (site, length) = lend(&mut lent.site);
-                unsafe { header::dash_register_fresh(site, length) }
-            }
-            Call::ReceiveCommand { .. } | Call::ReceiveAcknowledgment { .. } | Call::ReceiveCheck { .. } => {
-                receive(call, lent)
-            }
-            Call::Turn { .. } | Call::FastDelivery { .. } | Call::LogRead | Call::RoundEnd => step(call, lent),
+            Call::JudgeTable | Call::JudgeBook | Call::Fresh => judge_or_start(call, lent),
+            Call::ReceiveCommand { .. } | Call::Receive { .. } => receive(call, lent),
+            Call::Turn { own } => turn(own, lent),
+            Call::FastDelivery { .. } | Call::LogRead | Call::RoundEnd => step(call, lent),
             Call::Status | Call::Bike { .. } | Call::Delivery { .. } => look(call, lent),
         }
     }

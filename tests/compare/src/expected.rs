@@ -1,21 +1,52 @@
 //! What the header promises of a call, worked out by the reference on the site that the lent bytes are
 //! (document 01, "What a site does" and "When a sheet or step is turned down").
 
-use crate::lent_calls::{Call, Lent};
+use crate::lent_calls::{Buffer, Call, Lent};
 use crate::site_bytes::{decode, span, without_empty, SITE_BYTES};
 use reference::book::BIKES;
+use reference::lent::{self, Turn};
 use reference::log::{read_log, ENTRY_BYTES};
-use reference::{bytes_of_set, lent, refusal, set_of_bytes, Book, Phase, Rules, Sent, Set, Site, SiteTable};
+use reference::message::MESSAGE_BYTES;
+use reference::site::is_round;
+use reference::{refusal, Book, Message, MessageKind, Phase, Rules, Site, SiteTable};
 
 /// Causes that are told apart beyond the answer, so that each is met.
 pub const FULL: &str = "a full record of deliveries";
-pub const SHORT: &str = "a lent buffer too short";
+pub const SHORT_SITE: &str = "a site too short";
+pub const SHORT_MESSAGE: &str = "a message too short to write into";
+pub const SHORT_ENTRY: &str = "an entry too short to write into";
+pub const SHORT_OUT: &str = "an output too short";
+pub const TABLE_CUT: &str = "a site table that is cut";
+pub const TABLE_LIMITS: &str = "a site table against its limits";
+pub const LENGTH: &str = "a message of another length";
+pub const KIND: &str = "a message of an unknown kind";
 pub const POSITION: &str = "a log position past the log";
 pub const READ: &str = "an entry read that a log read refuses";
 pub const OPERAND: &str = "an operand out of range, or an entry to read";
 pub const ACKNOWLEDGES: &str = "acknowledges";
 pub const PROPOSES: &str = "proposes";
+/// Messages that are taken, and those with a sender, a round or a set out of range, by their kinds.
+pub const ACKNOWLEDGMENTS: [&str; 4] = [
+    "an acknowledgment",
+    "an acknowledgment of a sender out of range",
+    "an acknowledgment of a round out of range",
+    "an acknowledgment beyond the book",
+];
+pub const CHECKS: [&str; 4] = [
+    "a check message",
+    "a check message of a sender out of range",
+    "a check message of a round out of range",
+    "a check message beyond the book",
+];
 const PLAIN: &str = "";
+
+/// What is written at the front of each output.
+#[derive(Clone, Debug, Default)]
+pub struct Outputs {
+    pub message: Vec<u8>,
+    pub entry: Vec<u8>,
+    pub out: Vec<u8>,
+}
 
 /// A refusal or success, how it came about, and all that is written.
 #[derive(Clone, Debug)]
@@ -24,117 +55,153 @@ pub struct Outcome {
     pub cause: &'static str,
     /// The later site and its span, where the call changes it.
     pub site: Option<(Site, usize)>,
-    /// What is written at the front of the output.
-    pub out: Vec<u8>,
+    pub outputs: Outputs,
 }
 
 impl Outcome {
     /// An answer that goes with nothing written.
     fn alone(answer: u32, cause: &'static str) -> Outcome {
-        Outcome { answer, cause, site: None, out: Vec::new() }
-    }
-
-    fn taken(cause: &'static str, site: Option<(Site, usize)>, out: Vec<u8>) -> Outcome {
-        Outcome { answer: 0, cause, site, out }
+        Outcome { answer, cause, site: None, outputs: Outputs::default() }
     }
 }
 
-/// The table and book, or the refusal of one of them: 2 comes before 1.
-pub fn rules(lent: &Lent) -> Result<Rules, u32> {
-    let table = SiteTable::new(lent.sites, lent.faults)?;
-    let book = Book::read(lent.book.lent())?;
-    Ok(Rules { table, book })
+/// Which lent buffer is too short for the call, if one is.
+fn too_short(call: &Call, lent: &Lent) -> Option<&'static str> {
+    let (message, entry, out) = match call {
+        Call::Turn { .. } => (MESSAGE_BYTES, ENTRY_BYTES, 0),
+        Call::Status | Call::Delivery { .. } => (0, 0, 5),
+        Call::Bike { .. } => (0, 0, 8),
+        _ => (0, 0, 0),
+    };
+    let is_short = |buffer: &Buffer, size: usize| buffer.length() < size;
+    let causes = [
+        (is_short(&lent.site, SITE_BYTES), SHORT_SITE),
+        (is_short(&lent.message, message), SHORT_MESSAGE),
+        (is_short(&lent.entry, entry), SHORT_ENTRY),
+        (is_short(&lent.out, out), SHORT_OUT),
+    ];
+    causes.into_iter().find(|(is_short, _)| *is_short).map(|(_, cause)| cause)
 }
 
 /// What is to come of a call; causes in the order 9, 2, 1, 3, 4, 6, 7, 8, and 9 again for a full record.
 pub fn expected(call: &Call, lent: &Lent) -> Outcome {
-    let is_short = lent.site.length() < SITE_BYTES || lent.out.length() < call.out_bytes();
-    let verdict = match call {
-        Call::JudgeTable { mask } => {
-            SiteTable::new(lent.sites, lent.faults).and_then(|table| table.faulty(*mask)).err()
-        }
-        Call::JudgeBook => Book::read(lent.book.lent()).err(),
-        _ if is_short => return Outcome::alone(refusal::ROOM, SHORT),
-        Call::Fresh => return Outcome::taken(PLAIN, Some((Site::start(), 0)), Vec::new()),
-        _ => return expected_on_site(call, lent),
-    };
-    Outcome::alone(verdict.unwrap_or(0), PLAIN)
+    match call {
+        Call::JudgeTable => match SiteTable::read_marked(lent.table.lent()) {
+            Ok(_) => return Outcome::alone(0, PLAIN),
+            Err(number) => return Outcome::alone(number, cause_of_table(&lent.table, 4)),
+        },
+        Call::JudgeBook => return Outcome::alone(Book::read(lent.book.lent()).err().unwrap_or(0), PLAIN),
+        _ => {}
+    }
+    if let Some(cause) = too_short(call, lent) {
+        return Outcome::alone(refusal::ROOM, cause);
+    }
+    match call {
+        Call::Fresh => Outcome { site: Some((Site::start(), 0)), ..Outcome::alone(0, PLAIN) },
+        _ => expected_on_site(call, lent).unwrap_or_else(|refused| refused),
+    }
 }
 
-fn expected_on_site(call: &Call, lent: &Lent) -> Outcome {
-    let rules = match rules(lent) {
-        Ok(rules) => rules,
-        Err(number) => return Outcome::alone(number, PLAIN),
-    };
-    if call.has_log() && read_log(lent.log.lent()).is_err() {
-        return Outcome::alone(refusal::FORM, PLAIN);
+fn cause_of_table(table: &Buffer, size: usize) -> &'static str {
+    if table.length() < size {
+        TABLE_CUT
+    } else {
+        TABLE_LIMITS
     }
-    let mut site = match decode(lent.site.lent(), &rules) {
-        Ok(site) => site,
-        Err(reason) => return Outcome::alone(refusal::RANGE, reason),
-    };
+}
+
+/// The table and book of a call of one site, or its refusal before its log or message is looked at.
+fn rules(lent: &Lent) -> Result<Rules, Outcome> {
+    lent::rules(lent.table.lent(), lent.book.lent()).map_err(|number| match number {
+        refusal::HEADER => Outcome::alone(number, cause_of_table(&lent.table, 2)),
+        _ => Outcome::alone(number, PLAIN),
+    })
+}
+
+/// Whether the log or message that a call is lent has its form.
+fn judge_form(call: &Call, lent: &Lent) -> Result<(), Outcome> {
+    let message = &lent.message;
+    match call {
+        Call::Receive { .. } => Message::read(message.lent())
+            .map(|_| ())
+            .map_err(|number| Outcome::alone(number, if message.length() == MESSAGE_BYTES { KIND } else { LENGTH })),
+        _ if call.has_log() => read_log(lent.log.lent()).map(|_| ()).map_err(|number| Outcome::alone(number, PLAIN)),
+        _ => Ok(()),
+    }
+}
+
+/// What is to come of a call on a site, or its refusal.
+fn expected_on_site(call: &Call, lent: &Lent) -> Result<Outcome, Outcome> {
+    let rules = rules(lent)?;
+    judge_form(call, lent)?;
+    let mut site = decode(lent.site.lent(), &rules).map_err(|reason| Outcome::alone(refusal::RANGE, reason))?;
     let before = site.clone();
-    match step(call, &mut site, &rules, lent.log.lent()) {
-        Ok((cause, out)) => {
-            let is_changed = !matches!(call, Call::Status | Call::Bike { .. } | Call::Delivery { .. });
-            let later = is_changed.then(|| (without_empty(site), later_span(call, span(lent.site.lent()))));
-            Outcome::taken(cause, later, out)
-        }
-        Err(number) => Outcome::alone(number, cause_of(call, number, &before, &rules, lent.log.lent())),
-    }
+    let (cause, outputs) = step(call, &mut site, &rules, lent)
+        .map_err(|number| Outcome::alone(number, cause_of(call, number, &before, &rules, lent)))?;
+    let is_changed = !matches!(call, Call::Status | Call::Bike { .. } | Call::Delivery { .. });
+    let later = is_changed.then(|| (without_empty(site), later_span(call, lent)));
+    Ok(Outcome { answer: 0, cause, site: later, outputs })
 }
 
 /// The span after a call: only an acknowledgment changes it, where it does not reach the acknowledgment's round.
-fn later_span(call: &Call, span: usize) -> usize {
-    match call {
-        Call::ReceiveAcknowledgment { round, .. } => span.max(*round),
+fn later_span(call: &Call, lent: &Lent) -> usize {
+    let span = span(lent.site.lent());
+    match (call, Message::read(lent.message.lent())) {
+        (Call::Receive { .. }, Ok(Message { kind: MessageKind::Acknowledgment, round, .. })) => span.max(round),
         _ => span,
     }
 }
 
 /// Which of the causes of a number it was.
-fn cause_of(call: &Call, number: u32, site: &Site, rules: &Rules, log: &[u8]) -> &'static str {
-    let entries = read_log(log).unwrap_or_default();
-    match number {
-        refusal::ROOM => FULL,
-        refusal::RANGE if call.has_log() && site.log_position > entries.len() => POSITION,
-        refusal::RANGE if call.has_log() && lent::check_entries_read(site, rules, &entries).is_err() => READ,
-        refusal::RANGE => OPERAND,
+fn cause_of(call: &Call, number: u32, site: &Site, rules: &Rules, lent: &Lent) -> &'static str {
+    let entries = read_log(lent.log.lent()).unwrap_or_default();
+    match (number, call) {
+        (refusal::ROOM, _) => FULL,
+        (refusal::RANGE, Call::Receive { sender }) => cause_of_message(*sender, rules, lent),
+        (refusal::RANGE, _) if call.has_log() && site.log_position > entries.len() => POSITION,
+        (refusal::RANGE, _) if call.has_log() && lent::check_entries_read(site, rules, &entries).is_err() => READ,
+        (refusal::RANGE, _) => OPERAND,
         _ => PLAIN,
     }
 }
 
-fn set_of(bits: u64) -> Set {
-    set_of_bytes(bits.to_le_bytes())
+/// Of which kind a message is, and what of it is out of range first.
+fn cause_of_message(sender: usize, rules: &Rules, lent: &Lent) -> &'static str {
+    let Ok(message) = Message::read(lent.message.lent()) else { return PLAIN };
+    let causes = match message.kind {
+        MessageKind::Acknowledgment => ACKNOWLEDGMENTS,
+        MessageKind::Check => CHECKS,
+    };
+    let fits = [sender < rules.table.sites(), is_round(message.round), rules.book.holds(&message.set)];
+    causes[fits.iter().position(|fits| !fits).map_or(0, |place| place + 1)]
 }
 
 /// The call on the reference's site: how it came about and what is written out.
-fn step(call: &Call, site: &mut Site, rules: &Rules, log: &[u8]) -> Result<(&'static str, Vec<u8>), u32> {
+fn step(call: &Call, site: &mut Site, rules: &Rules, lent: &Lent) -> Result<(&'static str, Outputs), u32> {
+    let (log, message) = (lent.log.lent(), lent.message.lent());
+    let mut cause = PLAIN;
     match *call {
         Call::Turn { own } => return turn(site, rules, own, log),
-        Call::Status | Call::Bike { .. } | Call::Delivery { .. } => return Ok((PLAIN, access(call, site)?)),
-        Call::ReceiveCommand { command } => lent::receive_command(site, rules, command),
-        Call::ReceiveAcknowledgment { sender, round, set } => {
-            lent::receive_acknowledgment(site, rules, sender, round, &set_of(set))
+        Call::Status | Call::Bike { .. } | Call::Delivery { .. } => {
+            return Ok((PLAIN, Outputs { out: access(call, site)?, ..Outputs::default() }))
         }
-        Call::ReceiveCheck { set } => lent::receive_check(site, rules, &set_of(set)),
+        Call::ReceiveCommand { command } => lent::receive_command(site, rules, command),
+        Call::Receive { sender } => {
+            cause = cause_of_message(sender, rules, lent);
+            lent::receive(site, rules, sender, message)
+        }
         Call::FastDelivery { command } => lent::fast_delivery(site, rules, command),
         Call::LogRead => lent::log_read(site, rules, log),
         Call::RoundEnd => lent::round_end(site, rules, log),
-        Call::JudgeTable { .. } | Call::JudgeBook | Call::Fresh => Ok(()),
+        Call::JudgeTable | Call::JudgeBook | Call::Fresh => Ok(()),
     }?;
-    Ok((PLAIN, Vec::new()))
+    Ok((cause, Outputs::default()))
 }
 
-fn turn(site: &mut Site, rules: &Rules, own: usize, log: &[u8]) -> Result<(&'static str, Vec<u8>), u32> {
-    let mut later_log = log.to_vec();
-    match lent::turn(site, rules, own, &mut later_log)? {
-        Sent::Acknowledgment(set) => Ok((ACKNOWLEDGES, [&[1][..], &bytes_of_set(&set)].concat())),
-        Sent::Check(set) => {
-            let entry = &later_log[later_log.len() - ENTRY_BYTES..];
-            Ok((PROPOSES, [&[2][..], &bytes_of_set(&set), entry].concat()))
-        }
-    }
+fn turn(site: &mut Site, rules: &Rules, own: usize, log: &[u8]) -> Result<(&'static str, Outputs), u32> {
+    let Turn { message, entry } = lent::turn(site, rules, own, log)?;
+    let cause = if entry.is_some() { PROPOSES } else { ACKNOWLEDGES };
+    Ok((cause, Outputs { message, entry: entry.unwrap_or_default(), out: Vec::new() }))
 }
 
 /// What the calls that only look at a site write out.

@@ -70,24 +70,26 @@ impl fmt::Debug for Buffer {
 /// All that a host lends; a call uses what its declaration names.
 #[derive(Clone, PartialEq, Eq, Debug)]
 pub struct Lent {
-    pub sites: usize,
-    pub faults: usize,
+    pub table: Buffer,
     pub book: Buffer,
     pub site: Buffer,
     pub log: Buffer,
-    /// The turn, status, bike or delivery to be written.
+    /// The message that is received, or the one that a turn writes.
+    pub message: Buffer,
+    /// The log entry that a turn writes.
+    pub entry: Buffer,
+    /// The status, bike or delivery to be written.
     pub out: Buffer,
 }
 
-/// A call with its numbers and sets.
+/// A call with its numbers; all else is lent.
 #[derive(Clone, Copy, Debug, PartialEq, Eq)]
 pub enum Call {
-    JudgeTable { mask: u16 },
+    JudgeTable,
     JudgeBook,
     Fresh,
     ReceiveCommand { command: usize },
-    ReceiveAcknowledgment { sender: usize, round: usize, set: u64 },
-    ReceiveCheck { set: u64 },
+    Receive { sender: usize },
     Turn { own: usize },
     FastDelivery { command: usize },
     LogRead,
@@ -98,13 +100,12 @@ pub enum Call {
 }
 
 /// Each function with the answers that its comment in the header lists.
-pub const DOCUMENTED: [(&str, &[u32]); 13] = [
+pub const DOCUMENTED: [(&str, &[u32]); 12] = [
     ("judge_table", &[0, 2]),
     ("judge_book", &[0, 1]),
     ("fresh", &[0, 9]),
     ("receive_command", &[0, 1, 2, 4, 9]),
-    ("receive_acknowledgment", &[0, 1, 2, 4, 9]),
-    ("receive_check", &[0, 1, 2, 4, 9]),
+    ("receive", &[0, 1, 2, 3, 4, 9]),
     ("turn", &[0, 1, 2, 3, 4, 6, 7, 8, 9]),
     ("fast_delivery", &[0, 1, 2, 4, 6, 9]),
     ("log_read", &[0, 1, 2, 3, 4, 6, 7, 9]),
@@ -118,19 +119,18 @@ impl Call {
     /// The place of the function among those documented.
     fn place(&self) -> usize {
         match self {
-            Call::JudgeTable { .. } => 0,
+            Call::JudgeTable => 0,
             Call::JudgeBook => 1,
             Call::Fresh => 2,
             Call::ReceiveCommand { .. } => 3,
-            Call::ReceiveAcknowledgment { .. } => 4,
-            Call::ReceiveCheck { .. } => 5,
-            Call::Turn { .. } => 6,
-            Call::FastDelivery { .. } => 7,
-            Call::LogRead => 8,
-            Call::RoundEnd => 9,
-            Call::Status => 10,
-            Call::Bike { .. } => 11,
-            Call::Delivery { .. } => 12,
+            Call::Receive { .. } => 4,
+            Call::Turn { .. } => 5,
+            Call::FastDelivery { .. } => 6,
+            Call::LogRead => 7,
+            Call::RoundEnd => 8,
+            Call::Status => 9,
+            Call::Bike { .. } => 10,
+            Call::Delivery { .. } => 11,
         }
     }
 
@@ -142,23 +142,8 @@ impl Call {
         DOCUMENTED[self.place()].1
     }
 
-    /// Judges a table or a book alone.
-    pub fn is_judgment(&self) -> bool {
-        matches!(self, Call::JudgeTable { .. } | Call::JudgeBook)
-    }
-
     pub fn has_log(&self) -> bool {
         matches!(self, Call::Turn { .. } | Call::LogRead | Call::RoundEnd)
-    }
-
-    /// How many bytes the call asks for to write its outputs into.
-    pub fn out_bytes(&self) -> usize {
-        match self {
-            Call::Turn { .. } => 27,
-            Call::Status | Call::Delivery { .. } => 5,
-            Call::Bike { .. } => 8,
-            _ => 0,
-        }
     }
 }
 

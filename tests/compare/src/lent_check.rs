@@ -1,17 +1,20 @@
 //! One call in an engine against what the header promises, and what the calls of a test have met.
 
-use crate::expected::{self, expected, Outcome};
+use crate::expected::{self, expected, Outcome, ACKNOWLEDGMENTS, CHECKS};
 use crate::lent_calls::{Call, Engine, Lent, DOCUMENTED};
 use crate::site_bytes::{decode, encode, REASONS};
+use reference::lent::rules;
 use std::collections::BTreeMap;
 use std::fmt;
 
-/// Writes the later site, up to its last row, and the output into what is lent.
+/// Writes the later site, up to its last row, and the outputs into what is lent.
 pub fn write_outcome(lent: &mut Lent, outcome: &Outcome) {
     if let Some((site, span)) = &outcome.site {
         lent.site.write(&encode(site, *span).expect("a later site fits into its bytes"));
     }
-    lent.out.write(&outcome.out);
+    lent.message.write(&outcome.outputs.message);
+    lent.entry.write(&outcome.outputs.entry);
+    lent.out.write(&outcome.outputs.out);
 }
 
 /// Makes the call; how it differs from what is expected, guards and untouched bytes included.
@@ -31,7 +34,7 @@ pub fn check(engine: &mut dyn Engine, call: &Call, lent: &Lent) -> Result<Outcom
     if found != after && answer != 0 {
         return Err(report("was refused and changed what is lent"));
     }
-    if let (Some((site, _)), Ok(rules)) = (&outcome.site, expected::rules(lent)) {
+    if let (Some((site, _)), Ok(rules)) = (&outcome.site, rules(lent.table.lent(), lent.book.lent())) {
         if decode(found.site.lent(), &rules).as_ref() != Ok(site) {
             return Err(report("left another site"));
         }
@@ -40,6 +43,34 @@ pub fn check(engine: &mut dyn Engine, call: &Call, lent: &Lent) -> Result<Outcom
         return Err(report("wrote other bytes"));
     }
     Ok(outcome)
+}
+
+/// The causes that each function has to meet.
+fn causes() -> Vec<(&'static str, &'static str)> {
+    let mut causes = vec![
+        ("judge_table", expected::TABLE_CUT),
+        ("judge_table", expected::TABLE_LIMITS),
+        ("receive", expected::LENGTH),
+        ("receive", expected::KIND),
+        ("turn", expected::ACKNOWLEDGES),
+        ("turn", expected::PROPOSES),
+        ("turn", expected::SHORT_MESSAGE),
+        ("turn", expected::SHORT_ENTRY),
+        ("turn", expected::OPERAND),
+        ("log_read", expected::OPERAND),
+        ("fast_delivery", expected::FULL),
+        ("round_end", expected::FULL),
+    ];
+    causes.extend(ACKNOWLEDGMENTS.iter().chain(&CHECKS).map(|cause| ("receive", *cause)));
+    causes.extend(["status", "bike", "delivery"].map(|function| (function, expected::SHORT_OUT)));
+    for function in ["turn", "log_read", "round_end"] {
+        causes.extend([expected::POSITION, expected::READ].map(|cause| (function, cause)));
+    }
+    for (function, _) in &DOCUMENTED[3..] {
+        let of_all = [expected::SHORT_SITE, expected::TABLE_CUT, expected::TABLE_LIMITS];
+        causes.extend(of_all.into_iter().chain(REASONS).map(|cause| (*function, cause)));
+    }
+    causes
 }
 
 /// How often each function gave each answer, by cause.
@@ -66,22 +97,7 @@ impl Met {
                 answers.iter().filter(|each| self.count(|name, answer, _| name == function && answer == **each) == 0);
             missing.extend(unmet.map(|answer| format!("{function} never answered {answer}")));
         }
-        let causes = [
-            ("turn", expected::ACKNOWLEDGES),
-            ("turn", expected::PROPOSES),
-            ("fast_delivery", expected::FULL),
-            ("round_end", expected::FULL),
-            ("turn", expected::POSITION),
-            ("log_read", expected::POSITION),
-            ("round_end", expected::POSITION),
-            ("turn", expected::READ),
-            ("log_read", expected::READ),
-            ("round_end", expected::READ),
-            ("turn", expected::OPERAND),
-            ("log_read", expected::OPERAND),
-        ];
-        let of_sites = DOCUMENTED[3..].iter().flat_map(|(function, _)| REASONS.map(|reason| (*function, reason)));
-        for (function, cause) in causes.into_iter().chain(of_sites) {
+        for (function, cause) in causes() {
             if self.count(|name, _, met| name == function && met == cause) == 0 {
                 missing.push(format!("{function} never met {cause}"));
             }
@@ -95,7 +111,7 @@ impl fmt::Display for Met {
         for (function, answers) in DOCUMENTED {
             let count = |each: &u32| self.count(|name, answer, _| name == function && answer == *each);
             let counts: Vec<String> = answers.iter().map(|answer| format!("{answer}: {}", count(answer))).collect();
-            writeln!(out, "{function:<23} {}", counts.join(", "))?;
+            writeln!(out, "{function:<15} {}", counts.join(", "))?;
         }
         let mut causes: BTreeMap<&str, usize> = BTreeMap::new();
         for ((_, _, cause), count) in self.counts.iter().filter(|((_, _, cause), _)| !cause.is_empty()) {

@@ -1,7 +1,7 @@
-//! Damage to what is lent: bytes changed, lengths cut, tables and books against their limits.
+//! Damage to what is lent: bytes changed, lengths cut, tables, books and messages against their limits.
 
 use crate::draw::Draw;
-use crate::lent_calls::{Buffer, Lent};
+use crate::lent_calls::{Buffer, Call, Lent};
 use crate::site_bytes::{rows_end, span, HEARD, SITE_BYTES};
 
 /// Changes a byte of what is lent at this place, by one bit, to a number at an edge, or to any.
@@ -13,13 +13,20 @@ fn change(draw: &mut Draw, buffer: &mut Buffer, at: usize) {
     }
 }
 
-/// A place in a site, each of its parts equally often.
+/// Sets a byte of what is lent, where there is one at this place.
+fn put(buffer: &mut Buffer, at: usize, byte: u8) {
+    if let Some(place) = buffer.lent_mut().get_mut(at) {
+        *place = byte;
+    }
+}
+
+/// A place in a site, each of its parts equally often, and as often the last delivery.
 fn place(draw: &mut Draw, site: &Buffer) -> usize {
     let site = site.lent();
     let recorded = site.get(4).map_or(0, |recorded| usize::from(*recorded));
     let end = if site.len() < SITE_BYTES { HEARD } else { rows_end(span(site)).min(SITE_BYTES) };
     let numbers = [(0, 1), (1, 2), (2, 4), (4, 6), (6, 8)];
-    let tables = [(8, 40), (40, 56), (56, 312), (312, HEARD), (HEARD, end), (end, SITE_BYTES)];
+    let tables = [(8, 40), (40, 56), (56, 312), (312, HEARD), (HEARD - 5, HEARD), (HEARD, end), (end, SITE_BYTES)];
     let parts = [&numbers[..], &tables].concat();
     match draw.below(parts.len() + 1) {
         part if part < parts.len() => draw.within(parts[part].0, parts[part].1 - 1),
@@ -28,14 +35,47 @@ fn place(draw: &mut Draw, site: &Buffer) -> usize {
     }
 }
 
-fn damage_table(draw: &mut Draw, lent: &mut Lent) {
-    // A narrow number would lose what is far.
-    let far = draw.pick(&[1 << 8, 1 << 16, 1 << 32]);
+/// A site table cut, or with n, f or the mask out of their limits.
+fn damage_table(draw: &mut Draw, table: &mut Buffer) {
+    let pair = draw.pick(&[[5, 1], [6, 1], [10, 2], [11, 2], [16, 3], [1, 0], [0, 0], [12, 0], [255, 255]]);
     match draw.below(4) {
-        0 => lent.sites = draw.pick(&[0, 12, lent.sites | far, usize::MAX]),
-        1 => lent.faults = draw.pick(&[1, 2, 3, lent.faults | far, usize::MAX]),
-        2 => lent.sites = draw.within(1, 11),
-        _ => (lent.sites, lent.faults) = draw.pick(&[(5, 1), (6, 1), (10, 2), (11, 2), (16, 3), (1, 0), (0, 0)]),
+        0 => table.cut(draw.pick(&[0, 1, 1, 2, 3, 3])),
+        1 => {
+            let at = draw.below(4);
+            change(draw, table, at);
+        }
+        2 => put(table, 0, draw.within(0, 12) as u8),
+        _ => pair.into_iter().enumerate().for_each(|(at, byte)| put(table, at, byte)),
+    }
+}
+
+/// A message that is received: cut, longer, or with another kind, round or set.
+fn damage_message(draw: &mut Draw, message: &mut Buffer) {
+    let any = draw.byte();
+    match draw.below(6) {
+        0 => message.cut(draw.pick(&[0, 1, 2, 9, 9])),
+        1 => {
+            let more = draw.pick(&[1, 1, 8, 10]);
+            *message = Buffer::new(&[message.lent(), &vec![any; more]].concat(), draw.byte());
+        }
+        2 => put(message, 0, draw.pick(&[0, 3, 255, any])),
+        3 => put(message, 1, draw.pick(&[0, 34, 255, any])),
+        _ => {
+            let at = draw.within(2, 9);
+            change(draw, message, at);
+        }
+    }
+}
+
+/// What this call is about: the table or book that it judges, the message that it brings, the room for its outputs.
+fn damage_own(draw: &mut Draw, call: &Call, lent: &mut Lent) {
+    match call {
+        Call::JudgeTable => damage_table(draw, &mut lent.table),
+        Call::JudgeBook => damage_book(draw, lent),
+        Call::Receive { .. } => damage_message(draw, &mut lent.message),
+        Call::Turn { .. } if draw.percent(50) => lent.message.cut(draw.pick(&[0, 1, 9, 9, 10])),
+        Call::Turn { .. } => lent.entry.cut(draw.pick(&[0, 1, 17, 17, 18])),
+        _ => lent.out.cut(draw.pick(&[0, 4, 5, 7])),
     }
 }
 
@@ -85,9 +125,9 @@ fn repeat_entry(draw: &mut Draw, lent: &mut Lent) {
     lent.log = Buffer::new(&longer, draw.byte());
 }
 
-/// Damages one part of what is lent.
-pub fn damage(draw: &mut Draw, lent: &mut Lent) {
-    match draw.below(12) {
+/// Damages one part of what is lent to a call.
+pub fn damage(draw: &mut Draw, call: &Call, lent: &mut Lent) {
+    match draw.below(13) {
         0..=3 => {
             let at = place(draw, &lent.site);
             change(draw, &mut lent.site, at);
@@ -97,9 +137,78 @@ pub fn damage(draw: &mut Draw, lent: &mut Lent) {
             change(draw, &mut lent.site, at);
         }
         5 => lent.site.cut(draw.pick(&[SITE_BYTES - 1, SITE_BYTES - 1, HEARD, 56, 1, 0])),
-        6 => lent.out.cut(draw.pick(&[26, 9, 8, 7, 5, 4, 0])),
-        7 => damage_table(draw, lent),
-        8 | 9 => damage_book(draw, lent),
+        6 | 7 => damage_own(draw, call, lent),
+        8 => damage_table(draw, &mut lent.table),
+        9 | 10 => damage_book(draw, lent),
         _ => damage_log(draw, lent),
+    }
+}
+
+#[cfg(test)]
+mod tests {
+    use super::*;
+    use crate::lent_draw;
+    use std::collections::BTreeMap;
+
+    /// How often each number was met, by what it is of.
+    type Met = BTreeMap<(&'static str, usize), usize>;
+
+    fn add_message(met: &mut Met, message: &Buffer) {
+        let mut add = |what, number| *met.entry((what, number)).or_default() += 1;
+        add("length of a message", message.length());
+        if let [kind, round, ..] = *message.lent() {
+            add("kind", usize::from(kind));
+            match kind {
+                1 => add("round of an acknowledgment", usize::from(round)),
+                2 => add("round of a check message", usize::from(round)),
+                _ => {}
+            }
+        }
+    }
+
+    fn met() -> Met {
+        let mut met = Met::new();
+        for place in 0..40_000 {
+            let mut draw = Draw::new(11, place);
+            let scene = lent_draw::scene(&mut draw);
+            let call = lent_draw::call(&mut draw, &scene);
+            let mut lent = scene.lent(&mut draw, &call);
+            damage(&mut draw, &call, &mut lent);
+            let mut add = |what, number| *met.entry((what, number)).or_default() += 1;
+            match call {
+                Call::JudgeTable => add("length of a table that is judged", lent.table.length()),
+                _ => add("length of a table", lent.table.length()),
+            }
+            match call {
+                Call::Receive { .. } => add_message(&mut met, &lent.message),
+                Call::Turn { .. } => {
+                    add("room for a message", lent.message.length());
+                    add("room for an entry", lent.entry.length());
+                }
+                _ => {}
+            }
+        }
+        met
+    }
+
+    #[test]
+    fn every_edge_is_met() {
+        let met = met();
+        let edges: [(&str, &[usize]); 8] = [
+            ("length of a table that is judged", &[0, 1, 2, 3, 4, 5]),
+            ("length of a table", &[0, 1, 2, 3, 9]),
+            ("length of a message", &[0, 1, 9, 10, 11, 20]),
+            ("kind", &[0, 1, 2, 3, 255]),
+            ("round of an acknowledgment", &[0, 1, 33, 34, 255]),
+            ("round of a check message", &[0, 1, 33, 34, 255]),
+            ("room for a message", &[0, 9, 10, 11]),
+            ("room for an entry", &[0, 17, 18, 19]),
+        ];
+        for (what, numbers) in edges {
+            for number in numbers {
+                let times = met.get(&(what, *number)).copied().unwrap_or(0);
+                assert!(times >= 5, "{what} was {number} only {times} times");
+            }
+        }
     }
 }

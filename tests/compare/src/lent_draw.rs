@@ -5,6 +5,8 @@ use crate::draw::Draw;
 use crate::generator;
 use crate::lent_calls::{Buffer, Call, Lent};
 use crate::site_bytes::{encode, least_span, SPAN};
+use reference::log::ENTRY_BYTES;
+use reference::message::MESSAGE_BYTES;
 use reference::site::MOST_ROUND;
 use reference::{bytes_of_set, play_run, Delivery, Entry, Phase, Proposal, Rules, Set, Site, SiteTable};
 
@@ -25,6 +27,13 @@ pub fn set(draw: &mut Draw, rules: &Rules) -> Set {
         set.insert(draw.within(rules.book.count(), 64));
     }
     set
+}
+
+/// A message of either kind, often of the site's round.
+pub fn message(draw: &mut Draw, rules: &Rules, site: &Site) -> Vec<u8> {
+    let (kind, any) = (draw.pick(&[1, 1, 1, 2, 2]), around(draw, 1, MOST_ROUND));
+    let round = if draw.percent(60) { site.round } else { any };
+    [&[kind, round as u8][..], &bytes_of_set(&set(draw, rules))].concat()
 }
 
 /// A round that is often the same, so that site and log meet.
@@ -239,22 +248,45 @@ fn buffer(draw: &mut Draw, content: &[u8]) -> Buffer {
     Buffer::new(&[content, &tail].concat(), draw.byte())
 }
 
+/// So many bytes of any kind, and at times more of them.
+fn room(draw: &mut Draw, size: usize) -> Buffer {
+    let any: Vec<u8> = (0..size).map(|_| draw.byte()).collect();
+    buffer(draw, &any)
+}
+
 impl Scene {
-    /// What is lent for this scene, whose site's numbers fit into bytes; now and then its span is out of range.
-    pub fn lent(&self, draw: &mut Draw) -> Lent {
+    /// The table as a run's header has it: with a mask, where the call judges one.
+    fn table(&self, draw: &mut Draw, call: &Call) -> Vec<u8> {
+        let mut table = vec![self.rules.table.sites() as u8, self.rules.table.faults() as u8];
+        if *call == Call::JudgeTable {
+            let any = draw.bits() as u16;
+            let mask: u16 = draw.pick(&[0, 0, 0, 1, 2, 3, 7, 1 << 5, 1 << 10, 1 << 11, 1 << 15, 33, any]);
+            table.extend(mask.to_le_bytes());
+        }
+        table
+    }
+
+    /// What is lent to a call in this scene, whose site's numbers fit into bytes; now and then its span is out of
+    /// range.
+    pub fn lent(&self, draw: &mut Draw, call: &Call) -> Lent {
         let mut site = bytes(draw, &self.site, &self.rules);
         if draw.percent(1) {
             let span: u16 = draw.pick(&[34, 35, 255, 256, 256 + 33, u16::MAX]);
             site[SPAN..SPAN + 2].copy_from_slice(&span.to_le_bytes());
         }
-        let out: Vec<u8> = (0..27).map(|_| draw.byte()).collect();
+        let table = self.table(draw, call);
+        let message = match call {
+            Call::Receive { .. } => Buffer::new(&message(draw, &self.rules, &self.site), draw.byte()),
+            _ => room(draw, MESSAGE_BYTES),
+        };
         Lent {
-            sites: self.rules.table.sites(),
-            faults: self.rules.table.faults(),
+            table: buffer(draw, &table),
             book: Buffer::new(&self.book, draw.byte()),
             site: buffer(draw, &site),
             log: Buffer::new(&self.log, draw.byte()),
-            out: buffer(draw, &out),
+            message,
+            entry: room(draw, ENTRY_BYTES),
+            out: room(draw, 8),
         }
     }
 }
@@ -267,10 +299,6 @@ fn operand(draw: &mut Draw, low: usize, high: usize) -> usize {
     } else {
         inside
     }
-}
-
-fn set_bits(draw: &mut Draw, rules: &Rules) -> u64 {
-    u64::from_le_bytes(bytes_of_set(&set(draw, rules)))
 }
 
 /// A command for a fast delivery, one that is enabled where there is one.
@@ -291,19 +319,11 @@ pub fn call(draw: &mut Draw, scene: &Scene) -> Call {
         return Call::Turn { own: scene.own };
     }
     match draw.below(24) {
-        0 => {
-            let any = draw.bits() as u16;
-            Call::JudgeTable { mask: draw.pick(&[0, 0, 0, 1, 2, 3, 7, 1 << 5, 1 << 10, 1 << 11, 1 << 15, 33, any]) }
-        }
+        0 => Call::JudgeTable,
         1 => Call::JudgeBook,
         2 => Call::Fresh,
         3 | 4 => Call::ReceiveCommand { command: operand(draw, 0, count.saturating_sub(1)) },
-        5..=7 => {
-            let (sender, any) = (operand(draw, 0, sites - 1), operand(draw, 1, 33));
-            let round = if draw.percent(60) { scene.site.round } else { any };
-            Call::ReceiveAcknowledgment { sender, round, set: set_bits(draw, &scene.rules) }
-        }
-        8 | 9 => Call::ReceiveCheck { set: set_bits(draw, &scene.rules) },
+        5..=9 => Call::Receive { sender: operand(draw, 0, sites - 1) },
         10..=13 => Call::Turn { own: if draw.percent(80) { scene.own } else { operand(draw, 0, sites - 1) } },
         14 | 15 => Call::FastDelivery { command: fast_command(draw, scene) },
         16 | 17 => Call::LogRead,

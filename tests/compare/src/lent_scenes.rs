@@ -29,10 +29,11 @@ pub fn play(engine: &mut dyn Engine, calls: u64, seed: u64, met: &mut Met) -> Re
 
 /// One call; where nothing lent was damaged, the scene goes on with the later site.
 fn play_call(engine: &mut dyn Engine, draw: &mut Draw, scene: &mut Scene, met: &mut Met) -> Result<(), String> {
-    let (mut lent, call) = (scene.lent(draw), call(draw, scene));
+    let call = call(draw, scene);
+    let mut lent = scene.lent(draw, &call);
     let damages = draw.pick(&[0, 0, 0, 0, 0, 0, 1, 1, 1, 2, 3]);
     for _ in 0..damages {
-        damage(draw, &mut lent);
+        damage(draw, &call, &mut lent);
     }
     let outcome = check(engine, &call, &lent)?;
     met.add(&call, &outcome);
@@ -48,7 +49,7 @@ fn go_on(draw: &mut Draw, scene: &mut Scene, call: &Call, outcome: Outcome) {
         scene.site = Site::start();
     }
     if outcome.cause == PROPOSES && draw.percent(80) {
-        scene.log.extend(&outcome.out[9..]);
+        scene.log.extend(&outcome.outputs.entry);
     }
     if *call == Call::Fresh && draw.percent(80) {
         return;

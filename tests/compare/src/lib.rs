@@ -1,18 +1,17 @@
-//! Random runs for the reference and for programs compared with it.
+//! Random runs and calls for the reference and for programs compared with it.
 //!
 //! `cargo test --offline` plays 20,000 runs and checks demand 3 of each. BEURILMA_RUNS and BEURILMA_SEED change
-//! their number and their seed, BEURILMA_FUZZ_SECONDS the time spent on damaged bytes. With `--features archive`
-//! and BEURILMA_ARCHIVE, the path of the proved program's static archive, every print is compared with its print.
+//! their number and their seed, BEURILMA_FUZZ_SECONDS the time spent on damaged bytes. It also makes 100,000 calls of
+//! a stand-in for the one-site engine (BEURILMA_CALLS changes their number) and compares each with the reference.
 //!
-//! It also makes 100,000 calls of the one-site engine (BEURILMA_CALLS changes their number) and compares each with
-//! the reference: calls of the engine's static archive with `--features host` and BEURILMA_HOST_ARCHIVE, its path,
-//! else of a stand-in.
+//! With `--features archive` and DASH_REGISTER_ARCHIVE, the path of the library's static archive, every print is also
+//! compared with that of the proved program, and as many calls are made of the proved engine.
 
 pub mod books;
 pub mod damage;
 pub mod draw;
 pub mod driver;
-#[cfg(feature = "host")]
+#[cfg(feature = "archive")]
 pub mod engine;
 pub mod expected;
 pub mod generator;

@@ -6,6 +6,8 @@ use crate::lent_calls::{Call, Engine, Lent};
 use reference::{Book, Register};
 
 const SITE: usize = 3536;
+const MESSAGE: usize = 10;
+const ENTRY: usize = 18;
 const POSITION: usize = 2;
 const COUNT: usize = 4;
 const SPAN: usize = 6;
@@ -114,24 +116,24 @@ impl Frame {
 
     /// What a log read answers for the entry at this place.
     fn judge_entry(&self, log: &[u8], place: usize) -> u32 {
-        let entry = &log[18 * place..18 * place + 18];
+        let entry = &log[ENTRY * place..ENTRY * place + ENTRY];
         let fits = usize::from(entry[0]) < self.sites && (1..=32).contains(&entry[1]);
         if !fits || !self.holds(word(entry, 2)) || !self.holds(word(entry, 10)) {
             return 4;
         }
-        7 * u32::from(entries_of(&log[..18 * place], entry[0], entry[1]) >= 2)
+        7 * u32::from(entries_of(&log[..ENTRY * place], entry[0], entry[1]) >= 2)
     }
 
     fn has_read_well(&self, site: &[u8], log: &[u8]) -> bool {
         let position = log_position(site);
-        18 * position <= log.len() && (0..position).all(|place| self.judge_entry(log, place) == 0)
+        ENTRY * position <= log.len() && (0..position).all(|place| self.judge_entry(log, place) == 0)
     }
 
     /// The sets NC and C of a decided round.
     fn decision(&self, site: &[u8], log: &[u8]) -> Option<(u64, u64)> {
         let mut seen = [0; 11];
         let mut valid: [Option<(u64, u64)>; 11] = [None; 11];
-        for entry in log[..18 * log_position(site)].chunks(18).filter(|entry| entry[1] == site[0]) {
+        for entry in log[..ENTRY * log_position(site)].chunks(ENTRY).filter(|entry| entry[1] == site[0]) {
             let source = usize::from(entry[0]);
             seen[source] += 1;
             let stands = seen[source] == 1 && self.is_free_of_conflict(word(entry, 2));
@@ -173,7 +175,7 @@ impl Frame {
 
 /// How many entries of a site and round are in the log.
 fn entries_of(log: &[u8], site: u8, round: u8) -> usize {
-    log.chunks(18).filter(|entry| entry[0] == site && entry[1] == round).count()
+    log.chunks(ENTRY).filter(|entry| entry[0] == site && entry[1] == round).count()
 }
 
 fn receive(site: &mut [u8], set: u64) -> u32 {
@@ -194,7 +196,24 @@ fn hear(site: &mut [u8], sender: usize, round: usize, set: u64) {
     put_word(site, at, heard | set);
 }
 
-fn turn(frame: &Frame, site: &mut [u8], log: &[u8], own: usize, out: &mut [u8]) -> u32 {
+/// A message with its length and its kind.
+fn receive_message(frame: &Frame, site: &mut [u8], sender: usize, message: &[u8]) -> u32 {
+    let (round, set) = (usize::from(message[1]), word(message, 2));
+    if sender >= frame.sites || !(1..=33).contains(&round) || !frame.holds(set) {
+        return 4;
+    }
+    if message[0] == 1 {
+        hear(site, sender, round, set);
+    }
+    receive(site, set)
+}
+
+fn put_message(message: &mut [u8], kind: u8, round: u8, set: u64) {
+    (message[0], message[1]) = (kind, round);
+    put_word(message, 2, set);
+}
+
+fn turn(frame: &Frame, site: &mut [u8], log: &[u8], own: usize, message: &mut [u8], entry: &mut [u8]) -> u32 {
     let (open, pending) = (word(site, RECEIVED) & !word(site, DELIVERED), word(site, PENDING));
     if own >= frame.sites {
         return 4;
@@ -204,8 +223,7 @@ fn turn(frame: &Frame, site: &mut [u8], log: &[u8], own: usize, out: &mut [u8]) 
     }
     if frame.is_free_of_conflict(open) {
         put_word(site, PENDING, open);
-        out[0] = 1;
-        put_word(out, 1, open);
+        put_message(message, 1, site[0], open);
         return 0;
     }
     if entries_of(log, own as u8, site[0]) >= 2 {
@@ -217,11 +235,10 @@ fn turn(frame: &Frame, site: &mut [u8], log: &[u8], own: usize, out: &mut [u8]) 
     site[1] = 1;
     put_word(site, NC, pending);
     put_word(site, C, open & !pending);
-    out[0] = 2;
-    put_word(out, 1, open);
-    (out[9], out[10]) = (own as u8, site[0]);
-    put_word(out, 11, pending);
-    put_word(out, 19, open & !pending);
+    put_message(message, 2, site[0], open);
+    (entry[0], entry[1]) = (own as u8, site[0]);
+    put_word(entry, 2, pending);
+    put_word(entry, 10, open & !pending);
     0
 }
 
@@ -245,7 +262,7 @@ fn fast_delivery(frame: &Frame, site: &mut [u8], command: usize) -> u32 {
 
 fn log_read(frame: &Frame, site: &mut [u8], log: &[u8]) -> u32 {
     let position = log_position(site);
-    if 18 * position == log.len() {
+    if ENTRY * position == log.len() {
         return 6;
     }
     let answer = frame.judge_entry(log, position);
@@ -279,17 +296,13 @@ fn copy(out: &mut [u8], part: &[u8]) -> u32 {
 }
 
 /// The call on bytes that are a site, with entries read that are well.
-fn step(call: &Call, frame: &Frame, site: &mut [u8], log: &[u8], out: &mut [u8]) -> u32 {
+fn step(call: &Call, frame: &Frame, lent: &mut Lent) -> u32 {
+    let Lent { log, message, entry, out, .. } = lent;
+    let (site, log, out) = (&mut lent.site.lent_mut()[..SITE], log.lent(), out.lent_mut());
     match *call {
         Call::ReceiveCommand { command } if command < frame.count() => receive(site, 1 << command),
-        Call::ReceiveCheck { set } if frame.holds(set) => receive(site, set),
-        Call::ReceiveAcknowledgment { sender, round, set }
-            if sender < frame.sites && (1..=33).contains(&round) && frame.holds(set) =>
-        {
-            hear(site, sender, round, set);
-            receive(site, set)
-        }
-        Call::Turn { own } => turn(frame, site, log, own, out),
+        Call::Receive { sender } => receive_message(frame, site, sender, message.lent()),
+        Call::Turn { own } => turn(frame, site, log, own, message.lent_mut(), entry.lent_mut()),
         Call::FastDelivery { command } => fast_delivery(frame, site, command),
         Call::LogRead => log_read(frame, site, log),
         Call::RoundEnd => round_end(frame, site, log),
@@ -302,42 +315,63 @@ fn step(call: &Call, frame: &Frame, site: &mut [u8], log: &[u8], out: &mut [u8])
     }
 }
 
-fn is_table(sites: usize, faults: usize) -> bool {
-    faults <= 2 && sites <= 11 && sites > 5 * faults
+/// n and f, where they are within their limits.
+fn table(bytes: &[u8]) -> Option<(usize, usize)> {
+    let [sites, faults, ..] = bytes else { return None };
+    (*faults <= 2 && *sites <= 11 && *sites > 5 * faults).then_some((usize::from(*sites), usize::from(*faults)))
+}
+
+fn judge_table(bytes: &[u8]) -> u32 {
+    let (Some((sites, faults)), [_, _, low, high, ..]) = (table(bytes), bytes) else { return 2 };
+    let mask = usize::from(*low) + 256 * usize::from(*high);
+    let fits = mask >> sites == 0 && mask.count_ones() as usize <= faults;
+    2 * u32::from(!fits)
+}
+
+/// Whether what a call writes into is long enough.
+fn has_room(call: &Call, lent: &Lent) -> bool {
+    let has_outputs = match call {
+        Call::Turn { .. } => lent.message.length() >= MESSAGE && lent.entry.length() >= ENTRY,
+        Call::Bike { .. } => lent.out.length() >= 8,
+        Call::Status | Call::Delivery { .. } => lent.out.length() >= 5,
+        _ => true,
+    };
+    has_outputs && lent.site.length() >= SITE
+}
+
+/// Whether the log or message that a call is lent has its form.
+fn has_form(call: &Call, lent: &Lent) -> bool {
+    match call {
+        Call::Receive { .. } => lent.message.length() == MESSAGE && matches!(lent.message.lent()[0], 1 | 2),
+        _ => !call.has_log() || lent.log.length().is_multiple_of(ENTRY),
+    }
 }
 
 impl Engine for StandIn {
     fn call(&mut self, call: &Call, lent: &mut Lent) -> u32 {
         let book = Book::read(lent.book.lent());
-        let is_table = is_table(lent.sites, lent.faults);
-        if let Call::JudgeTable { mask } = call {
-            let fits = is_table && mask >> lent.sites == 0 && mask.count_ones() as usize <= lent.faults;
-            return 2 * u32::from(!fits);
+        match call {
+            Call::JudgeTable => return judge_table(lent.table.lent()),
+            Call::JudgeBook => return u32::from(book.is_err()),
+            _ if !has_room(call, lent) => return 9,
+            Call::Fresh => {
+                let site = lent.site.lent_mut();
+                site[..HEARD].fill(0);
+                site[0] = 1;
+                return 0;
+            }
+            _ => {}
         }
-        if *call == Call::JudgeBook {
-            return u32::from(book.is_err());
-        }
-        if lent.site.length() < SITE || lent.out.length() < call.out_bytes() {
-            return 9;
-        }
-        let site = &mut lent.site.lent_mut()[..SITE];
-        if *call == Call::Fresh {
-            site[..HEARD].fill(0);
-            site[0] = 1;
-            return 0;
-        }
-        if !is_table {
-            return 2;
-        }
+        let Some((sites, faults)) = table(lent.table.lent()) else { return 2 };
         let Ok(book) = book else { return 1 };
-        let (log, out) = (lent.log.lent(), lent.out.lent_mut());
-        let frame = Frame { sites: lent.sites, faults: lent.faults, book };
-        if call.has_log() && !log.len().is_multiple_of(18) {
+        if !has_form(call, lent) {
             return 3;
         }
+        let frame = Frame { sites, faults, book };
+        let (site, log) = (&lent.site.lent()[..SITE], lent.log.lent());
         if !frame.is_site(site) || call.has_log() && !frame.has_read_well(site, log) {
             return 4;
         }
-        step(call, &frame, site, log, out)
+        step(call, &frame, lent)
     }
 }

@@ -2,22 +2,22 @@
 
 use compare::books;
 use compare::draw::Draw;
-use compare::lent_draw::{around, log, set, site};
+use compare::lent_draw::{around, log, message, site};
 use compare::settings::{number, say};
 use reference::{lent, play_run, Rules, Site};
 use std::collections::BTreeMap;
 
 /// One call of any kind; the refusal, if it is refused.
-fn call(draw: &mut Draw, site: &mut Site, rules: &Rules, log: &mut Vec<u8>) -> Result<(), u32> {
+fn call(draw: &mut Draw, site: &mut Site, rules: &Rules, log: &[u8]) -> Result<(), u32> {
     let sites = rules.table.sites();
     let command = around(draw, 0, rules.book.count().saturating_sub(1));
     match draw.below(8) {
         0 => lent::receive_command(site, rules, command),
-        1 => {
-            let (sender, round) = (around(draw, 0, sites - 1), around(draw, 1, 33));
-            lent::receive_acknowledgment(site, rules, sender, round, &set(draw, rules))
+        1 | 2 => {
+            let (sender, mut message) = (around(draw, 0, sites - 1), message(draw, rules, site));
+            message.truncate(around(draw, message.len(), message.len()));
+            lent::receive(site, rules, sender, &message)
         }
-        2 => lent::receive_check(site, rules, &set(draw, rules)),
         3 | 4 => lent::turn(site, rules, around(draw, 0, sites - 1), log).map(|_| ()),
         5 => lent::fast_delivery(site, rules, command),
         6 => lent::log_read(site, rules, log),
@@ -32,12 +32,12 @@ fn lent_sites() {
     for place in 0..calls {
         let mut draw = Draw::new(seed ^ 0x1E47, place);
         let rules = play_run(&books::opening(&mut draw).bytes()).expect("an opening is taken").world.rules;
-        let mut log = log(&mut draw, &rules);
+        let log = log(&mut draw, &rules);
         let mut site = site(&mut draw, &rules, log.len() / 18);
-        let before = (site.clone(), log.clone());
-        let verdict = call(&mut draw, &mut site, &rules, &mut log);
+        let before = site.clone();
+        let verdict = call(&mut draw, &mut site, &rules, &log);
         if verdict.is_err() {
-            assert!(before == (site, log), "call {place} of seed {seed} was refused and changed something");
+            assert!(before == site, "call {place} of seed {seed} was refused and changed something");
         } else {
             assert_eq!(lent::check_site(&site, &rules), Ok(()), "call {place} of seed {seed} left a bad site");
         }
