@@ -1,8 +1,9 @@
 /*
  * Six dealer sites in one process, over a network with random delays, one of them faulty.
  *
- * The host's part is what document 01 leaves to it: carrying messages, naming senders, and one log that is the same for all.
- * Each correct site is 3,536 bytes that the engine steps. The faulty site says something else to everybody and logs twice.
+ * The host's part is what document 01 leaves to it: carrying bytes from site to site, naming their senders, and keeping one log that is
+ * the same for all. It reads no message; the library judges those of the faulty site too.
+ * Each correct site is 3,536 bytes that the library steps. The faulty site says something else to everybody and logs twice.
  * At the end each correct site's deliveries and readings are printed, and compared.
  *
  *     sh examples/host.sh [SEED]
@@ -15,6 +16,8 @@
 
 enum { SITES = 6, FAULTS = 1, FAULTY = 5, MESSAGES = 4096, ENTRIES = 704, TICKS = 4000 };
 
+static const uint8_t table[DASH_REGISTER_TABLE_BYTES] = {SITES, FAULTS};
+
 /* The book: ADD, ADD, READ on bike 3; FIT, TRIM, READ on bike 7; ADD, ADD on bike 9. */
 static const uint8_t book[] = {
     1, 3, 120, 0, 1, 3, 45, 0, 3, 3,
@@ -23,21 +26,22 @@ static const uint8_t book[] = {
 };
 enum { COMMANDS = 8 };
 
-enum kind { COMMAND, ACKNOWLEDGMENT, CHECK };
-
-struct message {
-    enum kind kind;
+/* What the network carries: the bytes of a message, or a command's number in one byte. */
+struct packet {
     int to, from, due;
-    size_t round;
-    uint64_t set; /* the command's number where a command is carried */
+    size_t length;
+    uint8_t bytes[DASH_REGISTER_MESSAGE_BYTES];
 };
 
 static uint8_t site[SITES][DASH_REGISTER_SITE_BYTES];
 static uint8_t shared_log[ENTRIES * DASH_REGISTER_ENTRY_BYTES];
 static size_t log_bytes;
-static struct message network[MESSAGES];
-static int messages;
+static struct packet network[MESSAGES];
+static int packets;
 static uint32_t random_state = 1;
+
+/* What every call on site i is lent first. */
+#define SITE(i) table, sizeof table, book, sizeof book, site[i], sizeof site[i]
 
 static uint32_t draw(uint32_t range)
 {
@@ -53,56 +57,45 @@ static void expect(uint32_t answer, const char *what)
     }
 }
 
-static uint64_t number(const uint8_t *bytes, int n)
+static void send_to(int to, int from, const uint8_t *bytes, size_t length, int now)
 {
-    uint64_t value = 0;
-    while (n-- > 0)
-        value = value * 256 + bytes[n];
-    return value;
-}
-
-static void send_to(int to, enum kind kind, int from, size_t round, uint64_t set, int now)
-{
-    if (messages == MESSAGES) {
+    if (packets == MESSAGES) {
         printf("the network is full\n");
         exit(1);
     }
-    network[messages++] = (struct message){kind, to, from, now + 1 + (int)draw(40), round, set};
+    struct packet *packet = &network[packets++];
+    *packet = (struct packet){.to = to, .from = from, .due = now + 1 + (int)draw(40), .length = length};
+    memcpy(packet->bytes, bytes, length);
 }
 
-static void send_to_all(enum kind kind, int from, size_t round, uint64_t set, int now)
+static void send_to_all(int from, const uint8_t *bytes, size_t length, int now)
 {
     for (int to = 0; to < SITES; to++)
-        send_to(to, kind, from, round, set, now);
+        send_to(to, from, bytes, length, now);
 }
 
-static void deliver(const struct message *m)
+/* A packet of one byte is a command; any other is a message, handed on as it came. One of the faulty site may be refused: it is dropped. */
+static void deliver(const struct packet *packet)
 {
-    uint8_t *state = site[m->to];
-    if (m->to == FAULTY)
+    if (packet->to == FAULTY)
         return;
-    switch (m->kind) {
-    case COMMAND:
-        expect(dash_register_receive_command(SITES, FAULTS, book, sizeof book, state, sizeof site[0], (size_t)m->set), "a command");
-        break;
-    case ACKNOWLEDGMENT:
-        expect(dash_register_receive_acknowledgment(SITES, FAULTS, book, sizeof book, state, sizeof site[0], (size_t)m->from, m->round, m->set),
-               "an acknowledgment");
-        break;
-    case CHECK:
-        expect(dash_register_receive_check(SITES, FAULTS, book, sizeof book, state, sizeof site[0], m->set), "a check message");
-        break;
+    if (packet->length == 1) {
+        expect(dash_register_receive_command(SITE(packet->to), packet->bytes[0]), "a command");
+        return;
     }
+    uint32_t answer = dash_register_receive(SITE(packet->to), (size_t)packet->from, packet->bytes, packet->length);
+    if (packet->from != FAULTY)
+        expect(answer, "a message");
 }
 
 static int deliver_due(int now)
 {
     int carried = 0;
-    for (int k = 0; k < messages;) {
+    for (int k = 0; k < packets;) {
         if (network[k].due <= now) {
-            struct message m = network[k];
-            network[k] = network[--messages];
-            deliver(&m);
+            struct packet packet = network[k];
+            network[k] = network[--packets];
+            deliver(&packet);
             carried = 1;
         } else {
             k++;
@@ -111,25 +104,21 @@ static int deliver_due(int now)
     return carried;
 }
 
-static size_t round_of(int i)
+static void append(const uint8_t *entry)
 {
-    uint8_t status[DASH_REGISTER_STATUS_BYTES];
-    expect(dash_register_status(SITES, FAULTS, book, sizeof book, site[i], sizeof site[0], status, sizeof status), "a look at a site");
-    return status[0];
+    memcpy(shared_log + log_bytes, entry, DASH_REGISTER_ENTRY_BYTES);
+    log_bytes += DASH_REGISTER_ENTRY_BYTES;
 }
 
-/* A turn: the message goes to all, a proposal to the log. */
+/* A turn: the message goes to all, and where it is a check message the entry goes to the log. */
 static int take_turn(int i, int now)
 {
-    uint8_t turn[DASH_REGISTER_TURN_BYTES] = {0};
-    size_t round = round_of(i);
-    if (dash_register_turn(SITES, FAULTS, book, sizeof book, site[i], sizeof site[0], shared_log, log_bytes, (size_t)i, turn, sizeof turn))
+    uint8_t message[DASH_REGISTER_MESSAGE_BYTES], entry[DASH_REGISTER_ENTRY_BYTES];
+    if (dash_register_turn(SITE(i), shared_log, log_bytes, (size_t)i, message, sizeof message, entry, sizeof entry))
         return 0;
-    send_to_all(turn[0] == 1 ? ACKNOWLEDGMENT : CHECK, i, round, number(turn + 1, 8), now);
-    if (turn[0] == 2) {
-        memcpy(shared_log + log_bytes, turn + 9, DASH_REGISTER_ENTRY_BYTES);
-        log_bytes += DASH_REGISTER_ENTRY_BYTES;
-    }
+    send_to_all(i, message, sizeof message, now);
+    if (message[0] == DASH_REGISTER_CHECK)
+        append(entry);
     return 1;
 }
 
@@ -137,38 +126,49 @@ static int take_turn(int i, int now)
 static int act(int i, int now)
 {
     int moved = 0;
-    while (!dash_register_log_read(SITES, FAULTS, book, sizeof book, site[i], sizeof site[0], shared_log, log_bytes))
+    while (!dash_register_log_read(SITE(i), shared_log, log_bytes))
         moved = 1;
-    while (!dash_register_round_end(SITES, FAULTS, book, sizeof book, site[i], sizeof site[0], shared_log, log_bytes))
+    while (!dash_register_round_end(SITE(i), shared_log, log_bytes))
         moved = 1;
     for (size_t m = 0; m < COMMANDS; m++)
-        if (!dash_register_fast_delivery(SITES, FAULTS, book, sizeof book, site[i], sizeof site[0], m))
+        if (!dash_register_fast_delivery(SITE(i), m))
             moved = 1;
     return take_turn(i, now) || moved;
 }
 
-/* The faulty site: other sets to everybody, and two entries of one round, one of which has a conflict in NC. */
+/* The faulty site: other sets to everybody, at times of no kind, and two entries of one round, of which the NC may have a conflict. */
 static void lie(int now)
 {
     for (int to = 0; to < SITES - 1; to++)
-        if (draw(4) == 0)
-            send_to(to, draw(2) ? ACKNOWLEDGMENT : CHECK, FAULTY, 1 + draw(4), draw(1u << COMMANDS), now);
+        if (draw(4) == 0) {
+            uint8_t message[DASH_REGISTER_MESSAGE_BYTES] = {0};
+            message[0] = (uint8_t)draw(4);
+            message[1] = (uint8_t)(1 + draw(4));
+            message[2] = (uint8_t)draw(1u << COMMANDS);
+            send_to(to, FAULTY, message, sizeof message, now);
+        }
     if (now == 20 || now == 60) {
-        uint8_t *entry = shared_log + log_bytes;
-        memset(entry, 0, DASH_REGISTER_ENTRY_BYTES);
-        entry[0] = FAULTY;
-        entry[1] = 1;
+        uint8_t entry[DASH_REGISTER_ENTRY_BYTES] = {FAULTY, 1};
         entry[2] = (uint8_t)draw(1u << COMMANDS);
         entry[10] = (uint8_t)draw(1u << COMMANDS);
-        log_bytes += DASH_REGISTER_ENTRY_BYTES;
+        append(entry);
     }
+}
+
+/* A number of several bytes, for the end's print. */
+static uint64_t number(const uint8_t *bytes, int n)
+{
+    uint64_t value = 0;
+    while (n-- > 0)
+        value = value * 256 + bytes[n];
+    return value;
 }
 
 /* The answer that site i gave to a command, and whether it gave one. */
 static int answer_of(int i, size_t command, int32_t *answer)
 {
     uint8_t delivery[DASH_REGISTER_DELIVERY_BYTES];
-    for (size_t k = 0; !dash_register_delivery(SITES, FAULTS, book, sizeof book, site[i], sizeof site[0], k, delivery, sizeof delivery); k++)
+    for (size_t k = 0; !dash_register_delivery(SITE(i), k, delivery, sizeof delivery); k++)
         if (delivery[0] == command) {
             *answer = (int32_t)(uint32_t)number(delivery + 1, 4);
             return 1;
@@ -179,12 +179,13 @@ static int answer_of(int i, size_t command, int32_t *answer)
 static void print_site(int i)
 {
     static const int bikes[] = {3, 7, 9};
-    uint8_t delivery[DASH_REGISTER_DELIVERY_BYTES], bike[DASH_REGISTER_BIKE_BYTES];
-    printf("site %d, round %zu:", i, round_of(i));
-    for (size_t k = 0; !dash_register_delivery(SITES, FAULTS, book, sizeof book, site[i], sizeof site[0], k, delivery, sizeof delivery); k++)
+    uint8_t status[DASH_REGISTER_STATUS_BYTES], delivery[DASH_REGISTER_DELIVERY_BYTES], bike[DASH_REGISTER_BIKE_BYTES];
+    expect(dash_register_status(SITE(i), status, sizeof status), "a look at a site");
+    printf("site %d, round %u:", i, status[0]);
+    for (size_t k = 0; !dash_register_delivery(SITE(i), k, delivery, sizeof delivery); k++)
         printf(" %u=%d", delivery[0], (int)(int32_t)(uint32_t)number(delivery + 1, 4));
     for (int b = 0; b < 3; b++) {
-        expect(dash_register_bike(SITES, FAULTS, book, sizeof book, site[i], sizeof site[0], (size_t)bikes[b], bike, sizeof bike), "a bike");
+        expect(dash_register_bike(SITE(i), (size_t)bikes[b], bike, sizeof bike), "a bike");
         printf("  bike %d %u km dash %u", bikes[b], (unsigned)number(bike, 4), (unsigned)number(bike + 4, 4));
     }
     printf("\n");
@@ -210,8 +211,8 @@ int main(int argc, char **argv)
         random_state = (uint32_t)strtoul(argv[1], NULL, 10);
     for (int i = 0; i < SITES; i++)
         expect(dash_register_fresh(site[i], sizeof site[i]), "a fresh site");
-    for (size_t m = 0; m < COMMANDS; m++)
-        send_to_all(COMMAND, (int)draw(SITES), 0, m, (int)draw(100));
+    for (uint8_t m = 0; m < COMMANDS; m++)
+        send_to_all((int)draw(SITES), &m, 1, (int)draw(100));
 
     int now = 0, quiet = 0;
     for (; now < TICKS && quiet < 50; now++) {
@@ -221,7 +222,7 @@ int main(int argc, char **argv)
                 moved |= act(i, now);
         if (now < 200)
             lie(now);
-        quiet = moved || messages ? 0 : quiet + 1;
+        quiet = moved || packets ? 0 : quiet + 1;
     }
 
     printf("after %d ticks, %zu log entries\n", now, log_bytes / DASH_REGISTER_ENTRY_BYTES);

@@ -3,11 +3,13 @@
 set -u
 cd "$(dirname "$0")/.." || exit 1
 
+programs="host_test refusal_test run_test"
+
 build() {
-  rt staticlib host \
-    && rt staticlib archive \
-    && gcc -O2 -Wall -Wextra -Werror -I include tests/host/host_test.c -Ltarget/staticlib -lhost -o target/host_test \
-    && gcc -O2 -Wall -Wextra -Werror -I include tests/host/run_test.c -Ltarget/staticlib -larchive -lhost -o target/run_test
+  rt staticlib dash_register || return 1
+  for program in $programs; do
+    gcc -O2 -Wall -Wextra -Werror -I include "tests/host/$program.c" -Ltarget/staticlib -ldash_register -o "target/$program" || return 1
+  done
 }
 
 if ! build; then
@@ -18,7 +20,7 @@ fi
 log=$(mktemp)
 trap 'rm -f "$log"' EXIT
 status=0
-for program in host_test run_test; do
+for program in $programs; do
   "target/$program" | tee -a "$log"
   [ "${PIPESTATUS[0]}" -eq 0 ] || status=1
 done

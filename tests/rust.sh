@@ -1,11 +1,10 @@
 #!/usr/bin/env bash
-# The tests in Rust: the reference's own; the proved program against it on random runs; the one-site engine against it on random calls;
-# and the benchmark's tuned program against it. Closes with 'N passed, M failed'.
+# The tests in Rust: the reference's own; the proved library against it, on random runs and on random calls of one site; and the
+# benchmark's tuned program against it. Closes with 'N passed, M failed'.
 set -u
 cd "$(dirname "$0")/.." || exit 1
 export CARGO_TARGET_DIR="$PWD/target/cargo"
-export BEURILMA_ARCHIVE="$PWD/target/staticlib/libarchive.a"
-export BEURILMA_HOST_ARCHIVE="$PWD/target/staticlib/libhost.a"
+export DASH_REGISTER_ARCHIVE="$PWD/target/staticlib/libdash_register.a"
 
 log=$(mktemp)
 trap 'rm -f "$log"' EXIT
@@ -18,11 +17,9 @@ tests() { # PACKAGE OPTION..
   [ "${PIPESTATUS[0]}" -eq 0 ] || status=1
 }
 
-rt staticlib archive || status=1
-rt staticlib host || status=1
+rt staticlib dash_register || status=1
 tests reference
 tests tests/compare --features archive
-tests tests/compare --features host --test engine
 tests bench
 
 passed=$(awk '/^test result:/ { n += $4 } END { print n + 0 }' "$log")

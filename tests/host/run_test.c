@@ -30,6 +30,9 @@ static const char one_site_print[] = "run 1 sites 0 liars 2 commands\nsite 00 ro
 static const uint8_t six_sites[] = {6, 1, 0, 0, sizeof book, 0, 0x02, 0x05, 0x07, 0, 0, 0, 0xB0, 0x36, 0, 0, 0x03, 0x05, 1, 3, 0, 7, 3,
                                     2, 1, 3, 1, 1};
 
+/* The table and book of a run, for a call of one site: the run itself is lent as the table. */
+#define RUN(run) run, sizeof run, book, sizeof book
+
 /* Other bytes each time, in every buffer. */
 static void start(uint32_t seed) {
   uint8_t *byte = (uint8_t *)&lent;
@@ -75,32 +78,29 @@ static void play_one_site(uint32_t seed, size_t more) {
   out_length += more;
   printed("print", run(one_site, sizeof one_site), one_site_print);
   rest_kept("past the sizes", 1);
-  check("status", dash_register_status(1, 0, book, sizeof book, lent.sites, sites_length, seen, sizeof seen) == DASH_REGISTER_TAKEN);
+  check("status", dash_register_status(RUN(one_site), lent.sites, sites_length, seen, sizeof seen) == DASH_REGISTER_TAKEN);
   check("status", memcmp(seen, status, sizeof status) == 0);
-  check("bike", dash_register_bike(1, 0, book, sizeof book, lent.sites, sites_length, 5, seen, sizeof seen) == DASH_REGISTER_TAKEN);
+  check("bike", dash_register_bike(RUN(one_site), lent.sites, sites_length, 5, seen, sizeof seen) == DASH_REGISTER_TAKEN);
   check("bike", memcmp(seen, bike, sizeof bike) == 0);
-  check("delivery", dash_register_delivery(1, 0, book, sizeof book, lent.sites, sites_length, 1, seen, sizeof seen) == DASH_REGISTER_TAKEN);
+  check("delivery", dash_register_delivery(RUN(one_site), lent.sites, sites_length, 1, seen, sizeof seen) == DASH_REGISTER_TAKEN);
   check("delivery", memcmp(seen, delivery, sizeof delivery) == 0);
 }
 
 /* The sites are those of the one-site engine after the same steps, on the same bytes. */
 static void play_six_sites(uint32_t seed) {
-  uint8_t turn[DASH_REGISTER_TURN_BYTES];
+  size_t size = DASH_REGISTER_SITE_BYTES;
+  uint8_t *site_1 = before.sites + size, *site_3 = before.sites + 3 * size;
+  uint8_t message[DASH_REGISTER_MESSAGE_BYTES], entry[DASH_REGISTER_ENTRY_BYTES];
   start(seed);
   check("answer", run(six_sites, sizeof six_sites) > 0);
   rest_kept("past six sites", 6);
-  for (size_t i = 0; i < 6; i++) {
-    size_t size = DASH_REGISTER_SITE_BYTES;
-    uint8_t *site = before.sites + i * size;
-    check("fresh", dash_register_fresh(site, size) == DASH_REGISTER_TAKEN);
-    if (i == 1)
-      check("acknowledgment", dash_register_receive_acknowledgment(6, 1, book, sizeof book, site, size, 3, 1, 1) == DASH_REGISTER_TAKEN);
-    if (i == 3) {
-      check("command", dash_register_receive_command(6, 1, book, sizeof book, site, size, 0) == DASH_REGISTER_TAKEN);
-      check("turn", dash_register_turn(6, 1, book, sizeof book, site, size, NULL, 0, 3, turn, sizeof turn) == DASH_REGISTER_TAKEN);
-    }
-    check("a site's bytes", memcmp(lent.sites + i * size, site, size) == 0);
-  }
+  for (size_t i = 0; i < 6; i++)
+    check("fresh", dash_register_fresh(before.sites + i * size, size) == DASH_REGISTER_TAKEN);
+  check("command", dash_register_receive_command(RUN(six_sites), site_3, size, 0) == DASH_REGISTER_TAKEN);
+  check("turn", dash_register_turn(RUN(six_sites), site_3, size, NULL, 0, 3, message, sizeof message, entry, sizeof entry) ==
+                    DASH_REGISTER_TAKEN);
+  check("acknowledgment", dash_register_receive(RUN(six_sites), site_1, size, 3, message, sizeof message) == DASH_REGISTER_TAKEN);
+  check("the sites' bytes", memcmp(lent.sites, before.sites, 6 * size) == 0);
 }
 
 static void refused(const char *what, size_t answer) {
