@@ -35,14 +35,16 @@ for group in a:2 b:2 c:4 d:4 e:10 f:11; do
   check "rows ${group%:*} of runs" "${group#*:}" "$(rows 'Runs:' | grep "^${group%:*}  " | whole 7)"
 done
 check "the line that runs are judged by" 1 "$(grep -cE '^proved/tuned of [0-9]+ rows: mean [0-9.]+, greatest [0-9.]+$' "$out")"
-check "rows of single calls" 89 "$(rows 'Single calls' | whole 3)"
+check "rows of single calls" 93 "$(rows 'Single calls' | whole 3)"
 
 # Each function of the header but for whole runs has a row that is answered 0, and each refusal of one site has one.
 functions=$(sed -nE 's/^[a-z0-9_]+ dash_register_([a-z_]+)\(.*/\1/p' include/dash_register.h | grep -vx run)
-check "functions of the header" 13 "$(echo "$functions" | wc -l)"
+check "functions of the header" 12 "$(echo "$functions" | wc -l)"
 for function in $functions; do
   check "$function has a row" yes "$(rows 'Single calls' | grep -v refused | grep -q "^$function " && echo yes)"
 done
+check "rows of received acknowledgments" 6 "$(rows 'Single calls' | grep '^receive ' | grep -c acknowledgment)"
+check "rows of received check messages" 6 "$(rows 'Single calls' | grep '^receive ' | grep -v refused | grep -c 'check message')"
 for refusal in 1 2 3 4 6 7 8 9; do
   check "refusal $refusal has a row" yes "$(rows 'Single calls' | grep -q "refused $refusal:" && echo yes)"
 done

@@ -1,5 +1,5 @@
-//! Prints times: of whole runs in the reference, the tuned and, with the feature `archive`, the proved program; of
-//! single calls of one site in the reference and, with the feature `host`, the proved library.
+//! Prints times: of whole runs in the reference, the tuned and the proved program; of single calls of one site in the
+//! reference and the proved library. What is proved is measured with the feature `archive`.
 
 use bench::calls::cases::{self, Case};
 use bench::calls::engines::{self, Named, Nothing};
@@ -138,7 +138,7 @@ fn most_stack(engine: &mut dyn Engine, cases: &[Case]) -> Option<usize> {
 
 /// What the calls are lent, which is the same for all programs, and what each takes beside.
 fn memory_of_calls(engines: &mut [Named], cases: &[Case]) -> Table {
-    let columns = ["program", "lent: site", "a log entry", "a turn", "most heap in a call", "most stack in a call"];
+    let columns = ["program", "lent: site", "a log entry", "a message", "most heap in a call", "most stack in a call"];
     let mut table = Table::new("Memory of single calls in bytes", &columns);
     for Named { name, engine } in engines {
         let mut most = 0;
@@ -147,7 +147,7 @@ fn memory_of_calls(engines: &mut [Named], cases: &[Case]) -> Table {
             most = most.max(most_held(|| _ = engine.call(&case.call, &mut lent)));
         }
         let stack = most_stack(engine.as_mut(), cases).map_or(String::from("-"), |most| most.to_string());
-        let lent = ["3536", "18", "27"].map(String::from);
+        let lent = ["3536", "18", "10"].map(String::from);
         table.rows.push([String::from(*name)].into_iter().chain(lent).chain([most.to_string(), stack]).collect());
     }
     table

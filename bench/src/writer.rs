@@ -3,6 +3,8 @@
 use compare::books::Opening;
 use compare::lent_calls::{Buffer, Lent};
 use compare::site_bytes::{encode, least_span, SITE_BYTES};
+use reference::log::ENTRY_BYTES;
+use reference::message::MESSAGE_BYTES;
 use reference::{play_run, Entry, Set, Step, World, MOST_BYTES};
 
 pub struct Writer {
@@ -13,8 +15,10 @@ pub struct Writer {
     bytes: Vec<u8>,
 }
 
-/// Room for what any call writes out.
-const OUT_BYTES: usize = 27;
+/// Room for what any call that looks at a site writes out.
+const OUT_BYTES: usize = 8;
+/// The table with its mask, as the run begins.
+const TABLE_BYTES: usize = 4;
 
 impl Writer {
     /// A run with so many sites and as many faults as they allow; the last `faulty` sites are faulty.
@@ -105,17 +109,17 @@ impl Writer {
 
     /// What a host lends for a site as it stands: it has rows for the rounds in which it heard something.
     pub fn lent(&self, site: usize) -> Lent {
-        let table = &self.world.rules.table;
         let log: Vec<u8> = self.world.log.iter().flat_map(Entry::bytes).collect();
         let site = &self.world.sites[site];
         let mut bytes = encode(site, least_span(site)).expect("a site of a run fits into its bytes");
         bytes.resize(SITE_BYTES, 0);
         Lent {
-            sites: table.sites(),
-            faults: table.faults(),
+            table: Buffer::new(&self.bytes[..TABLE_BYTES], 0),
             book: Buffer::new(&self.book, 0),
             site: Buffer::new(&bytes, 0),
             log: Buffer::new(&log, 0),
+            message: Buffer::new(&[0; MESSAGE_BYTES], 0),
+            entry: Buffer::new(&[0; ENTRY_BYTES], 0),
             out: Buffer::new(&[0; OUT_BYTES], 0),
         }
     }

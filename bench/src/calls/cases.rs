@@ -3,8 +3,8 @@
 use super::refused;
 use crate::workloads::{conflicting_round, full_book, mid_round, propose};
 use crate::writer::Writer;
-use compare::lent_calls::{Call, Lent};
-use reference::{Set, Step};
+use compare::lent_calls::{Buffer, Call, Lent};
+use reference::{Message, MessageKind, Set, Step};
 
 /// A call on what is lent, and its answer.
 pub struct Case {
@@ -16,8 +16,25 @@ pub struct Case {
 
 impl Case {
     pub fn new(state: &str, call: Call, lent: Lent, answer: u32) -> Case {
-        Case { name: format!("{:<22} {state}", call.name()), call, lent, answer }
+        Case { name: format!("{:<15} {state}", call.name()), call, lent, answer }
     }
+}
+
+/// The same lent with a message of this kind and round, of these commands.
+pub fn with_message(lent: &Lent, kind: MessageKind, round: usize, commands: &[usize]) -> Lent {
+    let message = Message { kind, round, set: commands.iter().copied().collect() };
+    Lent { message: Buffer::new(&message.bytes(), 0), ..lent.clone() }
+}
+
+/// A message that the last site has sent is received.
+fn receive(state: &str, lent: &Lent, kind: MessageKind, round: usize, commands: &[usize]) -> Case {
+    let name = match kind {
+        MessageKind::Acknowledgment => "acknowledgment",
+        MessageKind::Check => "check message",
+    };
+    let sender = usize::from(lent.table.lent()[0]) - 1;
+    let lent = with_message(lent, kind, round, commands);
+    Case::new(&format!("{state}, {name}"), Call::Receive { sender }, lent, 0)
 }
 
 /// (g) Tables, books and fresh sites.
@@ -25,7 +42,7 @@ fn judgments() -> Vec<Case> {
     let lent = Writer::new(11, 0, full_book()).lent(0);
     let empty = Writer::new(11, 0, Vec::new()).lent(0);
     vec![
-        Case::new("11 sites", Call::JudgeTable { mask: 0 }, lent.clone(), 0),
+        Case::new("11 sites", Call::JudgeTable, lent.clone(), 0),
         Case::new("empty", Call::JudgeBook, empty, 0),
         Case::new("64 commands", Call::JudgeBook, lent.clone(), 0),
         Case::new("", Call::Fresh, lent, 0),
@@ -37,19 +54,16 @@ fn on_fresh_sites() -> Vec<Case> {
     let mut writer = Writer::new(6, 0, full_book());
     let state = "fresh, 64 commands";
     let lent = writer.lent(0);
-    let mut cases = vec![
-        Case::new(state, Call::ReceiveCommand { command: 0 }, lent.clone(), 0),
-        Case::new(state, Call::ReceiveAcknowledgment { sender: 5, round: 1, set: 1 }, lent.clone(), 0),
-        Case::new(state, Call::ReceiveCheck { set: 1 }, lent.clone(), 0),
-        Case::new(state, Call::Status, lent.clone(), 0),
-        Case::new(state, Call::Bike { bike: 5 }, lent, 0),
-    ];
+    let mut cases = vec![Case::new(state, Call::ReceiveCommand { command: 0 }, lent.clone(), 0)];
+    cases.push(receive(state, &lent, MessageKind::Acknowledgment, 1, &[0]));
+    cases.push(receive(state, &lent, MessageKind::Check, 1, &[0]));
+    cases.push(Case::new(state, Call::Status, lent.clone(), 0));
+    cases.push(Case::new(state, Call::Bike { bike: 5 }, lent, 0));
     writer.command(0);
     cases.push(Case::new("fresh, 64 commands, acknowledges", Call::Turn { own: 0 }, writer.lent(0), 0));
     let (state, lent) = ("fresh, empty book", Writer::new(6, 0, Vec::new()).lent(0));
-    let acknowledgment = Call::ReceiveAcknowledgment { sender: 5, round: 1, set: 0 };
-    cases.push(Case::new(state, acknowledgment, lent.clone(), 0));
-    cases.push(Case::new(state, Call::ReceiveCheck { set: 0 }, lent.clone(), 0));
+    cases.push(receive(state, &lent, MessageKind::Acknowledgment, 1, &[]));
+    cases.push(receive(state, &lent, MessageKind::Check, 1, &[]));
     cases.push(Case::new(state, Call::Status, lent, 0));
     cases
 }
@@ -68,18 +82,13 @@ pub fn middle(sites: usize, commands: usize) -> Writer {
 fn in_mid_round(sites: usize, commands: usize) -> Vec<Case> {
     let mut writer = middle(sites, commands);
     let state = &format!("round 17, {sites:>2} sites, {commands} commands");
-    let next = Call::ReceiveAcknowledgment { sender: sites - 1, round: 18, set: 1 << 34 };
     let lent = writer.lent(0);
-    let calls = [
-        Call::ReceiveCommand { command: 33 },
-        next,
-        Call::ReceiveCheck { set: 1 << 33 },
-        Call::FastDelivery { command: 32 },
-        Call::Status,
-        Call::Bike { bike: 5 },
-        Call::Delivery { place: 10 },
-    ];
-    let mut cases: Vec<Case> = calls.into_iter().map(|call| Case::new(state, call, lent.clone(), 0)).collect();
+    let mut cases = vec![Case::new(state, Call::ReceiveCommand { command: 33 }, lent.clone(), 0)];
+    cases.push(receive(state, &lent, MessageKind::Acknowledgment, 18, &[34]));
+    cases.push(receive(state, &lent, MessageKind::Check, 17, &[33]));
+    let calls =
+        [Call::FastDelivery { command: 32 }, Call::Status, Call::Bike { bike: 5 }, Call::Delivery { place: 10 }];
+    cases.extend(calls.map(|call| Case::new(state, call, lent.clone(), 0)));
     writer.command(33);
     cases.push(Case::new(state, Call::Turn { own: 0 }, writer.lent(0), 0));
     writer.turns();

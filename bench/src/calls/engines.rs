@@ -36,7 +36,7 @@ pub struct Named {
 pub fn all() -> Vec<Named> {
     vec![
         Named { name: "reference", engine: Box::new(Reference) },
-        #[cfg(feature = "host")]
-        Named { name: "proved", engine: Box::new(compare::engine::Host) },
+        #[cfg(feature = "archive")]
+        Named { name: "proved", engine: Box::new(compare::engine::Archive) },
     ]
 }
