@@ -40,6 +40,9 @@ pub const CHECKS: [&str; 4] = [
 ];
 const PLAIN: &str = "";
 
+/// A refusal's number and its cause.
+type Refused = (u32, &'static str);
+
 /// What is written at the front of each output.
 #[derive(Clone, Debug, Default)]
 pub struct Outputs {
@@ -98,7 +101,7 @@ pub fn expected(call: &Call, lent: &Lent) -> Outcome {
     }
     match call {
         Call::Fresh => Outcome { site: Some((Site::start(), 0)), ..Outcome::alone(0, PLAIN) },
-        _ => expected_on_site(call, lent).unwrap_or_else(|refused| refused),
+        _ => expected_on_site(call, lent).unwrap_or_else(|(number, cause)| Outcome::alone(number, cause)),
     }
 }
 
@@ -110,34 +113,33 @@ fn cause_of_table(table: &Buffer, size: usize) -> &'static str {
     }
 }
 
-/// The table and book of a call of one site, or its refusal before its log or message is looked at.
-fn rules(lent: &Lent) -> Result<Rules, Outcome> {
+/// The table and book of a call of one site.
+fn rules(lent: &Lent) -> Result<Rules, Refused> {
     lent::rules(lent.table.lent(), lent.book.lent()).map_err(|number| match number {
-        refusal::HEADER => Outcome::alone(number, cause_of_table(&lent.table, 2)),
-        _ => Outcome::alone(number, PLAIN),
+        refusal::HEADER => (number, cause_of_table(&lent.table, 2)),
+        _ => (number, PLAIN),
     })
 }
 
-/// Whether the log or message that a call is lent has its form.
-fn judge_form(call: &Call, lent: &Lent) -> Result<(), Outcome> {
-    let message = &lent.message;
-    match call {
-        Call::Receive { .. } => Message::read(message.lent())
-            .map(|_| ())
-            .map_err(|number| Outcome::alone(number, if message.length() == MESSAGE_BYTES { KIND } else { LENGTH })),
-        _ if call.has_log() => read_log(lent.log.lent()).map(|_| ()).map_err(|number| Outcome::alone(number, PLAIN)),
-        _ => Ok(()),
+/// Whether the message or log that a call is lent has its form.
+fn judge_form(call: &Call, lent: &Lent) -> Result<(), Refused> {
+    if let (Call::Receive { .. }, Err(number)) = (call, Message::read(lent.message.lent())) {
+        return Err((number, if lent.message.length() == MESSAGE_BYTES { KIND } else { LENGTH }));
     }
+    if call.has_log() {
+        read_log(lent.log.lent()).map_err(|number| (number, PLAIN))?;
+    }
+    Ok(())
 }
 
-/// What is to come of a call on a site, or its refusal.
-fn expected_on_site(call: &Call, lent: &Lent) -> Result<Outcome, Outcome> {
+/// What is to come of a call of one site whose buffers are long enough.
+fn expected_on_site(call: &Call, lent: &Lent) -> Result<Outcome, Refused> {
     let rules = rules(lent)?;
     judge_form(call, lent)?;
-    let mut site = decode(lent.site.lent(), &rules).map_err(|reason| Outcome::alone(refusal::RANGE, reason))?;
+    let mut site = decode(lent.site.lent(), &rules).map_err(|reason| (refusal::RANGE, reason))?;
     let before = site.clone();
     let (cause, outputs) = step(call, &mut site, &rules, lent)
-        .map_err(|number| Outcome::alone(number, cause_of(call, number, &before, &rules, lent)))?;
+        .map_err(|number| (number, cause_of(call, number, &before, &rules, lent)))?;
     let is_changed = !matches!(call, Call::Status | Call::Bike { .. } | Call::Delivery { .. });
     let later = is_changed.then(|| (without_empty(site), later_span(call, lent)));
     Ok(Outcome { answer: 0, cause, site: later, outputs })

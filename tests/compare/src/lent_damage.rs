@@ -166,26 +166,32 @@ mod tests {
         }
     }
 
+    fn add(met: &mut Met, call: &Call, lent: &Lent) {
+        let mut add = |what, number| *met.entry((what, number)).or_default() += 1;
+        match call {
+            Call::JudgeTable => add("length of a table that is judged", lent.table.length()),
+            _ => add("length of a table", lent.table.length()),
+        }
+        match call {
+            Call::Receive { .. } => add_message(met, &lent.message),
+            Call::Turn { .. } => {
+                add("room for a message", lent.message.length());
+                add("room for an entry", lent.entry.length());
+            }
+            _ => {}
+        }
+    }
+
     fn met() -> Met {
         let mut met = Met::new();
-        for place in 0..40_000 {
+        for place in 0..4_000 {
             let mut draw = Draw::new(11, place);
             let scene = lent_draw::scene(&mut draw);
-            let call = lent_draw::call(&mut draw, &scene);
-            let mut lent = scene.lent(&mut draw, &call);
-            damage(&mut draw, &call, &mut lent);
-            let mut add = |what, number| *met.entry((what, number)).or_default() += 1;
-            match call {
-                Call::JudgeTable => add("length of a table that is judged", lent.table.length()),
-                _ => add("length of a table", lent.table.length()),
-            }
-            match call {
-                Call::Receive { .. } => add_message(&mut met, &lent.message),
-                Call::Turn { .. } => {
-                    add("room for a message", lent.message.length());
-                    add("room for an entry", lent.entry.length());
-                }
-                _ => {}
+            for _ in 0..10 {
+                let call = lent_draw::call(&mut draw, &scene);
+                let mut lent = scene.lent(&mut draw, &call);
+                damage(&mut draw, &call, &mut lent);
+                add(&mut met, &call, &lent);
             }
         }
         met
