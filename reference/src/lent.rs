@@ -1,4 +1,4 @@
-//! One site lent by a host, with site table, message and log as bytes: the steps of `site`, after what is lent is judged.
+//! One site lent by a host, with site table, message and log as bytes: the steps of `site`, after all lent is judged.
 //!
 //! A number out of range, a set beyond the book, or an entry before the log position that a log read would
 //! refuse is 4; a log that ends in a cut entry and a message of another form are 3, before that. Any other site is

@@ -7,7 +7,7 @@ pub type Refusal = u32;
 pub const BOOK: Refusal = 1;
 /// A cut header or site table, a book length past the end, or a site table against its limits.
 pub const HEADER: Refusal = 2;
-/// An unknown step code, cut operands, a lent log that ends in a cut entry, or a lent message of another length or kind.
+/// An unknown step code, cut operands, a lent log that ends in a cut entry, a lent message of another length or kind.
 pub const FORM: Refusal = 3;
 /// A number out of range, or a set with a command beyond the book.
 pub const RANGE: Refusal = 4;

@@ -123,6 +123,14 @@ fn lend(buffer: &mut Buffer) -> Bytes {
 // SAFETY of all calls below: each pointer comes with the length of its own live buffer, or is null with length 0,
 // no two buffers overlap, and the functions keep none of them.
 
+/// Calls a function that is lent table, book and site first, and then takes these arguments.
+macro_rules! on_site {
+    ($lent:expr, $function:ident $(, $argument:expr)*) => {{
+        let [table, book, site] = [&mut $lent.table, &mut $lent.book, &mut $lent.site].map(lend);
+        unsafe { header::$function(table.at, table.length, book.at, book.length, site.at, site.length $(, $argument)*) }
+    }};
+}
+
 /// The calls that are lent a table, a book or a site alone.
 fn judge_or_start(call: &Call, lent: &mut Lent) -> u32 {
     let [table, book, site] = [&mut lent.table, &mut lent.book, &mut lent.site].map(lend);
@@ -134,144 +142,31 @@ fn judge_or_start(call: &Call, lent: &mut Lent) -> u32 {
     }
 }
 
-fn receive(call: &Call, lent: &mut Lent) -> u32 {
-    let [table, book, site] = [&mut lent.table, &mut lent.book, &mut lent.site].map(lend);
+fn receive(sender: usize, lent: &mut Lent) -> u32 {
     let message = lend(&mut lent.message);
-    match *call {
-        Call::ReceiveCommand { command } => unsafe {
-            header::dash_register_receive_command(
-                table.at,
-                table.length,
-                book.at,
-                book.length,
-                site.at,
-                site.length,
-                command,
-            )
-        },
-        Call::Receive { sender } => unsafe {
-            header::dash_register_receive(
-                table.at,
-                table.length,
-                book.at,
-                book.length,
-                site.at,
-                site.length,
-                sender,
-                message.at,
-                message.length,
-            )
-        },
-        _ => unreachable!("{call:?} brings nothing"),
-    }
+    on_site!(lent, dash_register_receive, sender, message.at, message.length)
 }
 
 fn turn(own: usize, lent: &mut Lent) -> u32 {
-    let [table, book, site] = [&mut lent.table, &mut lent.book, &mut lent.site].map(lend);
     let [log, message, entry] = [&mut lent.log, &mut lent.message, &mut lent.entry].map(lend);
-    unsafe {
-        header::dash_register_turn(
-            table.at,
-            table.length,
-            book.at,
-            book.length,
-            site.at,
-            site.length,
-            log.at,
-            log.length,
-            own,
-            message.at,
-            message.length,
-            entry.at,
-            entry.length,
-        )
-    }
+    on_site!(lent, dash_register_turn, log.at, log.length, own, message.at, message.length, entry.at, entry.length)
 }
 
-fn step(call: &Call, lent: &mut Lent) -> u32 {
-    let [table, book, site] = [&mut lent.table, &mut lent.book, &mut lent.site].map(lend);
+fn go_by_log(call: &Call, lent: &mut Lent) -> u32 {
     let log = lend(&mut lent.log);
-    match *call {
-        Call::FastDelivery { command } => unsafe {
-            header::dash_register_fast_delivery(
-                table.at,
-                table.length,
-                book.at,
-                book.length,
-                site.at,
-                site.length,
-                command,
-            )
-        },
-        Call::LogRead => unsafe {
-            header::dash_register_log_read(
-                table.at,
-                table.length,
-                book.at,
-                book.length,
-                site.at,
-                site.length,
-                log.at,
-                log.length,
-            )
-        },
-        Call::RoundEnd => unsafe {
-            header::dash_register_round_end(
-                table.at,
-                table.length,
-                book.at,
-                book.length,
-                site.at,
-                site.length,
-                log.at,
-                log.length,
-            )
-        },
-        _ => unreachable!("{call:?} is no step"),
+    match call {
+        Call::LogRead => on_site!(lent, dash_register_log_read, log.at, log.length),
+        Call::RoundEnd => on_site!(lent, dash_register_round_end, log.at, log.length),
+        _ => unreachable!("{call:?} is no step that goes by the log alone"),
     }
 }
 
 fn look(call: &Call, lent: &mut Lent) -> u32 {
-    let [table, book, site, out] = [&mut lent.table, &mut lent.book, &mut lent.site, &mut lent.out].map(lend);
+    let out = lend(&mut lent.out);
     match *call {
-        Call::Status => unsafe {
-            header::dash_register_status(
-                table.at,
-                table.length,
-                book.at,
-                book.length,
-                site.at,
-                site.length,
-                out.at,
-                out.length,
-            )
-        },
-        Call::Bike { bike } => unsafe {
-            header::dash_register_bike(
-                table.at,
-                table.length,
-                book.at,
-                book.length,
-                site.at,
-                site.length,
-                bike,
-                out.at,
-                out.length,
-            )
-        },
-        Call::Delivery { place } => unsafe {
-            header::dash_register_delivery(
-                table.at,
-                table.length,
-                book.at,
-                book.length,
-                site.at,
-                site.length,
-                place,
-                out.at,
-                out.length,
-            )
-        },
+        Call::Status => on_site!(lent, dash_register_status, out.at, out.length),
+        Call::Bike { bike } => on_site!(lent, dash_register_bike, bike, out.at, out.length),
+        Call::Delivery { place } => on_site!(lent, dash_register_delivery, place, out.at, out.length),
         _ => unreachable!("{call:?} changes what is lent"),
     }
 }
@@ -280,9 +175,11 @@ impl Engine for Archive {
     fn call(&mut self, call: &Call, lent: &mut Lent) -> u32 {
         match *call {
             Call::JudgeTable | Call::JudgeBook | Call::Fresh => judge_or_start(call, lent),
-            Call::ReceiveCommand { .. } | Call::Receive { .. } => receive(call, lent),
+            Call::ReceiveCommand { command } => on_site!(lent, dash_register_receive_command, command),
+            Call::Receive { sender } => receive(sender, lent),
             Call::Turn { own } => turn(own, lent),
-            Call::FastDelivery { .. } | Call::LogRead | Call::RoundEnd => step(call, lent),
+            Call::FastDelivery { command } => on_site!(lent, dash_register_fast_delivery, command),
+            Call::LogRead | Call::RoundEnd => go_by_log(call, lent),
             Call::Status | Call::Bike { .. } | Call::Delivery { .. } => look(call, lent),
         }
     }
