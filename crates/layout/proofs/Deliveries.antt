@@ -11,12 +11,11 @@ use mir.Syntax.{w32}
 use mir.Val.{SFits}
 use Rattle.theory.specs.Machine.{Delivery}
 use Rattle.wire.specs.Wire.{bytes, readLe, splice}
-use Rattle.wire.proofs.Laws.{length-bytes, peel, read-same, read-before, length-splice, read-bytes}
+use Rattle.wire.proofs.Laws.{length-bytes, peel, read-same, read-before, length-splice, read-bytes, next}
 use Rattle.signed.specs.Signed.{signed32, word32}
 use Rattle.signed.proofs.Laws.{signed-word, read-signed, bytes-signed}
 use Rattle.sets.specs.Sets.{capacity}
 use Rattle.layout.specs.Layout.{siteSize, deliveriesPlace, heardPlace, deliverySize, slot, deliveryOf, deliveriesOf, deliveryBytes, deliveriesBytes}
-use Rattle.layout.proofs.Header.{next}
 use Rattle.wire.proofs.Agree.{agree-before}
 use Rattle.layout.proofs.Agree.{deliveries-agree}
 

@@ -7,7 +7,7 @@ use native.Mathlib.Omega.{arith}
 use lib.Dec.{lit<}
 use lib.ListN.{length, drop, getD}
 use Rattle.wire.specs.Wire.{value, bytes, readLe, splice}
-use Rattle.wire.proofs.Laws.{value-bytes, read-lt, peel, splice-two}
+use Rattle.wire.proofs.Laws.{value-bytes, read-lt, peel}
 use Rattle.sets.specs.declared.Set.{Set}
 use Rattle.sets.specs.Sets.{readSet}
 use Rattle.sets.proofs.Laws.{set-of-members}
@@ -20,12 +20,6 @@ use Rattle.layout.specs.Good.{Fit}
 pub phase-waiting : (n : ℕ) (nc c : Set) → (n ≡ 0 → ⊥) → Waiting (record { nc = nc; c = c }) ≡ phaseFrom n nc c
 phase-waiting zero nc c h = absurd (h refl)
 phase-waiting (suc n) nc c h = refl
-
--- A write right after another.
-pub next : (s : List ℕ) (at : ℕ) (a b : List ℕ) (k : ℕ) {l l′ : List ℕ} → at + length a ≡ k → at ≤ length s → l ≡ splice s at a → l′ ≡ splice l k b
-    → l′ ≡ splice s at (a ++ b)
-next s at a b k e h p q =
-    q ∙ ap (λ (l : List ℕ). splice l k b) p ∙ ap (λ (m : ℕ). splice (splice s at a) m b) (sym e) ∙ splice-two s at a b h
 
 pub length-head : (h : Site) → length (headBytes h) ≡ registerPlace
 unfolding numbersBytes setsBytes bytes

@@ -73,23 +73,23 @@ impl Site {
     // The bytes of a site.
     pub const SIZE: usize = 3536;
     // Where each field stands.
-    pub const ROUND: usize = 0;
+    const ROUND: usize = 0;
 
-    pub const PHASE: usize = 1;
+    const PHASE: usize = 1;
 
-    pub const POSITION: usize = 2;
+    const POSITION: usize = 2;
 
-    pub const COUNT: usize = 4;
+    const COUNT: usize = 4;
 
     pub const SPAN: usize = 6;
 
-    pub const RECEIVED: usize = 8;
+    const RECEIVED: usize = 8;
 
-    pub const DELIVERED: usize = 16;
+    const DELIVERED: usize = 16;
 
-    pub const PENDING: usize = 24;
+    const PENDING: usize = 24;
 
-    pub const FAST: usize = 32;
+    const FAST: usize = 32;
 
     const NC: usize = 40;
 
@@ -145,21 +145,6 @@ fn phase_of(tag: u8, nc: Set, c: Set) -> Phase
         return Phase::Acknowledging;
     }
     Phase::Waiting(Proposal { nc, c })
-}
-
-// Two fields of the header alone.
-pub fn round(site: &[u8]) -> u8
-    requires { ⌜ length (now site) ≡ siteSize ⌝ }
-    ensures { λ r. ⌜ r ≡ headOf (now (site .entry)) .round ⌝ }
-{
-    wire::get1(site, Site::ROUND)
-}
-
-pub fn position(site: &[u8]) -> u16
-    requires { ⌜ length (now site) ≡ siteSize ⌝ }
-    ensures { λ r. ⌜ r ≡ headOf (now (site .entry)) .position ⌝ }
-{
-    wire::get2(site, Site::POSITION)
 }
 
 pub fn set_round(site: &mut [u8], round: u8)

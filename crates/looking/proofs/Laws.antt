@@ -17,6 +17,7 @@ use Rattle.theory.specs.Lists.{nth}
 use Rattle.theory.specs.Machine.{Delivery}
 use Rattle.theory.specs.ListLaws.{nth-append, nth-last, nth-end}
 use Rattle.theory.specs.Counting.{last-or-below}
+use Rattle.wire.proofs.Laws.{next}
 use Rattle.wire.specs.Wire.{bytes, readLe, splice}
 use Rattle.signed.proofs.Laws.{bytes-signed}
 use Rattle.refusals.specs.declared.Refusal.{Refusal}
@@ -33,7 +34,6 @@ use Rattle.layout.specs.declared.Phase.{Phase}
 use Rattle.layout.specs.declared.Phase.the-variants.{Acknowledging, Waiting}
 use Rattle.layout.specs.declared.Site.{Site}
 use Rattle.layout.specs.Layout.{siteSize, countPlace, registerPlace, deliverySize, headOf, phaseSeen, slot, deliveryOf, deliveriesOf, deliveryBytes}
-use Rattle.layout.proofs.Header.{next}
 use Rattle.layout.proofs.Deliveries.{length-deliveries}
 use Rattle.layout.proofs.Encode.{counted}
 use Rattle.judging.specs.Outcomes.{outcome, _then_}

@@ -1,6 +1,6 @@
 -- How a message is told by its bytes, and what writing its parts one after another gives.
 -- Assumes nothing.
-use mathlib.Core.Path.{_≡_, refl, sym, ap, _∙_}
+use mathlib.Core.Path.{_≡_, refl, sym, _∙_}
 use mathlib.Core.Bool.{Bool, true, false, cond, _&&_, _||_}
 use mathlib.Core.List.{List, _++_}
 use Prim.Native.Nat.{ℕ, _+_, _≤_}
@@ -10,7 +10,7 @@ use lib.ListN.{length}
 use borrow.Author.Tests.{eq-eqb, ne-eqb, eqb-true}
 use Rattle.theory.specs.Counting.{left}
 use Rattle.wire.specs.Wire.{bytes, readLe, splice}
-use Rattle.wire.proofs.Laws.{length-bytes, splice-two}
+use Rattle.wire.proofs.Laws.{next}
 use Rattle.sets.specs.declared.Set.{Set}
 use Rattle.sets.specs.Sets.{setBytes, writeSet}
 use Rattle.message.specs.declared.Kind.{Kind}
@@ -48,13 +48,6 @@ pub message-written : (o : List ℕ) (kind : Kind) (round : ℕ) (x : Set) {k : 
     → l₁ ≡ splice o 0 (bytes 1 k) → l₂ ≡ splice l₁ roundPlace (bytes 1 round) → l₃ ≡ writeSet l₂ setPlace x
     → l₃ ≡ splice o 0 (messageBytes (record { kind = kind; round = round; set = x }))
 unfolding bytes writeSet messageBytes
-message-written o kind round x {k} {l₁} {l₂} {l₃} room ek e₁ e₂ e₃ =
-    e₃
-    ∙ ap (λ (l : List ℕ). splice l setPlace (bytes setBytes (x .bits))) two
-    ∙ splice-two o 0 (bytes 1 (kindNumber kind) ++ bytes 1 round) (bytes setBytes (x .bits)) (omega arith)
-  where
-    two : l₂ ≡ splice o 0 (bytes 1 (kindNumber kind) ++ bytes 1 round)
-    two =
-        e₂
-        ∙ ap (λ (l : List ℕ). splice l roundPlace (bytes 1 round)) (e₁ ∙ ap (λ (n : ℕ). splice o 0 (bytes 1 n)) ek)
-        ∙ splice-two o 0 (bytes 1 (kindNumber kind)) (bytes 1 round) (omega arith)
+message-written o kind round x {k} room ek e₁ e₂ e₃ =
+    next o 0 (bytes 1 k ++ bytes 1 round) (bytes setBytes (x .bits)) setPlace refl (omega arith) (next o 0 (bytes 1 k) (bytes 1 round) roundPlace refl (omega arith) e₁ e₂) e₃
+    ∙ (λ i. splice o 0 ((bytes 1 (ek i) ++ bytes 1 round) ++ bytes setBytes (x .bits)))

@@ -100,6 +100,12 @@ splice-two s at a b h =
     ∙ drop-drop (length b) (at + length a) s in
     rw (t, d, length-append a b, add-assoc) (simp append-assoc)
 
+-- A write right after another.
+pub next : (s : List ℕ) (at : ℕ) (a b : List ℕ) (k : ℕ) {l l′ : List ℕ} → at + length a ≡ k → at ≤ length s → l ≡ splice s at a → l′ ≡ splice l k b
+    → l′ ≡ splice s at (a ++ b)
+next s at a b k e h p q =
+    q ∙ ap (λ (l : List ℕ). splice l k b) p ∙ ap (λ (m : ℕ). splice (splice s at a) m b) (sym e) ∙ splice-two s at a b h
+
 -- From here on: lists of bytes, each below 256.
 module _ (s : List ℕ) (small : (i : ℕ) → getD s i 0 < 256) where
   pub read-lt : (n at : ℕ) → at + n ≤ length s → readLe n s at < 256 ^ n
