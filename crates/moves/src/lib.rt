@@ -25,7 +25,7 @@ fn turn_by(site: &mut [u8], kept: &[u64], rows: &[u64], i: usize) -> Turn
     ensures { λ r. ⌜ TurnedBy (now (rows .entry)) (now (kept .entry)) i r (now (site .entry)) (now (site .exit)) ⌝ }
 {
     let header = Site::read(&site[..]);
-    let free = calm::is_free(rows, site::undelivered(&site[..]));
+    let free = calm::is_free(rows, site::undelivered(header));
     let third = rounds::third(kept, i, header.round as usize);
     site::take_turn(site, free, third)
 }

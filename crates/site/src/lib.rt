@@ -54,7 +54,7 @@ pub fn hear(site: &mut [u8], sender: usize, round: usize, set: Set)
 }
 
 // What was received and is not delivered.
-fn undelivered_of(header: Site) -> Set
+pub fn undelivered(header: Site) -> Set
     ensures { λ r. ⌜ r ≡ undeliveredOf header ⌝ }
 {
     let received = header.received;
@@ -62,24 +62,16 @@ fn undelivered_of(header: Site) -> Set
     received.without(delivered)
 }
 
-// The same of lent bytes.
-pub fn undelivered(site: &[u8]) -> Set
-    requires { ⌜ length (now site) ≡ siteSize ⌝ }
-    ensures { λ r. ⌜ r ≡ undeliveredOf (headOf (now (site .entry))) ⌝ }
-{
-    undelivered_of(Site::read(site))
-}
-
 // What a turn does, by the conflict test of what is undelivered and whether the site has two entries of its round.
 fn choose(header: Site, free: bool, third: bool) -> Turn
     ensures { λ r. ⌜ r ≡ chosen header free third ⌝ }
 {
     let phase = header.phase;
+    let pending = header.pending;
     match phase {
         Phase::Waiting(_) => Turn::Refused(Refusal::Disabled),
         Phase::Acknowledging => {
-            let check = undelivered_of(header);
-            let pending = header.pending;
+            let check = undelivered(header);
             let new = check.without(pending);
             if new.is_empty() {
                 return Turn::Refused(Refusal::Disabled);

@@ -26,7 +26,7 @@ fn take_turn(site: &mut [u8], log: &[u8], rows: &[u64], own: usize) -> Turn
     ensures { λ r. ⌜ TurnTaken (now (rows .entry)) (now (log .entry)) own (now (site .entry)) r (now (site .exit)) ⌝ }
 {
     let header = Site::read(&site[..]);
-    let free = calm::is_free(rows, site::undelivered(&site[..]));
+    let free = calm::is_free(rows, site::undelivered(header));
     let n = log.len() / Entry::BYTES;
     let third = entries::entries_of(log, n, own, header.round as usize) >= 2;
     site::take_turn(site, free, third)

@@ -2,9 +2,10 @@
 -- Assumes nothing.
 use borrow.Author.Needs.{needs}
 use denote.Ref.{now}
-use mathlib.Core.Path.{ap}
+use mathlib.Core.Path.{ap, _∙_}
 use native.Mathlib.Omega.{arith}
 use Rattle.layout.specs.declared.Site.{Site}
+use Rattle.site.specs.Steps.{undeliveredOf}
 use Rattle.turning.proofs.Laws.{take-told}
 use Rattle.turning.proofs.take_turn.Statement.{statement}
 use Rattle.turning.proofs.take_turn.Tie as tie
@@ -31,8 +32,8 @@ same-length : tie.Need-same-length
 same-length c = search needs
 
 returns : tie.Need-returns
-returns c = let a = c .before .before .before .before .before .before .before .before .before .before .before .before .before .before .args in
-    take-told (now (a .rows)) (now (a .log)) (a .own) (now (a .site)) (c .before .before .before .before .before .before .before .undelivered .ensures) (c .before .before .before .before .before .before .is-free .ensures) (ap (λ (h : Site). h .round) (c .before .before .before .before .before .before .before .before .before .read .ensures))
+returns c = let a = c .before .before .before .before .before .before .before .before .before .before .before .before .before .args in
+    take-told (now (a .rows)) (now (a .log)) (a .own) (now (a .site)) (c .before .before .before .before .before .before .before .undelivered .ensures ∙ ap undeliveredOf (c .before .before .before .before .before .before .before .before .read .ensures)) (c .before .before .before .before .before .before .is-free .ensures) (ap (λ (h : Site). h .round) (c .before .before .before .before .before .before .before .before .read .ensures))
     (c .before .before .before .before .entries-of .ensures) (c .before .before .take-turn .ensures)
 
 pub take-turn-spec : {M : Type 1} → statement M
