@@ -1,5 +1,6 @@
 pub mod Header
 pub mod Fields
+pub mod Phases
 pub mod Agree
 pub mod Senders
 pub mod Deliveries

@@ -2,7 +2,7 @@
 -- Assumes nothing.
 use mathlib.Core.Path.{_≡_, refl, sym, ap, subst, _∙_}
 use mathlib.Core.Bool.{Bool, true, false, _&&_, _||_}
-use mathlib.Core.Logic.{_⊎_, inl, inr, ⊎-elim}
+use mathlib.Core.Logic.{_⊎_, ⊎-elim}
 use mathlib.Core.List.{List}
 use Prim.Native.Nat.{ℕ, _+_, _-_, _≤_, _<_}
 use native.Mathlib.Omega.{arith}
@@ -21,9 +21,10 @@ use Rattle.register.specs.Lent.{registerOf}
 use Rattle.register.proofs.Laws.{within-test}
 use Rattle.register.proofs.Lent.{view-within}
 use Rattle.layout.specs.declared.Site.{Site}
-use Rattle.layout.specs.Layout.{siteSize, phasePlace, countPlace, positionPlace, ncPlace, cPlace, registerPlace, siteRounds, spanPlace, inTable, cell, slot, headOf, proposalOf}
+use Rattle.layout.specs.Layout.{siteSize, countPlace, positionPlace, registerPlace, siteRounds, spanPlace, inTable, cell, slot, headOf, proposalOf}
 use Rattle.layout.specs.Good.{GoodHead, GoodTables, Good, goodHead, goodCell, goodHeard, goodSlot, goodPhase, goodSite}
 use Rattle.layout.proofs.Encode.{counted, spanned}
+use Rattle.layout.proofs.Phases.{phase-good, good-phase}
 use Rattle.layout.proofs.Senders.{in-table, table-bounds}
 
 -- ---- what the test tells
@@ -88,40 +89,6 @@ module _ (commands : ℕ) (h : Site) where
       )
 
 module _ (b : List ℕ) where
-  phase-good : goodPhase b ≡ true → (readLe 1 b phasePlace ≤ 1) × (readLe 1 b phasePlace ≡ 0 → (readLe 8 b ncPlace ≡ 0) × (readLe 8 b cPlace ≡ 0))
-  phase-good h = ⊎-elim waiting acknowledging (either (eqb tag 1) (eqb tag 0 && eqb nc 0 && eqb c 0) h)
-    where
-      tag : ℕ
-      tag = readLe 1 b phasePlace
-
-      nc : ℕ
-      nc = readLe 8 b ncPlace
-
-      c : ℕ
-      c = readLe 8 b cPlace
-
-      waiting : eqb tag 1 ≡ true → (tag ≤ 1) × (tag ≡ 0 → (nc ≡ 0) × (c ≡ 0))
-      waiting e = let q = eqb-true tag 1 e in (omega arith, λ z. absurd (omega arith))
-
-      acknowledging : (eqb tag 0 && eqb nc 0 && eqb c 0) ≡ true → (tag ≤ 1) × (tag ≡ 0 → (nc ≡ 0) × (c ≡ 0))
-      acknowledging e =
-          let p = split (eqb tag 0 && eqb nc 0) (eqb c 0) e in
-          let q = split (eqb tag 0) (eqb nc 0) (p .0) in
-          let z = eqb-true tag 0 (q .0) in
-          (omega arith, λ _. (eqb-true nc 0 (q .1), eqb-true c 0 (p .1)))
-
-  good-phase : readLe 1 b phasePlace ≤ 1 → (readLe 1 b phasePlace ≡ 0 → (readLe 8 b ncPlace ≡ 0) × (readLe 8 b cPlace ≡ 0)) → goodPhase b ≡ true
-  good-phase h idle = go (lt-or-le (readLe 1 b phasePlace) 1)
-    where
-      go : (readLe 1 b phasePlace < 1) ⊎ (1 ≤ readLe 1 b phasePlace) → goodPhase b ≡ true
-      go (inl l) =
-          let z : readLe 1 b phasePlace ≡ 0 = omega arith in
-          or-true (eqb (readLe 1 b phasePlace) 1) (eqb (readLe 1 b phasePlace) 0 && eqb (readLe 8 b ncPlace) 0 && eqb (readLe 8 b cPlace) 0)
-          (simp (eq-eqb (readLe 1 b phasePlace) 0 z, eq-eqb (readLe 8 b ncPlace) 0 (idle z .0), eq-eqb (readLe 8 b cPlace) 0 (idle z .1)))
-      go (inr l) =
-          true-or (eqb (readLe 1 b phasePlace) 1) (eqb (readLe 1 b phasePlace) 0 && eqb (readLe 8 b ncPlace) 0 && eqb (readLe 8 b cPlace) 0)
-          (eq-eqb (readLe 1 b phasePlace) 1 (omega arith))
-
   module _ (sites commands n : ℕ) where
     tables-good : n ≤ capacity → goodHeard sites commands b ≡ true → isWithin (registerOf b registerPlace) ≡ true
         → all capacity (goodSlot commands n b) ≡ true → GoodTables sites commands n (readLe 2 b spanPlace) b
@@ -225,7 +192,7 @@ module _ (b : List ℕ) where
     pub site-good : goodSite sites commands entries b ≡ true → Good sites commands b × (readLe 2 b positionPlace ≤ entries)
     site-good h =
         let p = parts h in
-        let t = phase-good (p .phase) in
+        let t = phase-good b (p .phase) in
         let g = head-good commands (headOf b) (p .head) in (
           record {
             size = eqb-true (length b) siteSize (p .size);
@@ -244,7 +211,7 @@ module _ (b : List ℕ) where
         (record {
           size = eq-eqb (length b) siteSize (g .size);
           position = le-leb (readLe 2 b positionPlace) entries l;
-          phase = good-phase (g .tag) (g .idle);
+          phase = good-phase b (g .tag) (g .idle);
           head = good-head commands (headOf b) (g .head);
           heard = good-heard sites commands (readLe 2 b countPlace) (g .tables);
           register = within-test (registerOf b registerPlace) (g .tables .readings);
