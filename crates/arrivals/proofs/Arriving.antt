@@ -25,8 +25,8 @@ use Rattle.protocol.specs.Site.{receive, hear, isSome}
 use Rattle.protocol.specs.World.{Step, command, acknowledgment, check, falseAcknowledgment, falseCheck, orEmpty, put, judge}
 use Rattle.system.specs.Dash.{dash}
 use Rattle.site.specs.Steps.{Received, Commanded, Heard}
-use Rattle.sent.specs.declared.Message.{Message}
-use Rattle.sent.specs.declared.Message.the-variants.{Sent, Never}
+use Rattle.sent.specs.declared.SentMessage.{SentMessage}
+use Rattle.sent.specs.declared.SentMessage.the-variants.{Sent, Never}
 use Rattle.sent.specs.Sent.{acksOf, checksOf, said, numbered, Read}
 use Rattle.sent.proofs.Laws.{numbered-nth}
 use Rattle.world.specs.World.{knownTo, worldOf}
@@ -78,7 +78,7 @@ module _ (t : SiteTable) (commands : ℕ) (sent sites : List ℕ) (small : (k : 
           refusal (acknowledgment i j r a) x
           (λ book log entries q. judged book log entries ∙ ap (λ (y : Verdict). andSent y (isSome (nth (acksOf sent j r) (pred a)))) e)
 
-      module _ (e : v ≡ Taken) (p : Passed t i j r (leb 1 a && leb a capacity) (not f)) {m exact : Message} (read : Read m exact (numbered (acksOf sent j r) a)) where
+      module _ (e : v ≡ Taken) (p : Passed t i j r (leb 1 a && leb a capacity) (not f)) {m exact : SentMessage} (read : Read m exact (numbered (acksOf sent j r) a)) where
         means : said m ≡ nth (acksOf sent j r) (pred a)
         means = read .means ∙ numbered-nth (acksOf sent j r) a (leb-true 1 a (left (leb 1 a) (leb a capacity) (p .operands)))
 
@@ -86,7 +86,7 @@ module _ (t : SiteTable) (commands : ℕ) (sent sites : List ℕ) (small : (k : 
         acknowledgment-never q =
             refusal (acknowledgment i j r a) Disabled
             (λ book log entries z.
-            judged book log entries ∙ (λ k. andSent (e k) (isSome (sym means k))) ∙ ap (λ (y : Message). andSent Taken (isSome (said y))) q)
+            judged book log entries ∙ (λ k. andSent (e k) (isSome (sym means k))) ∙ ap (λ (y : SentMessage). andSent Taken (isSome (said y))) q)
 
         pub acknowledged : (x : Set) → m ≡ Sent x → {after : List ℕ} → AtSite i (Heard j r x) sites after
             → Arrived t commands (acknowledgment i j r a) sent sites Taken after
@@ -111,12 +111,12 @@ module _ (t : SiteTable) (commands : ℕ) (sent sites : List ℕ) (small : (k : 
           refusal (check i j r) x
           (λ book log entries q. check-told book log entries ∙ ap (λ (y : Verdict). andSent y (isSome (checksOf sent j r))) e)
 
-      module _ (e : v ≡ Taken) {m exact : Message} (read : Read m exact (checksOf sent j r)) where
+      module _ (e : v ≡ Taken) {m exact : SentMessage} (read : Read m exact (checksOf sent j r)) where
         pub check-never : m ≡ Never → Arrived t commands (check i j r) sent sites (Refused Disabled) sites
         check-never q =
             refusal (check i j r) Disabled
             (λ book log entries z.
-            check-told book log entries ∙ (λ k. andSent (e k) (isSome (sym (read .means) k))) ∙ ap (λ (y : Message). andSent Taken (isSome (said y))) q)
+            check-told book log entries ∙ (λ k. andSent (e k) (isSome (sym (read .means) k))) ∙ ap (λ (y : SentMessage). andSent Taken (isSome (said y))) q)
 
         pub checked : Passed t i j r true (not f) → (x : Set) → m ≡ Sent x → {after : List ℕ} → AtSite i (Received x) sites after
             → Arrived t commands (check i j r) sent sites Taken after

@@ -18,7 +18,7 @@ use entries::Entry;
 use layout::Site;
 use refusals::Refusal;
 use refusals::Verdict;
-use sent::Message;
+use sent::SentMessage;
 use sets::Set;
 use table::Rules;
 use table::SiteTable;
@@ -118,7 +118,7 @@ pub fn acknowledgment(
         return Verdict::Refused(refusal);
     }
     let message = sent::acknowledgment(sent, j, r, number);
-    let Message::Sent(set) = message else {
+    let SentMessage::Sent(set) = message else {
         return Verdict::Refused(Refusal::Disabled);
     };
     hear(sites, i, j, r, set);
@@ -140,7 +140,7 @@ pub fn check(sites: &mut [u8], sent: &[u8], rules: Rules, site: u8, from: u8, ro
         return Verdict::Refused(refusal);
     }
     let message = sent::check(sent, j, r);
-    let Message::Sent(set) = message else {
+    let SentMessage::Sent(set) = message else {
         return Verdict::Refused(Refusal::Disabled);
     };
     receive(sites, i, set);

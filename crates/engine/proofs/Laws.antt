@@ -37,7 +37,7 @@ use Rattle.judging.specs.Judging.{rulesOf, judgedAs, numberIn, forSite, forSite
 use Rattle.judging.proofs.Demands.{then-taken, then-refused, answered-taken, answered-refused, last-refused, last-taken}
 use Rattle.judging.proofs.Laws.{Judged, site-judged, good-code, good-rules, refused-code}
 use Rattle.judging.proofs.Steps.{written}
-use Rattle.engine.specs.Calls.{freshCall, receiveCommandCall, TookMessage, messageInRange, forMessage, withMessage, receiveCall}
+use Rattle.engine.specs.Calls.{freshCall, receiveCommandCall, TookMessage, messageInRange, forReceive, withMessage, receiveCall}
 
 -- ---- a fresh site
 
@@ -130,7 +130,7 @@ module _ (table book site message : List ℕ) (sender : ℕ) {formed : Bool} (ef
   unfolding receiveCall
   message-refused h ek =
       let w = refused-code (verdict d) (rulesOf table book) told h ek in
-      then-refused d (forMessage table book sender round set) _ site (w .0) (w .1)
+      then-refused d (forReceive table book sender round set) _ site (w .0) (w .1)
 
   module _ {x : Rules} (good : j ≡ judgement.Good x) where
     message-judged : (true ≡ true) × (isMessage message ≡ true) × Judged table book site
@@ -150,9 +150,9 @@ module _ (table book site message : List ℕ) (sender : ℕ) {formed : Bool} (ef
       in-range : (ltb sender (tableIn table .sites) && leb 1 round && leb round siteRounds && withinOf set (length (commandsOf book))) ≡ t
       in-range = (λ i. messageInRange (sym es i) sender (record { table = sym (rules .0) i; commands = sym (rules .1) i })) ∙ sym et
 
-      all-four : verdict (d then forMessage table book sender round set) ≡ verdict (t else Range ⨾ granted)
+      all-four : verdict (d then forReceive table book sender round set) ≡ verdict (t else Range ⨾ granted)
       all-four =
-          then-taken d (forMessage table book sender round set) (good-code (verdict d) (rulesOf table book) told good) refl
+          then-taken d (forReceive table book sender round set) (good-code (verdict d) (rulesOf table book) told good) refl
           ∙ four Range (ltb sender (tableIn table .sites)) (leb 1 round) (leb round siteRounds) (withinOf set (length (commandsOf book)))
           ∙ (λ i. verdict (in-range i else Range ⨾ granted))
 

@@ -61,8 +61,8 @@ module _ (table book : List ℕ) where
   withMessage site sender Check round x = withSite table book (spanIn site) site (receive (systemOf table book) (inSet x) (siteIn table book site))
 
   -- What is asked of the sender, the round and the set of a message of either kind.
-  abbrev pub forMessage : (sender round : ℕ) → Set → Demands
-  forMessage sender round x =
+  abbrev pub forReceive : (sender round : ℕ) → Set → Demands
+  forReceive sender round x =
       ltb sender (tableIn table .sites) else Range
       ⨾ leb 1 round else Range
       ⨾ leb round siteRounds else Range
@@ -73,7 +73,7 @@ module _ (table book : List ℕ) where
   unfoldable pub receiveCall : (site : List ℕ) (sender : ℕ) (message : List ℕ) → Outcome (List ℕ)
   receiveCall site sender message =
       answered
-      (verdict (forSiteAndMessage table book (isMessage message) site then forMessage sender (messageOf message .round) (messageOf message .set)))
+      (verdict (forSiteAndMessage table book (isMessage message) site then forReceive sender (messageOf message .round) (messageOf message .set)))
       (withMessage site sender (messageOf message .kind) (messageOf message .round) (messageOf message .set))
       site
 

@@ -15,7 +15,7 @@ use Rattle.sets.specs.declared.Set.{Set}
 use Rattle.sets.specs.Sets.{setBytes, writeSet}
 use Rattle.message.specs.declared.Kind.{Kind}
 use Rattle.message.specs.declared.Kind.the-variants.{Acknowledgment, Check}
-use Rattle.message.specs.Messages.{roundPlace, setPlace, messageSize, kindNumber, kindFrom, isMessage, messageBytes}
+use Rattle.message.specs.Messages.{roundOffset, setOffset, messageSize, kindNumber, kindFrom, isMessage, messageBytes}
 
 -- ---- the form
 
@@ -45,9 +45,9 @@ is-other k e = λ i. cond (sym (ne-eqb k (kindNumber Acknowledgment) e) i) Ackno
 -- ---- what is written
 
 pub message-written : (o : List ℕ) (kind : Kind) (round : ℕ) (x : Set) {k : ℕ} {l₁ l₂ l₃ : List ℕ} → messageSize ≤ length o → k ≡ kindNumber kind
-    → l₁ ≡ splice o 0 (bytes 1 k) → l₂ ≡ splice l₁ roundPlace (bytes 1 round) → l₃ ≡ writeSet l₂ setPlace x
+    → l₁ ≡ splice o 0 (bytes 1 k) → l₂ ≡ splice l₁ roundOffset (bytes 1 round) → l₃ ≡ writeSet l₂ setOffset x
     → l₃ ≡ splice o 0 (messageBytes (record { kind = kind; round = round; set = x }))
 unfolding bytes writeSet messageBytes
 message-written o kind round x {k} room ek e₁ e₂ e₃ =
-    next o 0 (bytes 1 k ++ bytes 1 round) (bytes setBytes (x .bits)) setPlace refl (omega arith) (next o 0 (bytes 1 k) (bytes 1 round) roundPlace refl (omega arith) e₁ e₂) e₃
+    next o 0 (bytes 1 k ++ bytes 1 round) (bytes setBytes (x .bits)) setOffset refl (omega arith) (next o 0 (bytes 1 k) (bytes 1 round) roundOffset refl (omega arith) e₁ e₂) e₃
     ∙ (λ i. splice o 0 ((bytes 1 (ek i) ++ bytes 1 round) ++ bytes setBytes (x .bits)))

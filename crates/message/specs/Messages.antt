@@ -12,14 +12,14 @@ use Rattle.message.specs.declared.Kind.the-variants.{Acknowledgment, Che
 use Rattle.message.specs.declared.Message.{Message}
 
 -- Where the round and the set stand, after the kind.
-abbrev pub roundPlace : ℕ
-roundPlace = 1
+abbrev pub roundOffset : ℕ
+roundOffset = 1
 
-abbrev pub setPlace : ℕ
-setPlace = 2
+abbrev pub setOffset : ℕ
+setOffset = 2
 
 abbrev pub messageSize : ℕ
-messageSize = setPlace + setBytes
+messageSize = setOffset + setBytes
 
 -- The number of a kind.
 abbrev pub kindNumber : Kind → ℕ
@@ -37,7 +37,7 @@ isMessage b =
 
 -- The message that such bytes are.
 abbrev pub messageOf : List ℕ → Message
-messageOf b = record { kind = kindFrom (readLe 1 b 0); round = readLe 1 b roundPlace; set = readSet b setPlace }
+messageOf b = record { kind = kindFrom (readLe 1 b 0); round = readLe 1 b roundOffset; set = readSet b setOffset }
 
 -- The bytes of a message.
 unfoldable pub messageBytes : Message → List ℕ

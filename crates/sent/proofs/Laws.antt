@@ -19,7 +19,7 @@ use Rattle.wire.specs.Wire.{readLe}
 use Rattle.sets.specs.declared.Set.{Set}
 use Rattle.sets.specs.Sets.{inSet, setBytes, readSet}
 use Rattle.table.specs.Table.{maxSites}
-use Rattle.sent.specs.declared.Message.the-variants.{Sent, Never}
+use Rattle.sent.specs.declared.SentMessage.the-variants.{Sent, Never}
 use Rattle.sent.specs.Sent.{sentRounds, maxAcknowledgments, cells, cellOf, countPlace, flagPlace, setPlace, checkPlace}
 use Rattle.sent.specs.Sent.{countIn, flagIn, acksIn, checkIn, inTable, acksOf, checksOf, numbered, acknowledgmentOf, checkOf, GoodSent, Read}
 use Rattle.sent.proofs.Cells.{length-sets, nth-set}

@@ -17,8 +17,8 @@ use Rattle.wire.specs.Wire.{bytes, readLe, splice}
 use Rattle.sets.specs.declared.Set.{Set}
 use Rattle.sets.specs.Sets.{inSet, setBytes, readSet, writeSet}
 use Rattle.table.specs.Table.{maxSites}
-use Rattle.sent.specs.declared.Message.{Message}
-use Rattle.sent.specs.declared.Message.the-variants.{Sent, Never}
+use Rattle.sent.specs.declared.SentMessage.{SentMessage}
+use Rattle.sent.specs.declared.SentMessage.the-variants.{Sent, Never}
 
 -- Messages are sent in rounds 1 to 33.
 abbrev pub sentRounds : ℕ
@@ -115,7 +115,7 @@ pub record GoodSent (b : List ℕ) : Type 0 where
 -- ---- messages
 
 -- A message as a set, where there is one.
-abbrev pub said : Message → Option theory.Set
+abbrev pub said : SentMessage → Option theory.Set
 said (Sent s) = some (inSet s)
 said Never = none
 
@@ -125,15 +125,15 @@ numbered l zero = none
 numbered l (suc n) = nth l n
 
 -- The a-th acknowledgment of site j and round r, a from 1: the 0-th was never sent.
-unfoldable pub acknowledgmentOf : List ℕ → ℕ → ℕ → ℕ → Message
+unfoldable pub acknowledgmentOf : List ℕ → ℕ → ℕ → ℕ → SentMessage
 acknowledgmentOf b j r a = pick (leb 1 a && leb a (countIn b (cellOf j r))) (Sent (readSet b (setPlace (cellOf j r) (a - 1)))) Never
 
 -- The check message of site j and round r.
-unfoldable pub checkOf : List ℕ → ℕ → ℕ → Message
+unfoldable pub checkOf : List ℕ → ℕ → ℕ → SentMessage
 checkOf b j r = pick (eqb (flagIn b (cellOf j r)) 1) (Sent (readSet b (checkPlace (cellOf j r)))) Never
 
 -- A message read: which one it is, and what it means.
-pub record Read (m exact : Message) (meant : Option theory.Set) : Type 0 where
+pub record Read (m exact : SentMessage) (meant : Option theory.Set) : Type 0 where
   pub answer : m ≡ exact
   pub means : said m ≡ meant
 

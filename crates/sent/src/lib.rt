@@ -12,29 +12,29 @@ use sets::Set;
 use table::SiteTable;
 
 // A message of a correct site: the set that it sent, or that it never sent it.
-pub enum Message {
+pub enum SentMessage {
     Sent(Set),
     Never,
 }
 
-impl Message {
+impl SentMessage {
     // Messages are sent in rounds 1 to 33.
     pub const ROUNDS: usize = 33;
     // The acknowledgments of a site and round that there is room for.
     pub const MAX_ACKNOWLEDGMENTS: usize = 64;
     // The bytes of all that was sent: the sets of each site and round, then a count and a flag for each.
-    pub const SIZE: usize = Message::FLAGS + Message::CELLS;
+    pub const SIZE: usize = SentMessage::FLAGS + SentMessage::CELLS;
 
     // A cell for each site and round.
-    const CELLS: usize = SiteTable::MAX_SITES * Message::ROUNDS;
+    const CELLS: usize = SiteTable::MAX_SITES * SentMessage::ROUNDS;
     // The bytes of a cell's acknowledgments. They come first, so that every set stands at a multiple of 8.
-    const CELL: usize = Message::MAX_ACKNOWLEDGMENTS * Set::BYTES;
+    const CELL: usize = SentMessage::MAX_ACKNOWLEDGMENTS * Set::BYTES;
     // After them stand the check messages of all cells.
-    const CHECKS: usize = Message::CELLS * Message::CELL;
+    const CHECKS: usize = SentMessage::CELLS * SentMessage::CELL;
     // After the sets stand the counts of all cells.
-    const COUNTS: usize = Message::CHECKS + Message::CELLS * Set::BYTES;
+    const COUNTS: usize = SentMessage::CHECKS + SentMessage::CELLS * Set::BYTES;
     // After the counts stand their flags.
-    const FLAGS: usize = Message::COUNTS + Message::CELLS;
+    const FLAGS: usize = SentMessage::COUNTS + SentMessage::CELLS;
 }
 
 // The cell of a site and round.
@@ -42,7 +42,7 @@ fn cell_of(j: usize, r: usize) -> usize
     requires { ⌜ (j < maxSites) × (1 ≤ r) × (r ≤ sentRounds) ⌝ }
     ensures { λ cell. ⌜ (cell ≡ cellOf j r) × (cell < cells) ⌝ }
 {
-    j * Message::ROUNDS + (r - 1)
+    j * SentMessage::ROUNDS + (r - 1)
 }
 
 // Where the number of a cell's acknowledgments stands.
@@ -50,7 +50,7 @@ fn count_at(cell: usize) -> usize
     requires { ⌜ cell < cells ⌝ }
     ensures { λ p. ⌜ p ≡ countPlace cell ⌝ }
 {
-    Message::COUNTS + cell
+    SentMessage::COUNTS + cell
 }
 
 // Where a cell's flag stands.
@@ -58,7 +58,7 @@ fn flag_at(cell: usize) -> usize
     requires { ⌜ cell < cells ⌝ }
     ensures { λ p. ⌜ p ≡ flagPlace cell ⌝ }
 {
-    Message::FLAGS + cell
+    SentMessage::FLAGS + cell
 }
 
 // Where the n-th acknowledgment of a cell stands, counted from 0.
@@ -66,7 +66,7 @@ fn set_at(cell: usize, n: usize) -> usize
     requires { ⌜ (cell < cells) × (n < maxAcknowledgments) ⌝ }
     ensures { λ p. ⌜ p ≡ setPlace cell n ⌝ }
 {
-    cell * Message::CELL + n * Set::BYTES
+    cell * SentMessage::CELL + n * Set::BYTES
 }
 
 // Where a cell's check message stands.
@@ -74,7 +74,7 @@ fn check_at(cell: usize) -> usize
     requires { ⌜ cell < cells ⌝ }
     ensures { λ p. ⌜ p ≡ checkPlace cell ⌝ }
 {
-    Message::CHECKS + cell * Set::BYTES
+    SentMessage::CHECKS + cell * Set::BYTES
 }
 
 // Nothing is sent: the counts and the flags become 0, the sets stay as they were.
@@ -82,35 +82,35 @@ pub fn clear(sent: &mut [u8])
     requires { ⌜ length (now sent) ≡ sentSize ⌝ }
     ensures { λ _. ⌜ Holds (now (sent .exit)) (cleared (now (sent .entry))) (λ j r. []) (λ j r. none) ⌝ }
 {
-    wire::clear(&mut sent[Message::COUNTS..Message::SIZE]);
+    wire::clear(&mut sent[SentMessage::COUNTS..SentMessage::SIZE]);
 }
 
 // The a-th acknowledgment of a site and round, counted from 1.
-pub fn acknowledgment(sent: &[u8], j: usize, r: usize, a: u8) -> Message
+pub fn acknowledgment(sent: &[u8], j: usize, r: usize, a: u8) -> SentMessage
     requires { ⌜ GoodSent (now sent) × (j < maxSites) × (1 ≤ r) × (r ≤ sentRounds) ⌝ }
     ensures { λ m. ⌜ Read m (acknowledgmentOf (now (sent .entry)) j r a) (numbered (acksOf (now (sent .entry)) j r) a) ⌝ }
 {
     let cell = cell_of(j, r);
     let count = wire::get1(sent, count_at(cell));
     if (a == 0) | (a > count) {
-        return Message::Never;
+        return SentMessage::Never;
     }
     let set = Set::read(sent, set_at(cell, (a - 1) as usize));
-    Message::Sent(set)
+    SentMessage::Sent(set)
 }
 
 // The check message of a site and round.
-pub fn check(sent: &[u8], j: usize, r: usize) -> Message
+pub fn check(sent: &[u8], j: usize, r: usize) -> SentMessage
     requires { ⌜ GoodSent (now sent) × (j < maxSites) × (1 ≤ r) × (r ≤ sentRounds) ⌝ }
     ensures { λ m. ⌜ Read m (checkOf (now (sent .entry)) j r) (checksOf (now (sent .entry)) j r) ⌝ }
 {
     let cell = cell_of(j, r);
     let flag = wire::get1(sent, flag_at(cell));
     if flag != 1 {
-        return Message::Never;
+        return SentMessage::Never;
     }
     let set = Set::read(sent, check_at(cell));
-    Message::Sent(set)
+    SentMessage::Sent(set)
 }
 
 // A site sends one acknowledgment more in a round.
