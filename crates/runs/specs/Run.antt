@@ -1,6 +1,5 @@
 -- A run in bytes and what it prints: document 01, "A run and its print".
 -- Assumes nothing.
-use mathlib.Core.Bool.{Bool, true, false}
 use mathlib.Core.List.{List, [], _∷_, _++_}
 use Prim.Native.Nat.{ℕ, zero, suc, _+_}
 use lib.Dec.{leb}
@@ -15,7 +14,7 @@ use Rattle.table.specs.declared.SiteTable.{SiteTable}
 use Rattle.table.specs.Table.{isGood, markedSize, markedIn, faultyCountOf}
 use Rattle.register.specs.declared.Command.{Command}
 use Rattle.commands.specs.Book.{judgeBook, commandsOf}
-use Rattle.protocol.specs.System.{System, Demands, granted, _else_⨾_, verdict, correct}
+use Rattle.protocol.specs.System.{Demands, granted, _else_⨾_, verdict, correct}
 use Rattle.protocol.specs.World.{World, start, judge, step}
 use Rattle.system.specs.Dash.{dash}
 use Rattle.steps.specs.declared.Reading.{Reading}

@@ -2,7 +2,6 @@
 -- Assumes nothing.
 use borrow.Author.Needs.{needs}
 use mathlib.Core.Path.{sym}
-use lib.Seq.{length-front}
 use denote.Ref.{now}
 use Rattle.layout.specs.Layout.{siteSize}
 use Rattle.judging.proofs.Laws.{first-length}

@@ -1,6 +1,5 @@
 -- `engine::next_is_third`: a law for each answer.
 -- Assumes nothing.
-use borrow.Author.Needs.{needs}
 use native.Mathlib.Omega.{arith}
 use denote.Ref.{now}
 use Rattle.engine.proofs.Reading.{third-none, third-some}

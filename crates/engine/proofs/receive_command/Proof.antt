@@ -1,7 +1,7 @@
 -- `engine::receive_command`: a law for each answer.
 -- Assumes nothing.
 use borrow.Author.Needs.{needs}
-use mathlib.Core.Path.{refl, sym}
+use mathlib.Core.Path.{sym}
 use lib.Seq.{length-front}
 use denote.Ref.{now}
 use Rattle.layout.specs.Layout.{siteSize}

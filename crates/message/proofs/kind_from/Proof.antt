@@ -1,6 +1,5 @@
 -- `message::kind_from`: the first kind, or the other.
 -- Assumes nothing.
-use borrow.Author.Needs.{needs}
 use Rattle.message.proofs.Laws.{is-first, is-other}
 use Rattle.message.proofs.kind_from.Statement.{statement}
 use Rattle.message.proofs.kind_from.Tie as tie

@@ -1,6 +1,5 @@
 -- `turning::entry_of`: the fields are those of the proposal.
 -- Assumes nothing.
-use borrow.Author.Needs.{needs}
 use Rattle.turning.proofs.entry_of.Statement.{statement}
 use Rattle.turning.proofs.entry_of.Tie as tie
 

@@ -3,7 +3,6 @@
 use borrow.Author.Needs.{needs}
 use denote.Ref.{now}
 use mathlib.Core.Path.{ap, _∙_}
-use native.Mathlib.Omega.{arith}
 use Rattle.layout.specs.declared.Site.{Site}
 use Rattle.site.specs.Steps.{undeliveredOf}
 use Rattle.turning.proofs.Laws.{take-told}
