@@ -29,7 +29,7 @@ use Rattle.message.specs.declared.Kind.{Kind}
 use Rattle.message.specs.declared.Kind.the-variants.{Acknowledgment, Check}
 use Rattle.message.specs.declared.Message.{Message}
 use Rattle.message.specs.Messages.{isMessage, messageOf}
-use Rattle.site.specs.Steps.{Received, Commanded, Heard}
+use Rattle.site.specs.Steps.{Commanded}
 use Rattle.judging.specs.Outcomes.{outcome, _then_}
 use Rattle.judging.specs.declared.Judgement.{Judgement}
 use Rattle.judging.specs.declared.Judgement.the-variants as judgement
@@ -105,11 +105,8 @@ module _ (table book site : List ℕ) {j : Judgement}
 -- ---- a message
 
 -- It is taken in by its kind.
-pub took-acknowledgment : (k : Kind) (sender round : ℕ) (x : Set) (b b′ : List ℕ) → k ≡ Acknowledgment → Heard sender round x b b′ → TookMessage k sender round x b b′
-took-acknowledgment k sender round x b b′ e o = subst (λ (y : Kind). TookMessage y sender round x b b′) (sym e) o
-
-pub took-check : (k : Kind) (sender round : ℕ) (x : Set) (b b′ : List ℕ) → k ≡ Check → Received x b b′ → TookMessage k sender round x b b′
-took-check k sender round x b b′ e o = subst (λ (y : Kind). TookMessage y sender round x b b′) (sym e) o
+pub took-by : (k k′ : Kind) (sender round : ℕ) (x : Set) (b b′ : List ℕ) → k ≡ k′ → TookMessage k′ sender round x b b′ → TookMessage k sender round x b b′
+took-by k k′ sender round x b b′ e o = subst (λ (y : Kind). TookMessage y sender round x b b′) (sym e) o
 
 module _ (table book site message : List ℕ) (sender : ℕ) {formed : Bool} (ef : formed ≡ isMessage message) {j : Judgement}
     (e : j ≡ judgedAs (verdict (forSiteAndMessage table book formed site)) (rulesOf table book)) where

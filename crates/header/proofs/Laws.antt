@@ -16,8 +16,8 @@ use Rattle.refusals.specs.declared.Verdict.{Verdict}
 use Rattle.refusals.specs.declared.Verdict.the-variants.{Taken, Refused}
 use Rattle.table.specs.declared.SiteTable.{SiteTable}
 use Rattle.table.specs.declared.Judged.the-variants as judged
-use Rattle.table.specs.Table.{isGood, markedIn, tableAs, readMarked}
-use Rattle.table.proofs.Laws.{judged-good as table-good, judged-refused as table-refused, whole-marked}
+use Rattle.table.specs.Table.{isGood, markedSize, markedIn, tableAs, readMarked}
+use Rattle.table.proofs.Laws.{judged-good as table-good, judged-refused as table-refused, table-whole}
 use Rattle.register.specs.declared.Command.{Command}
 use Rattle.commands.specs.Book.{maxCommands, readUpTo, verdictOf, judgeBook, commandsOf, measureBook, Placed, notedPlaces}
 use Rattle.commands.specs.declared.Measured.the-variants.{Commands, Unreadable}
@@ -56,15 +56,15 @@ module _ (run : List ℕ) where
 
     module _ (b : headerSize ≤ length run) where
       -- A header that is not cut has a whole table, which is judged by its limits.
-      table-whole : tableAs (isGood (markedIn run)) (markedIn run) ≡ readMarked run
-      table-whole = whole-marked run (omega arith)
+      whole : tableAs (isGood (markedIn run)) (markedIn run) ≡ readMarked run
+      whole = table-whole markedSize run (markedIn run) (omega arith)
 
       pub bad-table : {r : Refusal} → readMarked run ≡ judged.Refused r → Refused Table ≡ verdict (forHeader run)
       bad-table {r} h =
-          rw (le-leb (length run) maxRun a, le-leb headerSize (length run) b, table-refused (isGood (markedIn run)) (markedIn run) (table-whole ∙ h) .0) refl
+          rw (le-leb (length run) maxRun a, le-leb headerSize (length run) b, table-refused (isGood (markedIn run)) (markedIn run) (whole ∙ h) .0) refl
 
       pub good-table : {u : SiteTable} → readMarked run ≡ judged.Good u → (isGood (markedIn run) ≡ true) × (u ≡ markedIn run)
-      good-table c = table-good (isGood (markedIn run)) (markedIn run) (table-whole ∙ c)
+      good-table c = table-good (isGood (markedIn run)) (markedIn run) (whole ∙ c)
 
       module _ {u : SiteTable} (c : readMarked run ≡ judged.Good u) {end : ℕ} (f : end ≡ headerSize + bookSize run) where
         pub book-cut : length run < end → Refused Table ≡ verdict (forHeader run)

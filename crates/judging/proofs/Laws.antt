@@ -91,10 +91,17 @@ pub good-rules : (table book : List ℕ) (v : Verdict) {j : Judgement} {x : Rule
     → (x .table ≡ tableIn table) × (x .commands ≡ length (commandsOf book))
 good-rules table book v e h = let q = good-taken v (rulesOf table book) e h .1 in (ap (λ (y : Rules). y .table) q, ap (λ (y : Rules). y .commands) q)
 
+pub good-sites : (table book : List ℕ) (v : Verdict) {j : Judgement} {x : Rules} → j ≡ judgedAs v (rulesOf table book) → j ≡ judgement.Good x
+    → (x .table .sites ≡ tableIn table .sites) × (x .commands ≡ length (commandsOf book))
+good-sites table book v e h = let w = good-rules table book v e h in (ap (λ (t : SiteTable). t .sites) (w .0), w .1)
+
 -- After demands that a judge found met, others decide; one that refused decides.
 module _ (d e : Demands) (rules : Rules) {j : Judgement} (q : j ≡ judgedAs (verdict d) rules) where
   pub after-good : {x : Rules} → j ≡ judgement.Good x → verdict (d then e) ≡ verdict e
   after-good h = then-taken d e (good-code (verdict d) rules q h) refl
+
+  pub after-judged : {x : Rules} → j ≡ judgement.Good x → {r : Verdict} → verdict e ≡ r → judgedAs r x ≡ judgedAs (verdict (d then e)) rules
+  after-judged h {r} w = (λ i. judgedAs r (good-taken (verdict d) rules q h .1 i)) ∙ ap (λ (v : Verdict). judgedAs v rules) (sym (after-good h ∙ w))
 
   pub after-refused : {r : Refusal} → j ≡ judgement.Refused r → j ≡ judgedAs (verdict (d then e)) rules
   after-refused {r} h = h ∙ ap (λ (v : Verdict). judgedAs v rules) (sym (refusing d (refused-by (verdict d) rules q h)))
@@ -163,7 +170,7 @@ module _ (table book : List ℕ) where
 
       -- The site table and the number of commands that the site is judged by.
       pub rules-same : (x .table .sites ≡ n) × (x .commands ≡ length (commandsOf book))
-      rules-same = let w = good-rules table book (verdict rules) q h in (ap (λ (t : SiteTable). t .sites) (w .0), w .1)
+      rules-same = good-sites table book (verdict rules) q h
 
       pub rules-few : x .table .sites ≤ maxSites
       rules-few = subst (λ (k : ℕ). k ≤ maxSites) (sym (rules-same .0)) (good-limits (tableIn table) (right (leb tableSize (length table)) (isGood (tableIn table)) (rules-met .1 .0)) .sites)
@@ -174,9 +181,7 @@ module _ (table book : List ℕ) where
         after a b = a else Form ⨾ b else Range ⨾ granted
 
         answer : {r : Verdict} → verdict (after formed (isSite table book entries site)) ≡ r → judgedAs r x ≡ judgedAs (verdict (forLent table book enough formed entries site)) (rulesOf table book)
-        answer {r} w =
-            (λ i. judgedAs r (good-taken (verdict rules) (rulesOf table book) q h .1 i))
-            ∙ ap (λ (v : Verdict). judgedAs v (rulesOf table book)) (sym (after-good rules (after formed (isSite table book entries site)) (rulesOf table book) q h ∙ w))
+        answer w = after-judged rules (after formed (isSite table book entries site)) (rulesOf table book) q h w
 
         pub lent-form : not formed ≡ true → judgement.Refused Form ≡ judgedAs (verdict (forLent table book enough formed entries site)) (rulesOf table book)
         lent-form z = answer {r = Refused Form} (λ i. verdict (after (not-true formed z i) (isSite table book entries site)))
@@ -257,7 +262,7 @@ module _ (table book : List ℕ) where
       log-lent = lent-judged enough (isWhole log) (entriesIn log) site (met lent (good-code (verdict lent) (rulesOf table book) q h) refl)
 
       same : (x .table .sites ≡ n) × (x .commands ≡ length (commandsOf book))
-      same = let w = good-rules table book (verdict lent) q h in (ap (λ (t : SiteTable). t .sites) (w .0), w .1)
+      same = good-sites table book (verdict lent) q h
 
       pub log-sized : siteSize ≤ length site
       log-sized = log-lent .2 .sized
@@ -274,9 +279,7 @@ module _ (table book : List ℕ) where
           read-by = (λ i. goodTo log (sym (same .0) i) (sym (same .1) i) (sym ep i)) ∙ sym eu
 
           after-lent : {r : Verdict} → verdict (read else Range ⨾ granted) ≡ r → judgedAs r x ≡ judgedAs (verdict (forSiteAndLog table book enough site log)) (rulesOf table book)
-          after-lent {r} w =
-              (λ i. judgedAs r (good-taken (verdict lent) (rulesOf table book) q h .1 i))
-              ∙ ap (λ (v : Verdict). judgedAs v (rulesOf table book)) (sym (after-good lent (read else Range ⨾ granted) (rulesOf table book) q h ∙ w))
+          after-lent w = after-judged lent (read else Range ⨾ granted) (rulesOf table book) q h w
 
           pub log-entries : not u ≡ true → judgement.Refused Range ≡ judgedAs (verdict (forSiteAndLog table book enough site log)) (rulesOf table book)
           log-entries y = after-lent {r = Refused Range} (λ i. verdict ((read-by ∙ not-true u y) i else Range ⨾ granted))

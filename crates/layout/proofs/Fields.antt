@@ -12,13 +12,13 @@ use Rattle.sets.specs.Sets.{writeSet}
 use Rattle.layout.specs.declared.Proposal.{Proposal}
 use Rattle.layout.specs.declared.Phase.{Phase}
 use Rattle.layout.specs.declared.Site.{Site}
-use Rattle.layout.specs.Layout.{phasePlace, countPlace, spanPlace, positionPlace, receivedPlace, pendingPlace, fastPlace, ncPlace, cPlace, registerPlace, headOf, tagOf, proposalOf, numbersBytes, setsBytes, headBytes, Begins, phased}
+use Rattle.layout.specs.Layout.{phasePlace, countPlace, spanPlace, positionPlace, receivedPlace, pendingPlace, fastPlace, ncPlace, cPlace, registerPlace, headOf, phaseNumber, proposalOf, numbersBytes, setsBytes, headBytes, Begins, phased}
 use Rattle.layout.specs.Good.{Good}
 use Rattle.layout.proofs.Header.{length-head, head-bytes}
 
 -- ---- what the code of layout does
 
-pub phase-set : (b : List ℕ) (p : Phase) {n : ℕ} {q : Proposal} {l₁ l₂ l₃ : List ℕ} → q ≡ proposalOf p → n ≡ tagOf p
+pub phase-set : (b : List ℕ) (p : Phase) {n : ℕ} {q : Proposal} {l₁ l₂ l₃ : List ℕ} → q ≡ proposalOf p → n ≡ phaseNumber p
     → l₁ ≡ splice b phasePlace (bytes 1 n) → l₂ ≡ writeSet l₁ ncPlace (q .nc) → l₃ ≡ writeSet l₂ cPlace (q .c) → l₃ ≡ phased b p
 phase-set b p eq en e₁ e₂ e₃ =
     e₃ ∙ (λ i. writeSet ((e₂ ∙ (λ j. writeSet ((e₁ ∙ ap (λ (k : ℕ). splice b phasePlace (bytes 1 k)) en) j) ncPlace (eq j .nc))) i) cPlace (eq i .c))

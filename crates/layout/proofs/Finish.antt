@@ -19,7 +19,7 @@ use Rattle.system.specs.Dash.{dash}
 use Rattle.layout.specs.declared.Phase.{Phase}
 use Rattle.layout.specs.declared.Phase.the-variants.{Acknowledging, Waiting}
 use Rattle.layout.specs.declared.Site.{Site}
-use Rattle.layout.specs.Layout.{siteSize, phasePlace, countPlace, spanPlace, ncPlace, cPlace, heardPlace, registerPlace, deliveriesPlace, rowAt, slot, tagOf, proposalOf, headOf, headBytes, numbersBytes, setsBytes, heardIn, siteOf, ledgerOf, view, encode}
+use Rattle.layout.specs.Layout.{siteSize, phasePlace, countPlace, spanPlace, ncPlace, cPlace, heardPlace, registerPlace, deliveriesPlace, rowAt, slot, phaseNumber, proposalOf, headOf, headBytes, numbersBytes, setsBytes, heardIn, siteOf, ledgerOf, view, encode}
 use Rattle.layout.specs.Good.{Fit, GoodHead, GoodTables, Good, Holds, HoldsOver}
 use Rattle.layout.specs.Step.{Carried}
 use Rattle.layout.proofs.Header.{head-back, length-head}
@@ -47,11 +47,11 @@ module _ (b : List ℕ) (h : Site) (size : length b ≡ siteSize) where
   unfolding headOf
   span-back f = λ i. head-back b h f i .span
 
-  tag-back : readLe 1 (splice b 0 (headBytes h)) phasePlace ≡ tagOf (h .phase)
+  tag-back : readLe 1 (splice b 0 (headBytes h)) phasePlace ≡ phaseNumber (h .phase)
   unfolding splice numbersBytes setsBytes readLe value bytes
-  tag-back = value-bytes 1 (tagOf (h .phase)) (small (h .phase))
+  tag-back = value-bytes 1 (phaseNumber (h .phase)) (small (h .phase))
     where
-      small : (p : Phase) → tagOf p < 256
+      small : (p : Phase) → phaseNumber p < 256
       small Acknowledging = omega arith
       small (Waiting p) = omega arith
 
@@ -75,11 +75,11 @@ module _ (b : List ℕ) (h : Site) (size : length b ≡ siteSize) where
             (tables-agree sites commands (h .deliveries) (h .span) room (head-agree (rowAt (h .span))) t));
       }
     where
-      tag-most : (p : Phase) → tagOf p ≤ 1
+      tag-most : (p : Phase) → phaseNumber p ≤ 1
       tag-most Acknowledging = omega arith
       tag-most (Waiting p) = omega arith
 
-      quiet : (p : Phase) → tagOf p ≡ 0 → (proposalOf p .nc .bits ≡ 0) × (proposalOf p .c .bits ≡ 0)
+      quiet : (p : Phase) → phaseNumber p ≡ 0 → (proposalOf p .nc .bits ≡ 0) × (proposalOf p .c .bits ≡ 0)
       quiet Acknowledging e = (refl, refl)
       quiet (Waiting p) e = absurd (omega arith)
 

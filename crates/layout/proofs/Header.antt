@@ -14,7 +14,7 @@ use Rattle.sets.proofs.Laws.{set-of-members}
 use Rattle.layout.specs.declared.Phase.{Phase}
 use Rattle.layout.specs.declared.Phase.the-variants.{Acknowledging, Waiting}
 use Rattle.layout.specs.declared.Site.{Site}
-use Rattle.layout.specs.Layout.{siteSize, roundPlace, phasePlace, positionPlace, countPlace, spanPlace, receivedPlace, deliveredPlace, pendingPlace, fastPlace, ncPlace, cPlace, registerPlace, headOf, phaseFrom, phaseSeen, phaseFor, tagOf, proposalOf, numbersBytes, setsBytes, headBytes}
+use Rattle.layout.specs.Layout.{siteSize, roundPlace, phasePlace, positionPlace, countPlace, spanPlace, receivedPlace, deliveredPlace, pendingPlace, fastPlace, ncPlace, cPlace, registerPlace, headOf, phaseFrom, phaseSeen, phaseFor, phaseNumber, proposalOf, numbersBytes, setsBytes, headBytes}
 use Rattle.layout.specs.Good.{Fit}
 
 pub phase-waiting : (n : ℕ) (nc c : Set) → (n ≡ 0 → ⊥) → Waiting (record { nc = nc; c = c }) ≡ phaseFrom n nc c
@@ -28,7 +28,7 @@ length-head h = refl
 -- ---- what was written is read back
 
 phase-back : (p : Phase) → proposalOf p .nc .bits < 2 ^ 64 → proposalOf p .c .bits < 2 ^ 64
-    → phaseFrom (value (bytes 1 (tagOf p))) (record { bits = value (bytes 8 (proposalOf p .nc .bits)) }) (record { bits = value (bytes 8 (proposalOf p .c .bits)) }) ≡ p
+    → phaseFrom (value (bytes 1 (phaseNumber p))) (record { bits = value (bytes 8 (proposalOf p .nc .bits)) }) (record { bits = value (bytes 8 (proposalOf p .c .bits)) }) ≡ p
 unfolding value bytes
 phase-back Acknowledging a b = refl
 phase-back (Waiting p) a b =
@@ -81,7 +81,7 @@ module _ (b : List ℕ) (small : (i : ℕ) → getD b i 0 < 256) (size : length 
       c zero = lit< tt
       c (suc n) = set-fits cPlace (omega arith)
 
-  tag-same : (n : ℕ) (nc c : Set) → n ≤ 1 → tagOf (phaseFrom n nc c) ≡ n
+  tag-same : (n : ℕ) (nc c : Set) → n ≤ 1 → phaseNumber (phaseFrom n nc c) ≡ n
   tag-same zero nc c h = refl
   tag-same (suc zero) nc c h = refl
   tag-same (suc (suc n)) nc c h = absurd (omega arith)

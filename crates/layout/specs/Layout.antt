@@ -173,9 +173,9 @@ phaseSeen (Waiting p) = waiting (record { nc = inSet (p .nc); c = inSet (p .c) }
 
 -- ---- the bytes of what is said
 
-abbrev pub tagOf : Phase → ℕ
-tagOf Acknowledging = 0
-tagOf (Waiting p) = 1
+abbrev pub phaseNumber : Phase → ℕ
+phaseNumber Acknowledging = 0
+phaseNumber (Waiting p) = 1
 
 -- The sets that a phase is waiting with, empty while it acknowledges.
 abbrev pub proposalOf : Phase → Proposal
@@ -184,7 +184,7 @@ proposalOf (Waiting p) = p
 
 -- The numbers of a header, and its sets.
 unfoldable pub numbersBytes : Site → List ℕ
-numbersBytes h = (((bytes 1 (h .round) ++ bytes 1 (tagOf (h .phase))) ++ bytes 2 (h .position)) ++ bytes 2 (h .deliveries)) ++ bytes 2 (h .span)
+numbersBytes h = (((bytes 1 (h .round) ++ bytes 1 (phaseNumber (h .phase))) ++ bytes 2 (h .position)) ++ bytes 2 (h .deliveries)) ++ bytes 2 (h .span)
 
 unfoldable pub setsBytes : Site → List ℕ
 setsBytes h =
@@ -200,7 +200,7 @@ Begins h b = take registerPlace b ≡ headBytes h
 
 -- The bytes with another phase.
 abbrev pub phased : List ℕ → Phase → List ℕ
-phased b p = writeSet (writeSet (splice b phasePlace (bytes 1 (tagOf p))) ncPlace (proposalOf p .nc)) cPlace (proposalOf p .c)
+phased b p = writeSet (writeSet (splice b phasePlace (bytes 1 (phaseNumber p))) ncPlace (proposalOf p .nc)) cPlace (proposalOf p .c)
 
 -- The first n of the sets heard: that of sender 0 and round 1 first, then that of sender 1.
 unfoldable pub heardBytes : ℕ → (ℕ → ℕ → ℕ → Bool) → List ℕ

@@ -5,7 +5,7 @@ ghost use lib.ListN.{length};
 ghost use Rattle.wire.specs.Wire.{bytes, splice};
 ghost use Rattle.sets.specs.Sets.{capacity, readSet, writeSet};
 ghost use Rattle.table.specs.Table.{maxSites};
-ghost use Rattle.layout.specs.Layout.{siteSize, siteRounds, cell, slot, headOf, phaseFrom, tagOf, proposalOf, phased, deliveryOf, deliveryBytes, deliverySeen, emptied, reached, heardMore};
+ghost use Rattle.layout.specs.Layout.{siteSize, siteRounds, cell, slot, headOf, phaseFrom, phaseNumber, proposalOf, phased, deliveryOf, deliveryBytes, deliverySeen, emptied, reached, heardMore};
 ghost use Rattle.layout.specs.Layout.{roundPlace, countPlace, positionPlace, receivedPlace, deliveredPlace, pendingPlace, fastPlace};
 ghost use Rattle.layout.specs.Good.{goodPhase};
 use sets::Set;
@@ -23,9 +23,9 @@ pub enum Phase {
 }
 
 impl Phase {
-    // The byte that tells it.
-    fn tag(self) -> u8
-        ensures { λ r. ⌜ r ≡ tagOf self ⌝ }
+    // Its number, in the bytes of a site and in a status.
+    pub fn number(self) -> u8
+        ensures { λ r. ⌜ r ≡ phaseNumber self ⌝ }
     {
         match self {
             Phase::Acknowledging => 0,
@@ -196,7 +196,7 @@ pub fn set_fast(site: &mut [u8], set: Set)
     set.write(site, Site::FAST);
 }
 
-// The phase is written: its tag and the sets that the site waits with, empty while it acknowledges.
+// The phase is written: its number and the sets that the site waits with, empty while it acknowledges.
 pub fn set_phase(site: &mut [u8], phase: Phase)
     requires { ⌜ length (now site) ≡ siteSize ⌝ }
     ensures { λ _. ⌜ now (site .exit) ≡ phased (now (site .entry)) phase ⌝ }
@@ -204,12 +204,12 @@ pub fn set_phase(site: &mut [u8], phase: Phase)
     let proposal = phase.proposal();
     let nc = proposal.nc;
     let c = proposal.c;
-    wire::put1(site, Site::PHASE, phase.tag());
+    wire::put1(site, Site::PHASE, phase.number());
     nc.write(site, Site::NC);
     c.write(site, Site::C);
 }
 
-// Whether the tag of the phase is one, and nothing is proposed while the site acknowledges.
+// Whether the number of the phase is one, and nothing is proposed while the site acknowledges.
 pub fn judge_phase(site: &[u8]) -> bool
     requires { ⌜ length (now site) ≡ siteSize ⌝ }
     ensures { λ r. ⌜ r ≡ goodPhase (now (site .entry)) ⌝ }

@@ -33,7 +33,7 @@ use Rattle.protocol.specs.Site.{isWaiting, isSome}
 use Rattle.layout.specs.declared.Phase.{Phase}
 use Rattle.layout.specs.declared.Phase.the-variants.{Acknowledging, Waiting}
 use Rattle.layout.specs.declared.Site.{Site}
-use Rattle.layout.specs.Layout.{siteSize, countPlace, registerPlace, deliverySize, headOf, phaseSeen, slot, deliveryOf, deliveriesOf, deliveryBytes}
+use Rattle.layout.specs.Layout.{siteSize, countPlace, registerPlace, deliverySize, headOf, phaseSeen, phaseNumber, slot, deliveryOf, deliveriesOf, deliveryBytes}
 use Rattle.layout.proofs.Deliveries.{length-deliveries}
 use Rattle.layout.proofs.Encode.{counted}
 use Rattle.judging.specs.Outcomes.{outcome, _then_}
@@ -42,7 +42,7 @@ use Rattle.judging.specs.declared.Judgement.the-variants as judgement
 use Rattle.judging.specs.Judging.{systemOf, siteIn, rulesOf, judgedAs, numberIn, forSite}
 use Rattle.judging.proofs.Demands.{then-refused, code-refused, code-taken, last-refused, last-taken}
 use Rattle.judging.proofs.Laws.{Judged, site-judged, good-code, refused-code}
-use Rattle.looking.specs.Looking.{statusSize, statusBytes, phaseNumber, headStatus, foundBytes, statusCall, bikeCall, deliveryCall}
+use Rattle.looking.specs.Looking.{statusSize, statusBytes, headStatus, foundBytes, statusCall, bikeCall, deliveryCall}
 
 -- ---- what is written
 

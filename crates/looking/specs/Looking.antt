@@ -15,10 +15,8 @@ use Rattle.register.specs.Register.{bikes}
 use Rattle.register.specs.Lent.{bikeSize, bikeBytes}
 use Rattle.protocol.specs.System.{System, granted, _else_⨾_, verdict}
 use Rattle.protocol.specs.Site.{Site, isWaiting, isSome}
-use Rattle.layout.specs.declared.Phase.{Phase}
-use Rattle.layout.specs.declared.Phase.the-variants.{Acknowledging, Waiting}
 use Rattle.layout.specs.declared.Site as layout
-use Rattle.layout.specs.Layout.{deliverySize, deliveryBytes}
+use Rattle.layout.specs.Layout.{phaseNumber, deliverySize, deliveryBytes}
 use Rattle.judging.specs.Outcomes.{Outcome, answered, _then_}
 use Rattle.judging.specs.Judging.{systemOf, siteIn, forSite}
 
@@ -31,10 +29,6 @@ abbrev pub statusBytes : (S : System) → Site S → List ℕ
 statusBytes S s = ((bytes 1 (s .round) ++ bytes 1 (one (isWaiting (s .phase)))) ++ bytes 1 (length (s .ledger .deliveries))) ++ bytes 2 (s .position)
 
 -- The same of the header that is read of its bytes.
-abbrev pub phaseNumber : Phase → ℕ
-phaseNumber Acknowledging = 0
-phaseNumber (Waiting p) = 1
-
 abbrev pub headStatus : layout.Site → List ℕ
 headStatus h = ((bytes 1 (h .round) ++ bytes 1 (phaseNumber (h .phase))) ++ bytes 1 (h .deliveries)) ++ bytes 2 (h .position)
 

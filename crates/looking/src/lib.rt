@@ -8,25 +8,14 @@ ghost use Rattle.register.specs.Register.{bikes};
 ghost use Rattle.register.specs.Lent.{bikeSize, registerOf, bikeBytes};
 ghost use Rattle.layout.specs.Layout.{siteSize, headOf, registerPlace, deliverySize, deliveryOf, deliveryBytes};
 ghost use Rattle.judging.specs.Outcomes.{outcome};
-ghost use Rattle.looking.specs.Looking.{statusSize, phaseNumber, headStatus, statusCall, bikeCall, deliveryCall};
+ghost use Rattle.looking.specs.Looking.{statusSize, headStatus, statusCall, bikeCall, deliveryCall};
 use judging::Judgement;
-use layout::Phase;
 use layout::Site;
 use refusals::Refusal;
 use register::Bike;
 
 // The bytes of a status: round, phase, number of deliveries, log position.
 pub const STATUS_BYTES: usize = 5;
-
-// The number that a status has for a phase.
-fn phase_number(phase: Phase) -> u8
-    ensures { λ r. ⌜ r ≡ phaseNumber phase ⌝ }
-{
-    match phase {
-        Phase::Acknowledging => 0,
-        Phase::Waiting(_) => 1,
-    }
-}
 
 // The status of a site is written.
 fn write_status(site: &[u8], out: &mut [u8])
@@ -36,7 +25,7 @@ fn write_status(site: &[u8], out: &mut [u8])
     let header = Site::read(site);
     let phase = header.phase;
     wire::put1(out, 0, header.round);
-    wire::put1(out, 1, phase_number(phase));
+    wire::put1(out, 1, phase.number());
     wire::put1(out, 2, header.deliveries as u8);
     wire::put2(out, 3, header.position);
 }

@@ -21,7 +21,7 @@ use Rattle.sets.proofs.Laws.{ones-count}
 use Rattle.refusals.specs.declared.Refusal.{Refusal}
 use Rattle.refusals.specs.declared.Refusal.the-variants.{Table}
 use Rattle.table.specs.declared.Judged.the-variants.{Good, Refused}
-use Rattle.table.specs.Table.{maxSites, maxFaults, goodTable, isGood, tableSize, markedSize, tableWith, tableIn, markedIn, tableAs, readTable, readMarked, roundedUpHalf, faultyCountOf, nAckOf, nChkOf, majorityOf}
+use Rattle.table.specs.Table.{maxSites, maxFaults, goodTable, isGood, tableWith, tableAs, roundedUpHalf, faultyCountOf, nAckOf, nChkOf, majorityOf}
 use Rattle.table.specs.declared.SiteTable.{SiteTable}
 
 -- The limits, one by one.
@@ -91,19 +91,13 @@ module _ (b : List ℕ) (mask : ℕ) {n f : ℕ} (en : n ≡ readLe 1 b 0) (ef :
   pub within-bad : goodTable n f mask ≡ false → Refused Table ≡ tableAs (isGood (tableWith b mask)) (tableWith b mask)
   within-bad h = (λ i. tableAs (sym h i) (tableWith b mask)) ∙ (λ i. tableAs (goodTable (en i) (ef i) mask) (tableWith b mask))
 
--- Bytes that are too short for a table have none that is good.
-pub cut-table : (b : List ℕ) → length b < tableSize → Refused Table ≡ readTable b
-cut-table b h = rw (lt-leb tableSize (length b) h) refl
+-- Bytes that are too short for a table have none that is good; in others it is the limits alone that count.
+module _ (size : ℕ) (b : List ℕ) (t : SiteTable) where
+  pub table-cut : length b < size → Refused Table ≡ tableAs (leb size (length b) && isGood t) t
+  table-cut h = rw (lt-leb size (length b) h) refl
 
-pub cut-marked : (b : List ℕ) → length b < markedSize → Refused Table ≡ readMarked b
-cut-marked b h = rw (lt-leb markedSize (length b) h) refl
-
--- In others it is the limits alone that count.
-pub whole-table : (b : List ℕ) → tableSize ≤ length b → tableAs (isGood (tableIn b)) (tableIn b) ≡ readTable b
-whole-table b h = rw (le-leb tableSize (length b) h) refl
-
-pub whole-marked : (b : List ℕ) → markedSize ≤ length b → tableAs (isGood (markedIn b)) (markedIn b) ≡ readMarked b
-whole-marked b h = rw (le-leb markedSize (length b) h) refl
+  pub table-whole : size ≤ length b → tableAs (isGood t) t ≡ tableAs (leb size (length b) && isGood t) t
+  table-whole h = rw (le-leb size (length b) h) refl
 
 -- ---- how the code finds the limits
 

@@ -19,7 +19,6 @@ use Rattle.refusals.specs.Refusals.{numberOf, codeOf, settled}
 use Rattle.sets.specs.declared.Set.{Set}
 use Rattle.sets.specs.Sets.{capacity, inSet, setOf}
 use Rattle.sets.proofs.Laws.{in-without}
-use Rattle.table.specs.declared.SiteTable.{SiteTable}
 use Rattle.table.specs.Table.{tableIn}
 use Rattle.table.specs.declared.Rules.{Rules}
 use Rattle.commands.specs.Book.{maxCommands, commandsOf, Placed}
@@ -48,7 +47,7 @@ use Rattle.judging.specs.declared.Judgement.{Judgement}
 use Rattle.judging.specs.declared.Judgement.the-variants as judgement
 use Rattle.judging.specs.Judging.{systemOf, spanIn, siteIn, withSite, rulesOf, judgedAs, numberIn, forSiteAndLog, placesAfter}
 use Rattle.judging.proofs.Demands.{then-taken, then-refused, answered-refused}
-use Rattle.judging.proofs.Laws.{Judged, log-judged, log-placed, good-code, good-rules, refused-code}
+use Rattle.judging.proofs.Laws.{Judged, log-judged, log-placed, good-code, good-sites, refused-code}
 use Rattle.judging.proofs.Steps.{written, as-before}
 use Rattle.turning.specs.Turning.{sendings, buffers, TurnTaken, entryFor, entryOf, sentBy, turned, sent, turnCall}
 
@@ -122,7 +121,7 @@ module _ (table book site log : List ℕ) (own : ℕ) (m e : List ℕ) {j : Judg
     judged = log-judged table book enough site log code refl .1
 
     ruled : x .table .sites ≡ tableIn table .sites
-    ruled = ap (λ (t : SiteTable). t .sites) (good-rules table book (verdict judge) q h .0)
+    ruled = good-sites table book (verdict judge) q h .0
 
     pub turn-sized : siteSize ≤ length site
     turn-sized = judged .sized

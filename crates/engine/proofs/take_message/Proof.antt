@@ -2,7 +2,8 @@
 -- Assumes nothing.
 use borrow.Author.Needs.{needs}
 use denote.Ref.{now}
-use Rattle.engine.proofs.Laws.{took-acknowledgment, took-check}
+use Rattle.message.specs.declared.Kind.the-variants.{Acknowledgment, Check}
+use Rattle.engine.proofs.Laws.{took-by}
 use Rattle.engine.proofs.take_message.Statement.{statement}
 use Rattle.engine.proofs.take_message.Tie as tie
 
@@ -25,13 +26,13 @@ same-length : tie.Need-same-length
 same-length c = search needs
 
 returns : tie.Need-returns
-returns c = let a = c .before .before .before .before .before .before .before .before .before .args in took-acknowledgment (a .message .kind) (a .sender) (a .message .round) (a .message .set) (now (a .site)) _ (c .before .before .before .before .before .enum-told .given .1) (c .before .before .hear .ensures)
+returns c = let a = c .before .before .before .before .before .before .before .before .before .args in took-by (a .message .kind) Acknowledgment (a .sender) (a .message .round) (a .message .set) (now (a .site)) _ (c .before .before .before .before .before .enum-told .given .1) (c .before .before .hear .ensures)
 
 same-length-2 : tie.Need-same-length-2
 same-length-2 c = search needs
 
 returns-2 : tie.Need-returns-2
-returns-2 c = let a = c .before .before .before .before .before .before .before .before .args in took-check (a .message .kind) (a .sender) (a .message .round) (a .message .set) (now (a .site)) _ (c .before .before .before .before .enum-told2 .given .1) (c .before .before .receive .ensures)
+returns-2 c = let a = c .before .before .before .before .before .before .before .before .args in took-by (a .message .kind) Check (a .sender) (a .message .round) (a .message .set) (now (a .site)) _ (c .before .before .before .before .enum-told2 .given .1) (c .before .before .receive .ensures)
 
 pub take-message-spec : {M : Type 1} → statement M
 take-message-spec =

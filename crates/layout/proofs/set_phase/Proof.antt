@@ -1,4 +1,4 @@
--- `layout::set_phase`: the tag and both sets are written.
+-- `layout::set_phase`: the number and both sets are written.
 -- Assumes nothing.
 use borrow.Author.Needs.{needs}
 use Rattle.layout.proofs.Fields.{phase-set}
@@ -8,8 +8,8 @@ use Rattle.layout.proofs.set_phase.Tie as tie
 proposal-requires : tie.Need-proposal-requires
 proposal-requires c κs = search needs
 
-tag-requires : tie.Need-tag-requires
-tag-requires c κs = search needs
+number-requires : tie.Need-number-requires
+number-requires c κs = search needs
 
 put1-requires : tie.Need-put1-requires
 put1-requires c κs = search needs
@@ -25,7 +25,7 @@ same-length c = search needs
 
 returns : tie.Need-returns
 returns c =
-    phase-set _ (c .before .before .before .before .before .before .before .before .before .before .before .before .before .before .before .before .before .args .phase) (c .before .before .before .before .before .before .before .before .before .before .before .before .before .before .before .proposal .ensures) (c .before .before .before .before .before .before .before .before .before .before .before .tag .ensures)
+    phase-set _ (c .before .before .before .before .before .before .before .before .before .before .before .before .before .before .before .before .before .args .phase) (c .before .before .before .before .before .before .before .before .before .before .before .before .before .before .before .proposal .ensures) (c .before .before .before .before .before .before .before .before .before .before .before .number .ensures)
     (c .before .before .before .before .before .before .before .before .before .before .put1 .ensures) (c .before .before .before .before .before .before .write .ensures)
     (c .before .before .write2 .ensures)
 
@@ -34,7 +34,7 @@ set-phase-spec =
     tie.close
     (tie.spec
     proposal-requires
-    tag-requires
+    number-requires
     put1-requires
     write-requires
     write-requires-2

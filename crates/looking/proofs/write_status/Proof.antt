@@ -17,8 +17,8 @@ read-requires c κs = search needs
 put1-requires : tie.Need-put1-requires
 put1-requires c κs = search needs
 
-phase-number-requires : tie.Need-phase-number-requires
-phase-number-requires c κs = search needs
+number-requires : tie.Need-number-requires
+number-requires c κs = search needs
 
 put1-requires-2 : tie.Need-put1-requires-2
 put1-requires-2 c κs = search needs
@@ -36,7 +36,7 @@ same-length : tie.Need-same-length
 same-length c = search needs
 
 returns : tie.Need-returns
-returns c = status-written (now (c .before .before .before .before .before .before .before .before .before .before .before .before .before .before .before .before .before .before .before .before .before .args .out)) (c .before .before .before .before .before .before .before .before .before .before .before .before .before .before .before .before .before .before .read .result) (c .before .before .before .before .before .before .before .before .before .before .before .before .phase-number .ensures) (c .before .before .before .before .before .before .before .before .before .before .before .before .before .before .before .before .put1 .ensures) (c .before .before .before .before .before .before .before .before .before .before .before .put12 .ensures) (c .before .before .before .before .before .before .put13 .ensures) (c .before .before .put2 .ensures)
+returns c = status-written (now (c .before .before .before .before .before .before .before .before .before .before .before .before .before .before .before .before .before .before .before .before .before .args .out)) (c .before .before .before .before .before .before .before .before .before .before .before .before .before .before .before .before .before .before .read .result) (c .before .before .before .before .before .before .before .before .before .before .before .before .number .ensures) (c .before .before .before .before .before .before .before .before .before .before .before .before .before .before .before .before .put1 .ensures) (c .before .before .before .before .before .before .before .before .before .before .before .put12 .ensures) (c .before .before .before .before .before .before .put13 .ensures) (c .before .before .put2 .ensures)
     ∙ ap (λ (h : Site). splice (now (c .before .before .before .before .before .before .before .before .before .before .before .before .before .before .before .before .before .before .before .before .before .args .out)) 0 (headStatus h)) (c .before .before .before .before .before .before .before .before .before .before .before .before .before .before .before .before .before .before .read .ensures)
 
 pub write-status-spec : {M : Type 1} → statement M
@@ -45,7 +45,7 @@ write-status-spec =
     (tie.spec
     read-requires
     put1-requires
-    phase-number-requires
+    number-requires
     put1-requires-2
     cast-put1
     put1-requires-3
