@@ -1,14 +1,14 @@
 -- Commands that nAck sites, each faulty or having acknowledged them in a round, vouch for: no two of a round conflict,
 -- and each is in NC if the round is decided. Rests on Promises, Heard and the quorum inequalities.
-use Rattle.std.specs.Prelude.{◌≡◌, refl, Bool, true, false, ◌&&◌, ◌||◌, not, ◌⊎◌, List, ℕ, ◌+◌, ◌*◌, ◌≤◌, ◌<◌, leb}
+use Rattle.std.specs.Prelude.{◌≡◌, refl, Bool, true, false, ◌&&◌, ◌||◌, not, ◌⊎◌, List, ℕ, ◌≤◌, ◌<◌}
 use Rattle.std.proofs.Common.{sym, ◌∙◌, ap, inl, inr, ⊎_elim, arith, le-leb}
-use Rattle.std.proofs.Math.Option.{Option, none, some}
+use Rattle.std.proofs.Math.Option.{some}
 use Rattle.theory.specs.Sets.{Set, count}
 use Rattle.theory.specs.Counting.{left, right, either, never, not-true, known, count_mono, count_minus, quorum, correct_common}
 use Rattle.theory.specs.Quorums.{Quorums}
 use Rattle.protocol.specs.System.{System, correct}
-use Rattle.protocol.specs.Recovery.{Log, Standing, absent, valid, excluded, is_valid, nc_of, Tally, valid_count, decide, nc_set}
-use Rattle.protocol.specs.StandingLaws.{Backed, Backing, decided_backed}
+use Rattle.protocol.specs.Recovery.{Standing, absent, valid, excluded, is_valid, nc_of, Tally, decide, nc_set}
+use Rattle.protocol.specs.StandingLaws.{Backed, decided_backed}
 use Rattle.protocol.specs.RecoveryLaws.{decided_count}
 use Rattle.protocol.specs.World.{World}
 use Rattle.agreement.specs.Promises.{said, Promises}

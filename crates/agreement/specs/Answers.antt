@@ -1,9 +1,8 @@
 -- A site's state and answers are those of executing the commands that it delivered, in its order.
 -- Rests on the protocol's definitions.
-use Rattle.std.specs.Prelude.{◌≡◌, refl, Bool, true, false, ℕ, eqb}
-use Rattle.std.proofs.Common.{sym, ◌∙◌, ap, eq-eqb}
-use mathlib.Core.List.{List, [], ◌∷◌, ◌++◌, foldl, map, append_assoc, append-nil}
-use Rattle.std.proofs.Math.Option.{Option, none, some}
+use Rattle.std.specs.Prelude.{◌≡◌, refl, ℕ, eqb}
+use Rattle.std.proofs.Common.{sym, ◌∙◌, ap}
+use mathlib.Core.List.{List, [], ◌∷◌, ◌++◌, foldl, append_assoc, append-nil}
 use Rattle.theory.specs.Sets.{pick}
 use Rattle.theory.specs.Machine.{Machine, Delivery, run, answered}
 use Rattle.protocol.specs.System.{System}

@@ -1,8 +1,8 @@
 -- The bound on rounds: each decided round brings at least two commands that were not settled before, so a site's round is at most
 -- capacity / 2 + 1. Rests on Brought and Invariant.
 use Rattle.std.specs.Prelude.{◌≡◌, refl, Bool, true, false, ◌&&◌, ◌||◌, not, List, ◌≢◌, ℕ, zero, suc, ◌+◌, ◌*◌, ◌≤◌, ◌<◌, eqb}
-use Rattle.std.proofs.Common.{sym, ◌∙◌, ap, subst, arith, eqb-true, eq-eqb}
-use Rattle.std.proofs.Math.Option.{Option, none, some}
+use Rattle.std.proofs.Common.{sym, ◌∙◌, ap, arith, eqb-true, eq-eqb}
+use Rattle.std.proofs.Math.Option.{some}
 use Rattle.theory.specs.Sets.{Set, ◌∪◌, count}
 use Rattle.theory.specs.Counting.{both, true_or, or_true, never, any_at, count_le, count_mono, count_split, count_at, correct_member}
 use Rattle.theory.specs.Machine.{Exchange}
@@ -14,8 +14,8 @@ use Rattle.protocol.specs.World.{World, Step, start, play}
 use Rattle.protocol.specs.Steps.{play_keeps}
 use Rattle.agreement.specs.History.{History, extend, history, history_last, AllSettled, settled-start, settled_keeps}
 use Rattle.agreement.specs.Acked.{Sizes}
-use Rattle.agreement.specs.Brought.{Brings, Brought, brought_start, brought_keeps}
-use Rattle.agreement.specs.Invariant.{Good, good_play}
+use Rattle.agreement.specs.Brought.{Brought, brought_start, brought_keeps}
+use Rattle.agreement.specs.Invariant.{good_play}
 
 -- Two different members make a count of at least two.
 count_pair : (n : ℕ) (p : Set) (a b : ℕ) → a < n → b < n → a ≢ b → p a ≡ true → p b ≡ true → 2 ≤ count n p

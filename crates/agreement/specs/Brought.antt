@@ -1,14 +1,14 @@
 -- A correct site proposes only where two commands conflict: its entry brings two conflicting commands that the log has not settled.
 -- Rests on History.
-use Rattle.std.specs.Prelude.{◌≡◌, refl, Bool, true, false, ◌&&◌, ◌||◌, not, List, [], ◌∷◌, ◌++◌, ◌⊎◌, ℕ, zero, suc, ◌<◌}
+use Rattle.std.specs.Prelude.{◌≡◌, refl, Bool, true, false, ◌&&◌, ◌||◌, not, [], ◌∷◌, ◌++◌, ◌⊎◌, ℕ, zero, suc, ◌<◌}
 use Rattle.std.proofs.Common.{sym, ◌∙◌, ap, subst, inl, inr, ⊎_elim, arith}
-use Rattle.std.proofs.Math.Option.{Option, none, some}
-use Rattle.theory.specs.Sets.{Set, ◌∪◌, pick, all}
+use Rattle.std.proofs.Math.Option.{some}
+use Rattle.theory.specs.Sets.{Set, ◌∪◌, all}
 use Rattle.theory.specs.Counting.{left, right, never, not-true, not-false, known}
 use Rattle.protocol.specs.System.{System, correct, free}
 use Rattle.protocol.specs.Recovery.{Entry, Log}
 use Rattle.protocol.specs.StandingLaws.{Logged, logged_split}
-use Rattle.protocol.specs.Site.{Site, undelivered, unacknowledged, acknowledges}
+use Rattle.protocol.specs.Site.{Site, undelivered, acknowledges}
 use Rattle.protocol.specs.World.{World, Step, command, acknowledgment, check, false_acknowledgment, false_check, false_entry, turn, fast_delivery, log_read, round_end, start, demands, change, entry_of, acknowledging_turn, proposing_turn}
 use Rattle.protocol.specs.Steps.{Met, not_both, turn_keeps}
 use Rattle.agreement.specs.History.{History, history, history_grows, SettledAt, AllSettled}

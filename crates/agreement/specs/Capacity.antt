@@ -1,18 +1,18 @@
 -- How much a run writes: at most as many acknowledgments of a site in a round as there are commands, and at most two log entries a site and round.
 -- Rests on Invariant.
 use Rattle.std.specs.Prelude.{◌≡◌, refl, Bool, true, false, ◌&&◌, ◌||◌, not, List, [], ◌∷◌, ◌++◌, ◌⊎◌, ℕ, zero, suc, ◌+◌, ◌*◌, ◌≤◌, ◌<◌, eqb, leb, ltb, length}
-use Rattle.std.proofs.Common.{sym, ◌∙◌, ap, subst, inl, inr, ⊎_elim, suc-mul, length-append, eqb-true, eq-eqb, ltb-true, leb-true}
+use Rattle.std.proofs.Common.{◌∙◌, ap, subst, inl, inr, ⊎_elim, suc-mul, length-append, eqb-true, eq-eqb, ltb-true, leb-true}
 use native.Mathlib.Omega.{arith}
-use Rattle.theory.specs.Sets.{Set, pick, one, any, count}
-use Rattle.theory.specs.Counting.{both, left, right, true_or, or_true, either, neither, never, not-true, known, last_or_below, any_some, count_le, count_mono, count_split, count_at}
+use Rattle.theory.specs.Sets.{Set, pick, one, count}
+use Rattle.theory.specs.Counting.{both, left, right, true_or, or_true, neither, never, not-true, last_or_below, any_some, count_le, count_mono, count_split, count_at}
 use Rattle.protocol.specs.System.{System}
 use Rattle.protocol.specs.Recovery.{Entry, Log, entries}
 use Rattle.protocol.specs.StandingLaws.{entries-more}
-use Rattle.protocol.specs.Site.{Site, undelivered, unacknowledged, acknowledges}
+use Rattle.protocol.specs.Site.{undelivered, unacknowledged, acknowledges}
 use Rattle.protocol.specs.World.{World, Step, command, acknowledgment, check, false_acknowledgment, false_check, false_entry, turn, fast_delivery, log_read, round_end, start, play, demands, change, entry_of, acknowledging_turn, proposing_turn}
 use Rattle.protocol.specs.Steps.{Met, play_keeps, turn_keeps}
 use Rattle.agreement.specs.History.{history_positive}
-use Rattle.agreement.specs.Promises.{said, said_more, Promises}
+use Rattle.agreement.specs.Promises.{said, said_more}
 use Rattle.agreement.specs.Acked.{Sizes}
 use Rattle.agreement.specs.Invariant.{Good, good_start, good_keeps}
 

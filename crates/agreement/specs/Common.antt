@@ -1,24 +1,23 @@
 -- The common sequence of a world: what the log settles below the greatest round of a correct site, then what correct sites delivered fast in that round.
 -- Every correct site's list, followed by what it has not delivered, is alike to it. Rests on Invariant and HistoryLaws.
-use Rattle.std.specs.Prelude.{◌≡◌, Bool, false, ◌&&◌, ◌||◌, not, ◌⊎◌, ℕ, zero, suc, ◌+◌, ◌-◌, ◌≤◌, ◌<◌, eqb}
+use Rattle.std.specs.Prelude.{◌≡◌, Bool, false, ◌&&◌, not, ◌⊎◌, ℕ, zero, suc, ◌+◌, ◌-◌, ◌≤◌, ◌<◌, eqb}
 use Rattle.std.proofs.Math.Path.{refl, sym, ap}
 use Rattle.std.proofs.Common.{◌∙◌, subst, inl, inr, arith, eqb-true, eq-eqb}
 use Rattle.std.proofs.Math.Bool.{true}
-use mathlib.Core.List.{List, [], ◌∷◌, ◌++◌, append_assoc, append-nil}
+use mathlib.Core.List.{List, [], ◌++◌, append_assoc}
 use Rattle.std.proofs.Math.Logic.{⊎_elim}
-use Rattle.std.proofs.Math.Option.{Option, none, some}
+use Rattle.std.proofs.Math.Option.{some}
 use Rattle.theory.specs.Sets.{Set, ∅, ◌∪◌, ◌∖◌, any, members}
-use Rattle.theory.specs.Counting.{both, left, right, true_or, or_true, either, never, not-true, known, lt_or_le, last_or_below, any_at, any_some, same_test}
+use Rattle.theory.specs.Counting.{both, left, right, either, never, not-true, known, lt_or_le, last_or_below, any_at, any_some, same_test}
 use Rattle.theory.specs.Lists.{contents, distinct}
 use Rattle.theory.specs.ListLaws.{contents-append, contents_left, contents_right, distinct_append}
 use Rattle.theory.specs.Members.{members-has, members_in, members-distinct}
-use Rattle.theory.specs.Traces.{Alike, same, chain}
-use Rattle.theory.specs.TraceLaws.{alike_equal, alike-before, alike-after, alike-contents, alike-distinct, merge}
+use Rattle.theory.specs.Traces.{Alike, chain}
+use Rattle.theory.specs.TraceLaws.{alike_equal, alike-before, alike-after, alike-contents, merge}
 use Rattle.protocol.specs.System.{System, correct}
-use Rattle.protocol.specs.Recovery.{Log, Tally, decide, nc_set, c_set}
+use Rattle.protocol.specs.Recovery.{Tally, decide, nc_set, c_set}
 use Rattle.protocol.specs.StandingLaws.{same_some}
 use Rattle.protocol.specs.RecoveryLaws.{nc_free}
-use Rattle.protocol.specs.Site.{Site}
 use Rattle.protocol.specs.World.{World}
 use Rattle.agreement.specs.History.{History, segment, extend, history, history-next, history_part, history_decided}
 use Rattle.agreement.specs.HistoryLaws.{Sound, history_sound}

@@ -1,13 +1,13 @@
 -- A sequence that a site's list can be completed to explains what the site holds, answers and delivers.
 -- Rests on Answers and the laws of alike sequences.
-use Rattle.std.specs.Prelude.{◌≡◌, refl, Bool, true, false, ◌&&◌, ◌||◌, not, List, [], ◌∷◌, ◌++◌, map, ℕ, eqb}
-use Rattle.std.proofs.Common.{sym, ◌∙◌, ap, subst, append-nil, eqb-true, eq-eqb}
-use Rattle.std.proofs.Math.Option.{Option, none, some}
-use Rattle.theory.specs.Sets.{Set, pick}
+use Rattle.std.specs.Prelude.{◌≡◌, refl, Bool, true, false, not, List, [], ◌∷◌, ◌++◌, map, ℕ, eqb}
+use Rattle.std.proofs.Common.{sym, ◌∙◌, ap, append-nil, eqb-true, eq-eqb}
+use Rattle.std.proofs.Math.Option.{some}
+use Rattle.theory.specs.Sets.{pick}
 use Rattle.theory.specs.Counting.{left, right, true_or, or_true, never, not-true}
-use Rattle.theory.specs.Lists.{contents, distinct, before, sift}
+use Rattle.theory.specs.Lists.{contents, distinct, sift}
 use Rattle.theory.specs.ListLaws.{contents_left, distinct_left, distinct_apart, before_left, sift-append, sift-all, sift-none}
-use Rattle.theory.specs.Machine.{Machine, Exchange, Delivery, run, answered, answer_in}
+use Rattle.theory.specs.Machine.{Machine, Exchange, Delivery, answered, answer_in}
 use Rattle.theory.specs.Traces.{Alike, chain, alike_state, alike-answer}
 use Rattle.theory.specs.TraceLaws.{alike_equal, alike-distinct, alike_order, alike-sift}
 use Rattle.protocol.specs.System.{System}

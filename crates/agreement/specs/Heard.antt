@@ -1,13 +1,12 @@
 -- What a site keeps under a correct sender was acknowledged by it, and what it delivered fast in its round has nAck senders.
 -- Rests on Promises' `said`.
-use Rattle.std.specs.Prelude.{◌≡◌, refl, Bool, true, false, ◌&&◌, ◌||◌, not, List, [], ◌∷◌, ◌++◌, ◌⊎◌, ℕ, zero, suc, pred, ◌≤◌, ◌<◌, eqb, leb}
-use Rattle.std.proofs.Common.{sym, ◌∙◌, ap, subst, inl, inr, ⊎_elim, arith, eqb-true, leb-true}
-use Rattle.std.proofs.Math.Option.{Option, none, some}
-use Rattle.theory.specs.Sets.{Set, ∅, only, ◌∪◌, pick, count}
+use Rattle.std.specs.Prelude.{◌≡◌, refl, Bool, true, false, ◌&&◌, ◌||◌, List, [], ◌∷◌, ◌++◌, ℕ, zero, suc, pred, ◌≤◌, eqb, leb}
+use Rattle.std.proofs.Common.{sym, ◌∙◌, ap, subst, ⊎_elim, arith, eqb-true, leb-true}
+use Rattle.theory.specs.Sets.{Set, only, ◌∪◌, pick, count}
 use Rattle.theory.specs.Counting.{left, right, true_or, or_true, either, never, count_mono}
 use Rattle.theory.specs.Lists.{nth}
 use Rattle.protocol.specs.System.{System, correct}
-use Rattle.protocol.specs.Site.{Site, is_some, senders, acknowledges, undelivered}
+use Rattle.protocol.specs.Site.{Site, senders, acknowledges, undelivered}
 use Rattle.protocol.specs.World.{World, Step, command, acknowledgment, check, false_acknowledgment, false_check, false_entry, turn, fast_delivery, log_read, round_end, start, demands, change, or_empty, acknowledging_turn, proposing_turn}
 use Rattle.protocol.specs.Steps.{Met, not_both, put_keeps, turn_keeps}
 use Rattle.agreement.specs.Promises.{said, said_more}

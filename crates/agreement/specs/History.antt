@@ -1,18 +1,18 @@
 -- What a log settles: the commands of the rounds that it decides, and their order. Every site has delivered what its log settles.
 -- Rests on RecoveryLaws.
-use Rattle.std.specs.Prelude.{◌≡◌, Bool, true, false, eqb, take, drop}
+use Rattle.std.specs.Prelude.{◌≡◌, true, eqb, take, drop}
 use Rattle.std.proofs.Math.Path.{refl, ap}
 use Rattle.std.proofs.Common.{sym, ◌∙◌, subst, take-append-drop}
 use mathlib.Core.List.{List, [], ◌∷◌, ◌++◌, append_assoc, append-nil}
 use Rattle.std.proofs.Math.Option.{Option, none, some}
-use Prim.Native.Nat.{ℕ, zero, suc, ◌+◌, ◌≤◌, ◌<◌}
+use Prim.Native.Nat.{ℕ, zero, suc, ◌+◌, ◌≤◌}
 use native.Mathlib.Omega.{arith}
 use Rattle.theory.specs.Sets.{Set, ∅, ◌∪◌, ◌∖◌, pick, members}
-use Rattle.protocol.specs.System.{System, correct}
-use Rattle.protocol.specs.Recovery.{Entry, Log, Tally, decide, nc_set, c_set}
+use Rattle.protocol.specs.System.{System}
+use Rattle.protocol.specs.Recovery.{Log, Tally, decide, nc_set, c_set}
 use Rattle.protocol.specs.StandingLaws.{same_some, none-some}
 use Rattle.protocol.specs.RecoveryLaws.{decide_grows}
-use Rattle.protocol.specs.Site.{Site, fresh, finish, decision, tally_or, is_some, acknowledges}
+use Rattle.protocol.specs.Site.{Site, finish, decision, tally_or, is_some, acknowledges}
 use Rattle.protocol.specs.World.{World, Step, command, acknowledgment, check, false_acknowledgment, false_check, false_entry, turn, fast_delivery, log_read, round_end, start, demands, change, entry_of, acknowledging_turn, proposing_turn}
 use Rattle.protocol.specs.Steps.{Met, put_keeps, turn_keeps}
 

@@ -1,18 +1,18 @@
 -- The sequence that a log settles has exactly the commands settled, each once.
 -- Rests on History and the laws of members.
-use Rattle.std.specs.Prelude.{◌≡◌, Bool, true, ◌&&◌, ◌||◌, not, List, [], ◌∷◌, ◌++◌, ◌⊎◌}
+use Rattle.std.specs.Prelude.{◌≡◌, Bool, true, ◌&&◌, ◌||◌, not, List, ◌++◌, ◌⊎◌}
 use Rattle.std.proofs.Math.Path.{refl, subst}
 use Rattle.std.proofs.Common.{sym, ◌∙◌, ap, inl, inr, ⊎_elim}
 use Rattle.std.proofs.Math.Bool.{false}
-use Rattle.std.proofs.Math.Option.{Option, none, some}
+use Rattle.std.proofs.Math.Option.{some}
 use Prim.Native.Nat.{ℕ, zero, suc, ◌<◌}
-use Rattle.theory.specs.Sets.{Set, ∅, ◌∪◌, ◌∖◌, members}
-use Rattle.theory.specs.Counting.{both, left, right, true_or, or_true, either, neither, never, not-true, known}
+use Rattle.theory.specs.Sets.{Set, ◌∪◌, ◌∖◌, members}
+use Rattle.theory.specs.Counting.{both, left, right, true_or, or_true, either, never, not-true, known}
 use Rattle.theory.specs.Lists.{contents, distinct}
 use Rattle.theory.specs.ListLaws.{contents-append, contents_left, contents_right, distinct_append}
 use Rattle.theory.specs.Members.{members-has, members_in, members-distinct}
 use Rattle.protocol.specs.System.{System}
-use Rattle.protocol.specs.Recovery.{Log, Tally, nc_set, c_set, proposed}
+use Rattle.protocol.specs.Recovery.{Log, Tally, nc_set, c_set}
 use Rattle.protocol.specs.StandingLaws.{same_some, none-some}
 use Rattle.protocol.specs.RecoveryLaws.{nc_c_disjoint}
 use Rattle.agreement.specs.History.{History, segment, extend, history, history_last}

@@ -1,12 +1,12 @@
 -- What is pending at a site has been received and not been delivered in an earlier round, is free of conflicts, and holds what was delivered fast.
 -- Rests on RecoveryLaws.
-use Rattle.std.specs.Prelude.{◌≡◌, refl, Bool, true, false, ◌&&◌, ◌||◌, not, ◌⊎◌, ℕ, ◌<◌, eqb}
-use Rattle.std.proofs.Common.{sym, ◌∙◌, ap, inl, inr, ⊎_elim, eqb-true}
+use Rattle.std.specs.Prelude.{◌≡◌, refl, Bool, true, false, ◌&&◌, ◌||◌, not, ℕ, eqb}
+use Rattle.std.proofs.Common.{◌∙◌, ap, ⊎_elim, eqb-true}
 use Rattle.theory.specs.Sets.{Set, ∅, only, ◌∪◌, ◌∖◌, pick}
 use Rattle.theory.specs.Counting.{either, never}
 use Rattle.protocol.specs.System.{System, free}
 use Rattle.protocol.specs.RecoveryLaws.{free_of}
-use Rattle.protocol.specs.Site.{Site, undelivered, acknowledges}
+use Rattle.protocol.specs.Site.{Site, acknowledges}
 use Rattle.protocol.specs.World.{World, Step, command, acknowledgment, check, false_acknowledgment, false_check, false_entry, turn, fast_delivery, log_read, round_end, start, demands, change, acknowledging_turn, proposing_turn}
 use Rattle.protocol.specs.Steps.{Met, put_keeps, turn_keeps}
 

@@ -1,11 +1,10 @@
 -- What a correct site has acknowledged binds it: it is pending in that round, free of conflicts, and in the NC of its proposal.
 -- Rests on Pending and RecoveryLaws.
-use Rattle.std.specs.Prelude.{◌≡◌, refl, Bool, true, ◌&&◌, ◌||◌, not, List, [], ◌∷◌, ◌++◌, ◌⊎◌, ℕ, suc, ◌<◌, eqb}
+use Rattle.std.specs.Prelude.{◌≡◌, refl, Bool, true, ◌&&◌, ◌||◌, List, [], ◌∷◌, ◌++◌, ◌⊎◌, ℕ, suc, ◌<◌, eqb}
 use Rattle.std.proofs.Common.{sym, ◌∙◌, ap, subst, inl, inr, ⊎_elim, arith, eqb-true, eq-eqb}
 use Rattle.std.proofs.Math.Bool.{false}
-use Rattle.std.proofs.Math.Option.{Option, none, some}
 use Rattle.theory.specs.Sets.{Set, ∅, pick}
-use Rattle.theory.specs.Counting.{left, right, true_or, or_true, either, never}
+use Rattle.theory.specs.Counting.{either, never}
 use Rattle.protocol.specs.System.{System, correct}
 use Rattle.protocol.specs.Recovery.{Entry, Log}
 use Rattle.protocol.specs.StandingLaws.{Logged, logged_split}
@@ -14,7 +13,7 @@ use Rattle.protocol.specs.WaitingLaws.{not-waiting}
 use Rattle.protocol.specs.Site.{Site, is_acknowledging, is_waiting, undelivered, acknowledges, acknowledge, propose}
 use Rattle.protocol.specs.World.{World, Step, command, acknowledgment, check, false_acknowledgment, false_check, false_entry, turn, fast_delivery, log_read, round_end, start, demands, change, entry_of, acknowledging_turn, proposing_turn}
 use Rattle.protocol.specs.Steps.{Met, not_both, put_keeps, turn_keeps}
-use Rattle.agreement.specs.Pending.{Pending, PendingAt, AllPending}
+use Rattle.agreement.specs.Pending.{PendingAt, AllPending}
 
 -- The commands of some acknowledgments.
 unfoldable pub said : List Set → Set

@@ -1,24 +1,24 @@
 -- What is read off the list of steps, its refusals and the decided rounds is what the sites hold.
 -- Rests on Invariant and HistoryLaws.
-use Rattle.std.specs.Prelude.{◌≡◌, refl, Bool, true, false, ◌&&◌, ◌||◌, not, ◌⊎◌, ℕ, suc, ◌<◌, eqb}
-use Rattle.std.proofs.Common.{sym, ◌∙◌, ap, subst, inl, inr, ⊎_elim, eqb-true}
+use Rattle.std.specs.Prelude.{◌≡◌, refl, Bool, true, false, ◌&&◌, ◌||◌, not, ℕ, suc, ◌<◌, eqb}
+use Rattle.std.proofs.Common.{sym, ◌∙◌, ap, subst, eqb-true}
 use mathlib.Core.List.{List, [], ◌∷◌, ◌++◌, foldl, append_assoc, append-nil}
 use Rattle.std.proofs.Math.Option.{Option, none, some}
 use Rattle.refusals.specs.Refusals.{is_taken, settled}
 use Rattle.refusals.specs.declared.Verdict.{Verdict}
 use Rattle.refusals.specs.declared.Verdict.TheVariants.{Taken, Refused}
 use Rattle.theory.specs.Sets.{Set, ◌∪◌, ◌∖◌, pick, members}
-use Rattle.theory.specs.Counting.{both, left, right, true_or, or_true, either, never, not-true, same_test}
+use Rattle.theory.specs.Counting.{left, never, same_test}
 use Rattle.theory.specs.Lists.{contents}
-use Rattle.theory.specs.ListLaws.{contents-append, contents_left, contents_right}
+use Rattle.theory.specs.ListLaws.{contents-append}
 use Rattle.theory.specs.Members.{members_ext, members-has, members_in}
 use Rattle.theory.specs.TraceLaws.{alike-contents}
 use Rattle.protocol.specs.System.{System}
-use Rattle.protocol.specs.Recovery.{Entry, Log, Tally, decide, nc_set, c_set, proposed}
+use Rattle.protocol.specs.Recovery.{Log, Tally, decide, nc_set, c_set, proposed}
 use Rattle.protocol.specs.StandingLaws.{same_some}
 use Rattle.protocol.specs.RecoveryLaws.{decide_grows}
 use Rattle.protocol.specs.Site.{Site, acknowledge, propose, deliver_fast, finish, due, decision, tally_or, is_some, acknowledges}
-use Rattle.protocol.specs.World.{World, Step, command, acknowledgment, check, false_acknowledgment, false_check, false_entry, turn, fast_delivery, log_read, round_end, start, put, demands, change, judge, step, play, entry_of, acknowledging_turn, proposing_turn}
+use Rattle.protocol.specs.World.{World, Step, command, acknowledgment, check, false_acknowledgment, false_check, false_entry, turn, fast_delivery, log_read, round_end, start, demands, change, judge, step, play, entry_of, acknowledging_turn, proposing_turn}
 use Rattle.protocol.specs.CommonSequence.{Reading, taken, deliver_new, end_round, read_step, delivers}
 use Rattle.protocol.specs.Steps.{Met, met, turn_keeps}
 use Rattle.agreement.specs.History.{History, decision_log}

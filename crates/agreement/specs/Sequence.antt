@@ -1,13 +1,13 @@
 -- A site has delivered a list alike to what its log settles below its round, followed by what it delivered fast.
 -- Rests on History, Pending, Acked and the laws of alike sequences.
-use Rattle.std.specs.Prelude.{◌≡◌, refl, Bool, true, false, ◌&&◌, ◌||◌, not, ◌⊎◌, ℕ, suc, ◌<◌, eqb, ltb}
-use Rattle.std.proofs.Common.{sym, ◌∙◌, ap, subst, inl, inr, ⊎_elim, arith, eqb-true, ltb-true}
-use mathlib.Core.List.{List, [], ◌∷◌, ◌++◌, foldl, append_assoc, append-nil}
+use Rattle.std.specs.Prelude.{◌≡◌, refl, Bool, true, false, ◌&&◌, ◌||◌, not, ℕ, ◌<◌, eqb}
+use Rattle.std.proofs.Common.{sym, ◌∙◌, ap, ⊎_elim, arith, eqb-true, ltb-true}
+use mathlib.Core.List.{List, [], ◌∷◌, ◌++◌, append_assoc, append-nil}
 use Rattle.std.proofs.Math.Option.{Option, none, some}
 use Rattle.theory.specs.Sets.{Set, ∅, only, ◌∪◌, ◌∖◌, pick, members}
-use Rattle.theory.specs.Counting.{both, left, right, either, never, not-true, known, true_or}
+use Rattle.theory.specs.Counting.{both, left, right, either, never, not-true, true_or}
 use Rattle.theory.specs.Members.{members_ext, members-none, members-one}
-use Rattle.theory.specs.Traces.{Alike, same, chain}
+use Rattle.theory.specs.Traces.{Alike, chain}
 use Rattle.theory.specs.TraceLaws.{alike_equal, alike-before, alike-after, merge}
 use Rattle.protocol.specs.System.{System, free}
 use Rattle.protocol.specs.Recovery.{Log, Tally, decide, nc_set, c_set, proposed}
@@ -16,8 +16,8 @@ use Rattle.protocol.specs.RecoveryLaws.{free_pair, nc_free}
 use Rattle.protocol.specs.Site.{Site, due, finish, decision, tally_or, is_some, acknowledges}
 use Rattle.protocol.specs.World.{World, Step, command, acknowledgment, check, false_acknowledgment, false_check, false_entry, turn, fast_delivery, log_read, round_end, start, demands, change, entry_of, acknowledging_turn, proposing_turn}
 use Rattle.protocol.specs.Steps.{Met, put_keeps, turn_keeps}
-use Rattle.agreement.specs.History.{History, segment, extend, history, history-next, history_grows, Settled, SettledAt, AllSettled, decision_log}
-use Rattle.agreement.specs.Pending.{Pending, PendingAt, AllPending}
+use Rattle.agreement.specs.History.{History, segment, extend, history, history-next, history_grows, AllSettled, decision_log}
+use Rattle.agreement.specs.Pending.{PendingAt, AllPending}
 use Rattle.agreement.specs.Promises.{Promises}
 use Rattle.agreement.specs.Heard.{AllHeard}
 use Rattle.agreement.specs.Acked.{Sizes, fast_acked, acked_decided}

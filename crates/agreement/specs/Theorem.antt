@@ -1,8 +1,7 @@
 -- Demand 3 over parameters: any machine with the exchange law, any quorum sizes that satisfy the inequalities, any list of steps.
 -- Rests on Common, Explained and ReadOff.
-use Rattle.std.specs.Prelude.{◌≡◌, Bool, true, ◌&&◌, List, ℕ, ◌<◌}
+use Rattle.std.specs.Prelude.{◌&&◌, List, ℕ}
 use Rattle.std.proofs.Common.{sym, ◌∙◌, subst}
-use Rattle.theory.specs.Sets.{any}
 use Rattle.theory.specs.Counting.{any_ext}
 use Rattle.theory.specs.Lists.{contents}
 use Rattle.theory.specs.Machine.{Exchange}
@@ -10,7 +9,6 @@ use Rattle.protocol.specs.System.{System, correct}
 use Rattle.protocol.specs.World.{World, Step, start, play}
 use Rattle.protocol.specs.CommonSequence.{Explains, CommonSequence, taken, delivers}
 use Rattle.agreement.specs.Acked.{Sizes}
-use Rattle.agreement.specs.Answers.{commands_of}
 use Rattle.agreement.specs.Invariant.{Good, good_play}
 use Rattle.agreement.specs.Common.{list_of, sequence, sequence_once, sequence_exactly, completed}
 use Rattle.agreement.specs.Explained.{explains}

@@ -1,4 +1,6 @@
 // Steps 01 to 06: a command or a message reaches a site, and a faulty site's entry reaches the log.
+#![tactic(auto)]
+
 ghost use Rattle.std.specs.Prelude.{◌≡◌, true, List, ◌+◌, ◌*◌, ◌≤◌, ◌<◌, ℕ, length};
 ghost use Rattle.sets.specs.Sets.{capacity, in_set, within_of};
 ghost use Rattle.table.specs.Table.{max_sites, is_good, faulty_of};

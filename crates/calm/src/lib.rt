@@ -1,4 +1,6 @@
 // Whether commands of a set conflict, by the rows of conflicts.
+#![tactic(auto)]
+
 ghost use Rattle.std.specs.Prelude.{◌≡◌, length};
 ghost use Rattle.sets.specs.Sets.{capacity, in_set};
 ghost use Rattle.calm.specs.Rows.{free_between, free_by};

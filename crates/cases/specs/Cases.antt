@@ -4,9 +4,8 @@ use Rattle.std.specs.Prelude.{◌≡◌, refl, Bool, true, false, List, [], ◌�
 use Rattle.std.proofs.Math.Option.{Option, none, some}
 use Rattle.wire.specs.Wire.{read_le, value}
 use Rattle.refusals.specs.Refusals.{code_of}
-use Rattle.refusals.specs.declared.Verdict.{Verdict}
-use Rattle.refusals.specs.declared.Verdict.TheVariants.{Taken, Refused}
-use Rattle.theory.specs.Sets.{Set, all, any, count, members}
+use Rattle.refusals.specs.declared.Verdict.TheVariants.{Refused}
+use Rattle.theory.specs.Sets.{all, any, count, members}
 use Rattle.theory.specs.Lists.{contents}
 use Rattle.theory.specs.Machine.{Delivery}
 use Rattle.sets.specs.Sets.{has}
@@ -15,12 +14,11 @@ use Rattle.table.specs.declared.Judged.{Judged}
 use Rattle.table.specs.declared.Judged.TheVariants.{Good, Refused as Rejected}
 use Rattle.table.specs.Table.{read_marked, good_table}
 use Rattle.register.specs.declared.Command.{Command}
-use Rattle.register.specs.declared.Command.TheVariants.{Add, Fit, Read, Trim}
-use Rattle.register.specs.declared.Bike.{Bike}
+use Rattle.register.specs.declared.Command.TheVariants.{Add, Read, Trim}
 use Rattle.register.specs.Register.{bike, change, reply, conflict}
 use Rattle.commands.specs.Book.{judge_book, commands_of, read_command, read_kind}
 use Rattle.protocol.specs.System.{System}
-use Rattle.protocol.specs.Recovery.{Entry, Log, Tally, entries, decide, decide_from, nc_set, c_set}
+use Rattle.protocol.specs.Recovery.{Log, Tally, entries, decide, decide_from, nc_set, c_set}
 use Rattle.protocol.specs.World.{World, Step, command, acknowledgment, turn, fast_delivery, log_read, round_end, start, judge, step, play}
 use Rattle.system.specs.Dash.{dash}
 

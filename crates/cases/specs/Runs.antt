@@ -2,10 +2,10 @@
 -- Rests on the definitions alone.
 use Rattle.std.specs.Prelude.{◌≡◌, refl, Bool, true, false, ◌&&◌, ◌||◌, not, List, [], ◌∷◌, ◌++◌, map, ◌⊎◌, ℕ, zero, suc, ◌<◌, eqb, ltb, ℤ, pos, nat_abs}
 use Rattle.std.proofs.Common.{sym, ◌∙◌, ap, subst, inl, inr, ⊎_elim, arith, eqb-true, ltb-true}
-use Rattle.std.proofs.Math.Option.{Option, none, some}
+use Rattle.std.proofs.Math.Option.{some}
 use Rattle.wire.specs.Wire.{read_le, value}
-use Rattle.theory.specs.Sets.{Set, ∅, pick, all, any, count, members}
-use Rattle.theory.specs.Counting.{both, left, right, either, never, last_or_below, all_at}
+use Rattle.theory.specs.Sets.{∅, pick, all, any, count, members}
+use Rattle.theory.specs.Counting.{left, right, either, never, last_or_below, all_at}
 use Rattle.theory.specs.Lists.{contents, distinct, before, sift}
 use Rattle.theory.specs.ListLaws.{before_first, before_second}
 use Rattle.theory.specs.Machine.{Delivery, run, answered, answer_in}
@@ -18,7 +18,7 @@ use Rattle.register.specs.Register.{bike, change}
 use Rattle.commands.specs.Book.{commands_of, read_command, read_kind}
 use Rattle.protocol.specs.System.{System, correct}
 use Rattle.protocol.specs.Recovery.{entries, decide_from}
-use Rattle.protocol.specs.Site.{Site, Ledger}
+use Rattle.protocol.specs.Site.{Site}
 use Rattle.protocol.specs.World.{World, Step, command, acknowledgment, false_acknowledgment, false_entry, turn, fast_delivery, log_read, round_end, start, play, put}
 use Rattle.protocol.specs.CommonSequence.{CommonSequence, Explained, Explains, delivers, taken}
 use Rattle.system.specs.Dash.{dash}

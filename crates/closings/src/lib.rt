@@ -1,4 +1,6 @@
 // Steps 08 and 0A: a correct site delivers a command fast, or ends its round.
+#![tactic(auto)]
+
 ghost use Rattle.std.specs.Prelude.{◌≡◌, true, List, ℕ, length};
 ghost use Rattle.table.specs.Table.{is_good};
 ghost use Rattle.commands.specs.Book.{commands_of, Placed};

@@ -16,7 +16,6 @@ use Rattle.commands.specs.declared.Reading.TheVariants.{Whole, Bad}
 use Rattle.commands.specs.declared.Measured.TheVariants.{Commands, Unreadable}
 use Rattle.commands.specs.Book.{max_commands, size_of, read_command, also, and_then, read_up_to, or_none, commands_of, count_from, measure_book, places_from, places_of, Placed, read_on, readable, noted_places}
 use Rattle.commands.proofs.Walk.{few_commands, measure_end, measure_full, measure_bad, measure_more}
-use Rattle.commands.proofs.Laws.{front}
 use Rattle.commands.proofs.Places.{length_places, index_noted}
 
 -- A walk that has come to a position with k commands passed: how many the book has, and how the places end.

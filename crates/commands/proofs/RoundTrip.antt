@@ -1,26 +1,23 @@
 -- Both round trips: commands in range that are written read back as themselves, and bytes that were read are written back as they were.
 -- Assumes nothing.
 use mathlib.Core.Path.{◌≡◌, refl, sym, ap, subst, ◌∙◌}
-use mathlib.Core.List.{List, [], ◌∷◌, ◌++◌, append-nil}
+use mathlib.Core.List.{List, [], ◌∷◌, ◌++◌}
 use mathlib.Core.Option.{Option, none, some}
-use Prim.Native.Nat.{ℕ, zero, suc, ◌+◌, ◌^◌, ◌≤◌, ◌<◌}
+use Prim.Native.Nat.{ℕ, zero, suc, ◌+◌, ◌≤◌, ◌<◌}
 use native.Mathlib.Omega.{arith}
-use lib.ListN.{length, get_or, drop, length-append}
+use lib.ListN.{length, get_or, drop}
 use lib.Seq.{drop_at, get_or-drop}
 use mir.Syntax.{w16}
-use mir.Val.{Fits, SFits}
 use mir.Facts.{Fits-of_z, to_z-of_z}
-use Rattle.wire.specs.Wire.{value, bytes, read_le}
+use Rattle.wire.specs.Wire.{bytes, read_le}
 use Rattle.wire.proofs.Laws.{value-bytes}
 use Rattle.signed.specs.Signed.{signed16, word16}
-use Rattle.refusals.specs.declared.Verdict.TheVariants.{Taken, Refused}
-use Rattle.refusals.specs.declared.Refusal.TheVariants.{Book}
-use Rattle.register.specs.Register.{max_reading, Valid}
+use Rattle.refusals.specs.declared.Verdict.TheVariants.{Taken}
 use Rattle.register.specs.declared.Command.{Command}
 use Rattle.register.specs.declared.Command.TheVariants.{Add, Fit, Read, Trim}
 use Rattle.commands.specs.declared.Reading.{Reading}
 use Rattle.commands.specs.declared.Reading.TheVariants.{Whole, Bad}
-use Rattle.commands.specs.Book.{max_commands, size_of, read_command, also, and_then, read_up_to, or_none, commands_of, command_of, verdict_of, judge_book, encode_command, encode_book, InRange, AllInRange}
+use Rattle.commands.specs.Book.{max_commands, size_of, read_command, also, and_then, read_up_to, or_none, commands_of, verdict_of, judge_book, encode_command, encode_book, InRange, AllInRange}
 use Rattle.commands.proofs.Laws.{of_kind, add_whole, fit_whole, read_whole, trim_whole, front}
 use Rattle.commands.proofs.Walk.{whole_at}
 use Rattle.commands.proofs.Writing.{length_command}

@@ -1,4 +1,6 @@
 // Bytes to commands and back: the book of document 01, judged, read, found again by place, and written.
+#![tactic(auto)]
+
 ghost use Rattle.std.specs.Prelude.{◌≡◌, ◌+◌, ◌≤◌, ◌<◌, ◌∷◌, [], length};
 ghost use Rattle.std.proofs.lemmas.List.Edits.{sets};
 ghost use Rattle.wire.specs.Wire.{splice};
@@ -10,14 +12,14 @@ use register::{Bike, Command};
 pub const MAX_COMMANDS: usize = 64;
 
 // What stands at the front of some bytes.
-#[derive(Drop)]
+#[derive(Clone, Copy)]
 pub enum Reading {
     Whole(Command),
     Bad,
 }
 
 // How many commands a book has.
-#[derive(Drop)]
+#[derive(Clone, Copy)]
 pub enum Measured {
     Commands(usize),
     Unreadable,

@@ -1,4 +1,6 @@
 // Which commands of a book conflict: for each command the set of those that conflict with it.
+#![tactic(auto)]
+
 ghost use Rattle.std.specs.Prelude.{◌≡◌, ◌*◌, ◌<◌, ◌++◌, length, take, replicate};
 ghost use Rattle.sets.specs.Sets.{capacity};
 ghost use Rattle.register.specs.Register.{bikes, bike_of};

@@ -1,4 +1,6 @@
 // The library for a C host: the calls of include/dash_register.h, each over the proved call of the same name. The contracts are the calls' own.
+#![tactic(auto)]
+
 ghost use Rattle.std.specs.Prelude.{◌≡◌, List};
 ghost use Rattle.refusals.specs.Refusals.{code_of};
 ghost use Rattle.table.specs.declared.SiteTable.{SiteTable};

@@ -1,4 +1,6 @@
 // Plays the run on standard input and writes what it prints to standard output.
+#![tactic(auto)]
+
 ghost use Rattle.std.specs.Prelude.{◌≡◌, length};
 ghost use Rattle.sent.specs.Sent.{sent_size};
 ghost use Rattle.run.specs.Ran.{print_room, sites_bytes, log_bytes};

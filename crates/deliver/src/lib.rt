@@ -1,4 +1,6 @@
 // Commands delivered at one lent site: each is executed on the site's register, and its answer recorded.
+#![tactic(auto)]
+
 ghost use Rattle.std.specs.Prelude.{true, ◌∷◌, [], ◌≡◌, ◌+◌, ◌≤◌, ◌<◌, length};
 ghost use Rattle.sets.specs.Sets.{capacity, within_of};
 ghost use Rattle.register.specs.Register.{Within};

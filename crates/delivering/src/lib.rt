@@ -1,4 +1,6 @@
 // The calls that deliver at a lent site: a command fast, and the end of a round.
+#![tactic(auto)]
+
 ghost use Rattle.std.specs.Prelude.{◌≡◌, true, ◌/◌, ◌≤◌, length};
 ghost use Rattle.table.specs.Table.{is_good};
 ghost use Rattle.commands.specs.Book.{commands_of};

@@ -1,4 +1,6 @@
 // The end of a round: the commands that the log decided are delivered, and the site acknowledges again, in the next round.
+#![tactic(auto)]
+
 ghost use Rattle.std.specs.Prelude.{◌≡◌, ℕ, ◌+◌, ◌≤◌, length};
 ghost use Rattle.wire.specs.Wire.{splice};
 ghost use Rattle.commands.specs.Book.{commands_of, Placed};

@@ -1,4 +1,6 @@
 // The calls that change a lent site. Each judges all that it is lent, and where it refuses it leaves everything as it was.
+#![tactic(auto)]
+
 ghost use Rattle.std.specs.Prelude.{◌≡◌, List, ◌≤◌, ◌<◌, length};
 ghost use Rattle.table.specs.declared.SiteTable.{SiteTable};
 ghost use Rattle.table.specs.Table.{max_sites};

@@ -1,4 +1,6 @@
 // The common log: entries of 18 bytes, what each says, and which a log read would take.
+#![tactic(auto)]
+
 ghost use Rattle.std.specs.Prelude.{true, List, ◌≡◌, ℕ, ◌+◌, ◌*◌, ◌≤◌, ◌<◌, eqb, length, replicate};
 ghost use Rattle.sets.specs.Sets.{least};
 ghost use Rattle.table.specs.Table.{max_sites};
@@ -9,7 +11,7 @@ ghost use Rattle.entries.specs.Entries.{entry_size, entry_of, write_entry, log_t
 use sets::Set;
 
 // One proposal in the log: the site that made it, its round, NC and C.
-#[derive(Drop)]
+#[derive(Clone, Copy)]
 pub struct Entry {
     pub site: usize,
     pub round: usize,

@@ -1,4 +1,6 @@
 // A fast delivery: a pending command that enough sites have acknowledged in the site's round is delivered at once.
+#![tactic(auto)]
+
 ghost use Rattle.std.specs.Prelude.{true, List, ◌≡◌, ◌≤◌, ◌<◌, leb, length};
 ghost use Rattle.theory.specs.Sets.{one, count};
 ghost use Rattle.sets.specs.Sets.{capacity};

@@ -1,4 +1,6 @@
 // The header of a run: the site table and the book's length, and whether a run's size, header and book are taken.
+#![tactic(auto)]
+
 ghost use Rattle.std.specs.Prelude.{◌≡◌, ◌+◌, ◌≤◌, length};
 ghost use Rattle.commands.specs.Book.{max_commands};
 ghost use Rattle.runs.specs.Run.{header_size, book_size};
@@ -16,14 +18,14 @@ const BOOK_SIZE: usize = SiteTable::MARKED_BYTES;
 pub const HEADER: usize = BOOK_SIZE + 2;
 
 // What the header and the book of a run say: the rules, and where the steps start.
-#[derive(Drop)]
+#[derive(Clone, Copy)]
 pub struct Run {
     pub rules: Rules,
     pub steps: usize,
 }
 
 // What judging a run answers: what it says, or why it is refused.
-#[derive(Drop)]
+#[derive(Clone, Copy)]
 pub enum Opened {
     Good(Run),
     Refused(Refusal),

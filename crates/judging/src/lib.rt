@@ -1,4 +1,6 @@
 // What every call judges of what it is lent, in document 01's order: sizes (9), the site table (2), the book (1), the form of a log or message (3), the site (4).
+#![tactic(auto)]
+
 ghost use Rattle.std.specs.Prelude.{◌≡◌, ◌&&◌, ◌≤◌, leb, length};
 ghost use Rattle.commands.specs.Book.{max_commands};
 ghost use Rattle.layout.specs.Layout.{site_size, head_of};
@@ -16,7 +18,7 @@ use table::{Judged, Rules, SiteTable};
 const ANY_POSITION: usize = 65535;
 
 // What a judge answers: the rules that the call goes by, or why it is refused.
-#[derive(Drop)]
+#[derive(Clone, Copy)]
 pub enum Judgement {
     Good(Rules),
     Refused(Refusal),

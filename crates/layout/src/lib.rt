@@ -1,4 +1,6 @@
 // One site's state in lent bytes at fixed places: a header read as a struct and written field by field, and the sets heard, the register and the deliveries in place.
+#![tactic(auto)]
+
 ghost use Rattle.std.specs.Prelude.{◌≡◌, ◌+◌, ◌≤◌, ◌<◌, length};
 ghost use Rattle.wire.specs.Wire.{bytes, splice};
 ghost use Rattle.sets.specs.Sets.{capacity, read_set, write_set};
@@ -10,14 +12,14 @@ ghost use Rattle.layout.specs.Good.{good_phase};
 use sets::Set;
 
 // What a site proposed.
-#[derive(Drop)]
+#[derive(Clone, Copy)]
 pub struct Proposal {
     pub nc: Set,
     pub c: Set,
 }
 
 // A site is either acknowledging, or waiting with the sets it proposed.
-#[derive(Drop)]
+#[derive(Clone, Copy)]
 pub enum Phase {
     Acknowledging,
     Waiting(Proposal),
@@ -49,7 +51,7 @@ impl Phase {
 }
 
 // The header of a site; the sets heard, the register and the deliveries stay in the lent bytes.
-#[derive(Drop)]
+#[derive(Clone, Copy)]
 pub struct Site {
     pub round: u8,
     pub phase: Phase,
@@ -66,7 +68,7 @@ pub struct Site {
 }
 
 // A command delivered, with the answer that it was given.
-#[derive(Drop)]
+#[derive(Clone, Copy)]
 pub struct Delivery {
     pub command: u8,
     pub answer: i32,

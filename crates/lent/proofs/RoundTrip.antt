@@ -30,7 +30,6 @@ use Rattle.register.proofs.Lent.{length_register, register_view}
 use Rattle.protocol.specs.Site as protocol
 use Rattle.protocol.specs.Site.{acknowledging, waiting}
 use Rattle.system.specs.Dash.{dash}
-use Rattle.layout.specs.declared.Site.{Site}
 use Rattle.layout.specs.Layout.{heard_place, register_place, deliveries_place, delivery_size, count_place, span_place, cell, slot, in_table, proposal_of, phase_for, phase_seen, head_of, head_bytes, heard_in, heard_bytes, delivery_of, deliveries_of, delivery_bytes, deliveries_bytes, site_of, head_for, view, encode}
 use Rattle.layout.specs.Good.{Fit}
 use Rattle.layout.proofs.Header.{head_back, length-head}

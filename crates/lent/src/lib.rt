@@ -1,4 +1,6 @@
 // A lent site judged byte by byte, and a fresh site written over a lent buffer.
+#![tactic(auto)]
+
 ghost use Rattle.std.specs.Prelude.{◌≡◌, List, ◌≤◌, ◌<◌, length};
 ghost use Rattle.theory.specs.Sets.{all};
 ghost use Rattle.wire.specs.Wire.{read_le};

@@ -1,4 +1,6 @@
 // The lines of a run's print, written into a lent buffer. Each function answers the position after what it wrote.
+#![tactic(auto)]
+
 ghost use Rattle.std.specs.Prelude.{◌≡◌, ◌+◌, ◌≤◌, length};
 ghost use Rattle.print.specs.Print.{Wrote};
 ghost use Rattle.lines.specs.Lines.{counted, numbered, line_end, run_line, step_line, refused_line, site_head, delivery_text};

@@ -36,7 +36,7 @@ use Rattle.layout.specs.declared.Site.{Site}
 use Rattle.layout.specs.Layout.{site_size, count_place, register_place, delivery_size, head_of, phase_seen, phase_number, slot, delivery_of, deliveries_of, delivery_bytes}
 use Rattle.layout.proofs.Deliveries.{length_deliveries}
 use Rattle.layout.proofs.Encode.{counted}
-use Rattle.judging.specs.Outcomes.{outcome, ◌then◌}
+use Rattle.judging.specs.Outcomes.{outcome}
 use Rattle.judging.specs.declared.Judgement.{Judgement}
 use Rattle.judging.specs.declared.Judgement.TheVariants as judgement
 use Rattle.judging.specs.Judging.{system_of, site_in, rules_of, judged_as, number_in, for_site}

@@ -1,4 +1,6 @@
 // The calls that look at a lent site: its status, a bike of its register, a delivery. Each judges what it is lent and writes what it finds.
+#![tactic(auto)]
+
 ghost use Rattle.std.specs.Prelude.{◌≡◌, ◌≤◌, ◌<◌, length};
 ghost use Rattle.wire.specs.Wire.{splice};
 ghost use Rattle.sets.specs.Sets.{capacity};

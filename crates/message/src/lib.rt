@@ -1,4 +1,6 @@
 // What a site sends to all others, in bytes: its turn writes them, a host carries them unread, and another site takes them.
+#![tactic(auto)]
+
 ghost use Rattle.std.specs.Prelude.{true, ◌≡◌, ◌≤◌, length};
 ghost use Rattle.wire.specs.Wire.{splice};
 ghost use Rattle.message.specs.Messages.{message_size, kind_number, kind_from, is_message, message_of, message_bytes};
@@ -6,14 +8,14 @@ ghost use Rattle.message.specs.Messages.{message_size, kind_number, kind_from, i
 use sets::Set;
 
 // An acknowledgment, or the check message that goes with a proposal.
-#[derive(Drop)]
+#[derive(Clone, Copy)]
 pub enum Kind {
     Acknowledgment,
     Check,
 }
 
 // A message of some round. Who sent it is not said in it: the host vouches for that.
-#[derive(Drop)]
+#[derive(Clone, Copy)]
 pub struct Message {
     pub kind: Kind,
     pub round: u8,

@@ -41,7 +41,6 @@ use Rattle.site.specs.declared.Turn.{Turn}
 use Rattle.site.specs.declared.Turn.TheVariants as turns
 use Rattle.site.specs.Steps.{undelivered_of, TookTurn, Turned, answer_to}
 use Rattle.rounds.specs.Rounds.{kept_entries, Kept}
-use Rattle.entries.specs.declared.Entry.{Entry}
 use Rattle.entries.specs.Entries.{log_to, write_entry, view_entry, in_range_of}
 use Rattle.entries.proofs.Bytes.{Fits}
 use Rattle.sent.specs.Sent as sent

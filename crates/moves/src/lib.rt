@@ -1,4 +1,6 @@
 // Steps 07 and 09: a correct site takes a turn, or reads the next entry of the log.
+#![tactic(auto)]
+
 ghost use Rattle.std.specs.Prelude.{◌≡◌, List, ◌*◌, ◌≤◌, ◌<◌, ℕ, length};
 ghost use Rattle.sets.specs.Sets.{capacity};
 ghost use Rattle.table.specs.Table.{max_sites};

@@ -3,7 +3,7 @@
 use mathlib.Core.Path.{◌≡◌, ap}
 use mathlib.Core.Bool.{true}
 use mathlib.Core.List.{List, [], ◌∷◌, ◌++◌, foldl-append}
-use Prim.Native.Nat.{ℕ, ◌+◌, ◌≤◌, ◌<◌}
+use Prim.Native.Nat.{ℕ, ◌≤◌, ◌<◌}
 use native.Mathlib.Omega.{arith}
 use lib.ListN.{length}
 use Rattle.table.specs.declared.SiteTable.{SiteTable}
@@ -12,7 +12,6 @@ use Rattle.table.proofs.Laws.{good_limits, good_quorums, good_few}
 use Rattle.register.specs.declared.Command.{Command}
 use Rattle.commands.specs.Book.{commands_of}
 use Rattle.commands.proofs.Walk.{few_commands}
-use Rattle.protocol.specs.Recovery.{entries}
 use Rattle.protocol.specs.World.{World, Step, start, step, play}
 use Rattle.agreement.specs.Acked.{Sizes}
 use Rattle.agreement.specs.Capacity.{acks_bound, log_bound}

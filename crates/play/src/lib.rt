@@ -1,4 +1,6 @@
 // The steps of a run, played one after another on lent buffers, with a line for each refused one.
+#![tactic(auto)]
+
 ghost use Rattle.std.specs.Prelude.{◌+◌, ◌≤◌, ◌<◌, length};
 ghost use Rattle.commands.specs.Book.{commands_of};
 ghost use Rattle.conflicts.specs.Conflicts.{rows_in};

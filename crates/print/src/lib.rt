@@ -1,4 +1,6 @@
 // Numbers and texts in ASCII, written into a lent buffer. Each function answers the position after what it wrote.
+#![tactic(auto)]
+
 ghost use Rattle.std.specs.Prelude.{◌≡◌, ◌+◌, ◌≤◌, length};
 ghost use Rattle.print.specs.Print.{digits, width, decimal, signed_decimal, Wrote};
 

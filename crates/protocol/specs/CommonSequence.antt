@@ -1,8 +1,8 @@
 -- Demand 3 as a statement: what document 01's section "The common sequence" says of a list of steps and the world after it.
 -- Assumes nothing.
-use Rattle.std.specs.Prelude.{◌≡◌, true, ◌&&◌, not, ℕ, suc, ◌<◌, eqb}
+use Rattle.std.specs.Prelude.{◌≡◌, true, ◌&&◌, ℕ, suc, ◌<◌, eqb}
 use mathlib.Core.List.{List, [], ◌∷◌, ◌++◌, foldl, map}
-use Rattle.std.proofs.Math.Option.{none, some}
+use Rattle.std.proofs.Math.Option.{some}
 use Rattle.refusals.specs.Refusals.{is_taken}
 use Rattle.theory.specs.Sets.{Set, ◌∖◌, pick, any, members}
 use Rattle.theory.specs.Lists.{contents, distinct, before, sift}

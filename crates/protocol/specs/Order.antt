@@ -1,6 +1,6 @@
 -- The demands of each step stand in document 01's order of refusals.
 -- Assumes nothing.
-use Rattle.std.specs.Prelude.{◌≡◌, refl, Bool, true, false, ◌&&◌, ℕ, leb}
+use Rattle.std.specs.Prelude.{◌≡◌, refl, Bool, true, ◌&&◌, ℕ, leb}
 use Rattle.refusals.specs.Refusals.{rank}
 use Rattle.protocol.specs.System.{System, Demands, granted, ◌else◌⨾◌}
 use Rattle.protocol.specs.World.{World, Step, command, acknowledgment, check, false_acknowledgment, false_check, false_entry, turn, fast_delivery, log_read, round_end, demands}

@@ -1,9 +1,9 @@
 -- What the standing of a source says of the log: a valid source has exactly one entry of the round, and it is free of conflicts.
 -- Rests on Recovery.
-use Rattle.std.specs.Prelude.{◌≡◌, Bool, true, false, ◌&&◌, ◌||◌, not, ◌⊎◌, ℕ, zero, suc, ◌+◌, ◌≤◌, ◌<◌, eqb}
+use Rattle.std.specs.Prelude.{◌≡◌, Bool, true, false, ◌&&◌, ◌⊎◌, ℕ, ◌+◌, ◌≤◌, eqb}
 use Rattle.std.proofs.Math.Path.{refl, ap, subst}
 use Rattle.std.proofs.Common.{sym, ◌∙◌, inl, inr, arith, eqb-true, eq-eqb}
-use mathlib.Core.List.{List, [], ◌∷◌, ◌++◌, foldl, append_assoc, append-nil}
+use mathlib.Core.List.{[], ◌∷◌, ◌++◌, foldl, append_assoc, append-nil}
 use Rattle.std.proofs.Math.Option.{Option, none, some}
 use Rattle.theory.specs.Sets.{Set, pick, one}
 use Rattle.theory.specs.Counting.{both, left, right}
@@ -23,6 +23,7 @@ Logged e [] = ⊥
 Logged e (x ∷ l) = (e ≡ x) ⊎ Logged e l
 
 pub logged_more : (e : Entry) (l more : Log) → Logged e l → Logged e (l ++ more)
+logged_more e [] more x' = elim x' [ ]
 logged_more e (x ∷ l) more (inl h) = inl h
 logged_more e (x ∷ l) more (inr h) = inr (logged_more e l more h)
 
@@ -32,6 +33,7 @@ logged_last e (x ∷ l) = inr (logged_last e l)
 
 -- An entry of a longer log is an old one or the new one.
 pub logged_split : (e x : Entry) (l : Log) → Logged e (l ++ (x ∷ [])) → Logged e l ⊎ (e ≡ x)
+logged_split e x [] (inr h) = elim h [ ]
 logged_split e x [] (inl h) = inr h
 logged_split e x (y ∷ l) (inl h) = inl (inl h)
 logged_split e x (y ∷ l) (inr h) = go (logged_split e x l h)

@@ -1,13 +1,13 @@
 -- How a fact about the world is carried through every list of steps.
 -- Rests on the protocol's definitions.
 use Rattle.std.specs.Prelude.{◌≡◌, refl, Bool, true, false, not, List, [], ◌∷◌, ℕ, eqb}
-use Rattle.std.proofs.Common.{sym, ◌∙◌, ap, subst, arith, eqb-true}
+use Rattle.std.proofs.Common.{sym, subst, arith, eqb-true}
 use Rattle.refusals.specs.Refusals.{settled}
 use Rattle.refusals.specs.declared.Refusal.{Refusal}
 use Rattle.refusals.specs.declared.Verdict.{Verdict}
 use Rattle.refusals.specs.declared.Verdict.TheVariants.{Taken, Refused}
 use Rattle.theory.specs.Sets.{pick}
-use Rattle.protocol.specs.System.{System, Demands, granted, ◌else◌⨾◌, verdict, correct}
+use Rattle.protocol.specs.System.{System, Demands, granted, ◌else◌⨾◌, verdict}
 use Rattle.protocol.specs.Site.{Site}
 use Rattle.protocol.specs.World.{World, Step, demands, change, judge, step, play}
 

@@ -1,8 +1,8 @@
 -- A waiting site's pending set stays as it was until the round ends.
 -- Rests on Steps.
-use Rattle.std.specs.Prelude.{◌≡◌, refl, Bool, true, false, ℕ, suc, eqb}
+use Rattle.std.specs.Prelude.{◌≡◌, refl, Bool, true, false, ℕ, eqb}
 use Rattle.std.proofs.Common.{sym, ◌∙◌, ap, arith, eqb-true}
-use Rattle.theory.specs.Sets.{Set, pick}
+use Rattle.theory.specs.Sets.{pick}
 use Rattle.theory.specs.Counting.{never}
 use Rattle.protocol.specs.System.{System}
 use Rattle.protocol.specs.Site.{Site, Phase, acknowledging, waiting, is_acknowledging, is_waiting, acknowledge, propose, finish, decision, tally_or, acknowledges}

@@ -1,6 +1,6 @@
 -- The world of all sites: the ten steps 01 to 0A of document 01, their refusals, and play over a list of steps.
 -- Assumes nothing.
-use Rattle.std.specs.Prelude.{◌&&◌, not, ℕ, suc, pred, eqb, leb, ltb}
+use Rattle.std.specs.Prelude.{◌&&◌, ℕ, suc, pred, eqb, leb, ltb}
 use mathlib.Core.List.{List, [], ◌∷◌, ◌++◌, foldl}
 use Rattle.std.proofs.Math.Option.{Option, none, some}
 use Rattle.refusals.specs.Refusals.{settled}

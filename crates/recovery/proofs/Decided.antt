@@ -17,7 +17,7 @@ use Rattle.table.specs.Table.{is_good, majority_of}
 use Rattle.table.proofs.Laws.{good_limits}
 use Rattle.commands.specs.Book.{commands_of}
 use Rattle.conflicts.specs.Conflicts.{conflict_rows}
-use Rattle.protocol.specs.Recovery.{valid, is_valid, nc_of, c_of, Tally, Log, decide, nc_set, proposed}
+use Rattle.protocol.specs.Recovery.{is_valid, nc_of, c_of, Tally, Log, decide, nc_set, proposed}
 use Rattle.system.specs.Dash.{dash}
 use Rattle.calm.specs.Rows.{rows_system}
 use Rattle.calm.proofs.Same.{decide-rows}

@@ -1,4 +1,6 @@
 // The decision of a round by the log: the recovery consensus of 004 (algorithm C_absign).
+#![tactic(auto)]
+
 ghost use Rattle.std.specs.Prelude.{true, ◌≡◌, ℕ, ◌+◌, ◌*◌, ◌≤◌, ◌<◌, length};
 ghost use Rattle.sets.specs.Sets.{capacity};
 ghost use Rattle.table.specs.Table.{is_good};
@@ -11,14 +13,14 @@ use sets::Set;
 use table::SiteTable;
 
 // The sets that a decided round delivers: NCSet, then CSet.
-#[derive(Drop)]
+#[derive(Clone, Copy)]
 pub struct Sets {
     pub nc: Set,
     pub c: Set,
 }
 
 // What the log says of a round.
-#[derive(Drop)]
+#[derive(Clone, Copy)]
 pub enum Decision {
     Undecided,
     Decided(Sets),
@@ -26,7 +28,7 @@ pub enum Decision {
 
 // The commands in at least one, two, .. six of the NC sets looked at, and all commands of the sets looked at.
 // Six is a majority of the greatest table.
-#[derive(Drop)]
+#[derive(Clone, Copy)]
 pub struct Levels {
     pub one: Set,
     pub two: Set,

@@ -1,6 +1,6 @@
 -- Laws of the numbers of refusals: none is 0, and none has more than two digits.
 -- Assumes nothing.
-use Rattle.std.specs.Prelude.{◌≡◌, ℕ, ◌≤◌, ◌<◌}
+use Rattle.std.specs.Prelude.{◌≡◌, ◌≤◌, ◌<◌}
 use Rattle.std.proofs.Common.{arith}
 use Rattle.refusals.specs.declared.Refusal.{Refusal}
 use Rattle.refusals.specs.declared.Refusal.TheVariants.{Book, Table, Form, Range, Role, Disabled, ThirdEntry, LastRound, Size, Full}

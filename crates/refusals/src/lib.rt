@@ -1,9 +1,11 @@
 // Refusals: why an input or a step was turned down, and the number that document 01 gives to each cause.
+#![tactic(auto)]
+
 ghost use Rattle.std.specs.Prelude.{◌≡◌};
 ghost use Rattle.refusals.specs.Refusals.{number_of, code_of};
 
 // One cause of document 01's table "When a sheet or step is turned down".
-#[derive(Drop)]
+#[derive(Clone, Copy)]
 pub enum Refusal {
     // an unknown kind, a cut operand, a bike or start out of range, a 65th command
     Book,
@@ -28,7 +30,7 @@ pub enum Refusal {
 }
 
 // What a judge says.
-#[derive(Drop)]
+#[derive(Clone, Copy)]
 pub enum Verdict {
     Taken,
     Refused(Refusal),

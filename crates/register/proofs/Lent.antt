@@ -6,7 +6,6 @@ use mathlib.Core.Path.{◌≡◌, refl, sym, ap, subst, ◌∙◌}
 use mathlib.Core.List.{List, ◌++◌, append-nil}
 use Prim.Native.Nat.{ℕ, zero, suc, ◌+◌, ◌*◌, ◌^◌, ◌≤◌, ◌<◌}
 use native.Mathlib.Decide.{dec_lt}
-use native.Mathlib.Numerals.{add-one}
 use native.Mathlib.Omega.{arith}
 use borrow.Author.Tests.{le-leb, lt-leb, ltb-true, ltb-false, lt-ltb, le-ltb, eqb-true, eqb-false, eq-eqb, ne_eqb}
 use lib.Dec.{leb, ltb, eqb, lit<, lit≤}
@@ -21,7 +20,7 @@ use Rattle.register.specs.declared.Bike.{Bike}
 use Rattle.register.specs.declared.Command.{Command}
 use Rattle.register.specs.declared.Command.TheVariants.{Add, Fit, Read, Trim}
 use Rattle.register.specs.Register.{bikes, max_reading, bike, Register, bike_of, change, reply, execute, initial, Within, is_within, Valid}
-use Rattle.register.proofs.Laws.{initial-within, test_within}
+use Rattle.register.proofs.Laws.{test_within}
 use Rattle.register.specs.Lent.{bike_size, register_size, bike_in, bike_bytes, register_of, bikes_bytes, register_bytes, dash_of, Sized, Executed}
 
 pub length-bike : (e : Bike) → length (bike_bytes e) ≡ bike_size

@@ -6,7 +6,7 @@ use Rattle.wire.specs.Wire.{bytes, read_le, splice}
 use Rattle.register.specs.declared.Bike.{Bike}
 use Rattle.register.specs.declared.Command.{Command}
 use Rattle.register.specs.declared.Command.TheVariants.{Add, Fit, Read, Trim}
-use Rattle.register.specs.Register.{bikes, bike, Register, bike_of, execute, answer, initial}
+use Rattle.register.specs.Register.{bikes, bike, Register, bike_of, execute, answer}
 
 -- The bytes of one bike.
 abbrev pub bike_size : ℕ

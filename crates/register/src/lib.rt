@@ -1,11 +1,13 @@
 // The dash register: the four kinds of command, what each does to a bike's reading and dash, and what it answers.
+#![tactic(auto)]
+
 ghost use Rattle.std.specs.Prelude.{◌≡◌, ◌+◌, ◌*◌, ◌≤◌, ◌<◌, min, pos, ◌+ℤ◌, ◌-ℤ◌, length};
 ghost use Rattle.wire.specs.Wire.{splice};
 ghost use Rattle.register.specs.Register.{bikes, max_reading, bike_of, held, change, reply, Within, is_within, Valid};
 ghost use Rattle.register.specs.Lent.{bike_size, register_size, bike_bytes, register_of, Executed};
 
 // One command (document 01: one line of a sheet). The operands are those of its row in the table of kinds.
-#[derive(Drop)]
+#[derive(Clone, Copy)]
 pub enum Command {
     // 01 ADD: the reading rises by km, at most to 999,999
     Add { bike: u8, km: u16 },
@@ -18,7 +20,7 @@ pub enum Command {
 }
 
 // What the register holds of one bike.
-#[derive(Drop)]
+#[derive(Clone, Copy)]
 pub struct Bike {
     pub reading: u32,
     pub dash: u32,

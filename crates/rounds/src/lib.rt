@@ -1,4 +1,6 @@
 // What the log says of each round, kept in lent words as the log grows: a decision is looked up, not computed again.
+#![tactic(auto)]
+
 ghost use Rattle.std.specs.Prelude.{true, false, not, List, ◌≡◌, ℕ, ◌+◌, ◌*◌, ◌≤◌, ◌<◌, eqb, ltb, length};
 ghost use Rattle.theory.specs.Sets.{pick};
 ghost use Rattle.sets.specs.Sets.{capacity, in_set};
@@ -27,7 +29,7 @@ const ENTRIES: usize = ROUNDS * ROUND_WORDS;
 pub const WORDS: usize = ENTRIES + 1;
 
 // What is kept of a round. The place of an entry is how many entries the log has with it; 0 where there is none.
-#[derive(Drop)]
+#[derive(Clone, Copy)]
 pub struct Round {
     // The sites with an entry of the round, and those with two.
     pub once: Set,

@@ -24,7 +24,7 @@ use Rattle.commands.proofs.Walk.{few_commands}
 use Rattle.conflicts.specs.Conflicts.{rows_in}
 use Rattle.conflicts.proofs.Laws.{none_noted}
 use Rattle.protocol.specs.System.{verdict}
-use Rattle.protocol.specs.World.{World, start}
+use Rattle.protocol.specs.World.{World}
 use Rattle.system.specs.Dash.{dash}
 use Rattle.print.specs.Print.{Wrote}
 use Rattle.print.proofs.Laws.{both}
@@ -45,7 +45,6 @@ use Rattle.play.specs.Played.{HoldsLast, PlayedAll}
 use Rattle.report.specs.Report.{AllPrintable, lines_below}
 use Rattle.report.proofs.Laws.{good_all_printable, lines_seen}
 use Rattle.sent.specs.Sent.{sent_size}
-use Rattle.world.specs.Parts.{lent}
 use Rattle.run.specs.Ran.{run_line_room, print_room, sites_bytes, log_bytes, Ran, ran, run_of, Working, working, is_roomy}
 use Rattle.run.specs.Left.{PastLeft, Worked, is_played, Left}
 use Rattle.run.specs.Prepared.{Roomy}

@@ -1,4 +1,6 @@
 // A run in bytes, played on lent working memory, and what it prints into a lent buffer.
+#![tactic(auto)]
+
 ghost use Rattle.std.specs.Prelude.{◌≡◌, length};
 ghost use Rattle.commands.specs.Book.{commands_of};
 ghost use Rattle.conflicts.specs.Conflicts.{Noted};

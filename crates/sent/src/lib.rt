@@ -1,4 +1,6 @@
 // What correct sites have sent, in one lent buffer: for each site and round its acknowledgments, and its check message.
+#![tactic(auto)]
+
 ghost use Rattle.std.specs.Prelude.{◌≡◌, [], ◌≤◌, ◌<◌, length};
 ghost use Rattle.std.proofs.Math.Option.{none};
 ghost use Rattle.sets.specs.Sets.{in_set};
@@ -10,7 +12,7 @@ use sets::Set;
 use table::SiteTable;
 
 // A message of a correct site: the set that it sent, or that it never sent it.
-#[derive(Drop)]
+#[derive(Clone, Copy)]
 pub enum SentMessage {
     Sent(Set),
     Never,

@@ -1,10 +1,12 @@
 // Sets of command numbers: command m is in a set where bit m of its word is set.
+#![tactic(auto)]
+
 ghost use Rattle.std.specs.Prelude.{false, ◌≡◌, ◌+◌, ◌≤◌, ◌<◌, length};
 ghost use Rattle.sets.specs.Sets.{capacity, in_set, empty_of, with_of, union_of, without_of, common_of};
 ghost use Rattle.sets.specs.Sets.{beyond_of, is_empty_of, within_of, size_of, first_of, rest_of, set_bytes, read_set, write_set, load_set, store_set};
 
 // A set of command numbers below 64.
-#[derive(Drop)]
+#[derive(Clone, Copy)]
 pub struct Set {
     pub bits: u64,
 }

@@ -1,4 +1,6 @@
 // Two's complement: 2 and 4 bytes seen as signed numbers, and signed numbers as the bytes that hold them.
+#![tactic(auto)]
+
 ghost use Rattle.std.specs.Prelude.{◌≡◌, pos, nat_abs};
 ghost use Rattle.std.specs.Int.Signed.{lt_z};
 ghost use Rattle.signed.specs.Signed.{signed16, signed32, word16, word32};

@@ -1,4 +1,6 @@
 // The steps of one lent site that deliver nothing: a set received, an acknowledgment heard, a turn taken, a log entry read.
+#![tactic(auto)]
+
 ghost use Rattle.std.specs.Prelude.{◌≡◌, true, ◌≤◌, ◌<◌, length};
 ghost use Rattle.sets.specs.Sets.{capacity};
 ghost use Rattle.table.specs.Table.{max_sites};
@@ -10,7 +12,7 @@ use refusals::{Refusal, Verdict};
 use sets::Set;
 
 // What a turn sends to every site: an acknowledgment, or a check message with the two sets of a log entry.
-#[derive(Drop)]
+#[derive(Clone, Copy)]
 pub enum Turn {
     Acknowledged(Set),
     Proposed { check: Set, entry: Proposal },

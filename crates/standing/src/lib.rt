@@ -1,4 +1,6 @@
 // The standing of the sources in a round, entry by entry, up to the entry that decides the round.
+#![tactic(auto)]
+
 ghost use Rattle.std.specs.Prelude.{true, List, ◌≡◌, ℕ, ◌+◌, ◌*◌, ◌≤◌, ◌<◌, length};
 ghost use Rattle.sets.specs.declared.Set.{Set};
 ghost use Rattle.sets.specs.Sets.{capacity, in_set};
@@ -12,7 +14,7 @@ use table::SiteTable;
 
 // Which sites have an entry of the round and which are valid; whether that decides the round; and after how many
 // entries of the log this is so.
-#[derive(Drop)]
+#[derive(Clone, Copy)]
 pub struct Standing {
     pub seen: Set,
     pub valid: Set,

@@ -1,4 +1,6 @@
 // The steps of a run: bytes to steps and back.
+#![tactic(auto)]
+
 ghost use Rattle.std.specs.Prelude.{◌≡◌, ◌+◌, ◌≤◌, ◌++◌, length, drop};
 ghost use Rattle.wire.specs.Wire.{splice};
 ghost use Rattle.sets.specs.Sets.{set_bytes, read_set};
@@ -7,7 +9,7 @@ ghost use Rattle.steps.specs.Steps.{size_of, byte, uncut, read_as, read_step, se
 use sets::Set;
 
 // A step: `site` is the one that receives or acts, `from` the one that a message or log entry comes from.
-#[derive(Drop)]
+#[derive(Clone, Copy)]
 pub enum Step {
     // 01: a command reaches a site
     Command {
@@ -68,7 +70,7 @@ pub enum Step {
 }
 
 // What stands at a position of some bytes. Unreadable is refusal 3.
-#[derive(Drop)]
+#[derive(Clone, Copy)]
 pub enum Reading {
     Whole(Step),
     Unreadable,

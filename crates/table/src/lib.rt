@@ -1,10 +1,12 @@
 // The site table: how many sites there are, how many of them may be faulty, which are, and the thresholds that follow.
+#![tactic(auto)]
+
 ghost use Rattle.std.specs.Prelude.{true, ◌≡◌, ◌≤◌, length};
 ghost use Rattle.table.specs.Table.{good_table, is_good, table_size, table_with, table_as, read_table, read_marked};
 ghost use Rattle.table.specs.Table.{n_ack_of, n_chk_of, majority_of, faulty_of, faulty_count_of};
 
 // A site table. Bit i of the mask marks site i as faulty.
-#[derive(Drop)]
+#[derive(Clone, Copy)]
 pub struct SiteTable {
     pub sites: usize,
     pub faults: usize,
@@ -12,14 +14,14 @@ pub struct SiteTable {
 }
 
 // What is fixed for a whole run or call: the site table, and how many commands the book has.
-#[derive(Drop)]
+#[derive(Clone, Copy)]
 pub struct Rules {
     pub table: SiteTable,
     pub commands: usize,
 }
 
 // What a site table is judged to be.
-#[derive(Drop)]
+#[derive(Clone, Copy)]
 pub enum Judged {
     Good(SiteTable),
     Refused(refusals::Refusal),

@@ -1,6 +1,6 @@
 -- What a run prints are the deliveries and answers of the sites that demand 3 speaks of.
 -- Rests on Demand3 and the definition of the print.
-use Rattle.std.specs.Prelude.{◌≡◌, refl, Bool, true, false, List, [], ◌∷◌, ◌++◌, ℕ, length}
+use Rattle.std.specs.Prelude.{◌≡◌, refl, true, false, List, [], ◌∷◌, ◌++◌, ℕ, length}
 use Rattle.std.proofs.Common.{◌∙◌, ap}
 use Rattle.refusals.specs.Refusals.{is_taken}
 use Rattle.refusals.specs.declared.Verdict.{Verdict}

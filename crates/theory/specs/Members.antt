@@ -1,7 +1,7 @@
 -- Laws of the members of a set below a bound, in rising order.
 -- Assumes nothing.
-use Rattle.std.specs.Prelude.{◌≡◌, refl, Bool, true, false, ◌&&◌, ◌||◌, not, List, [], ◌∷◌, ◌++◌, ◌⊎◌, ℕ, zero, suc, ◌+◌, ◌<◌, eqb, length}
-use Rattle.std.proofs.Common.{sym, ◌∙◌, ap, append-nil, inl, inr, ⊎_elim, arith, length-append, eqb-true, eq-eqb}
+use Rattle.std.specs.Prelude.{◌≡◌, refl, Bool, true, false, ◌||◌, [], ◌∷◌, ◌++◌, ◌⊎◌, ℕ, zero, suc, ◌+◌, ◌<◌, eqb, length}
+use Rattle.std.proofs.Common.{sym, ◌∙◌, ap, inl, inr, ⊎_elim, arith, length-append, eqb-true, eq-eqb}
 use Rattle.theory.specs.Sets.{Set, pick, one, count, members}
 use Rattle.theory.specs.Counting.{either, last_or_below, never, true_or}
 use Rattle.theory.specs.Lists.{contents, distinct}

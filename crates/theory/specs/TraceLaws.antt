@@ -1,15 +1,13 @@
 -- Laws of alike sequences: congruence, contents, order of conflicting commands, and the merge of two parts of a set without conflict.
 -- Assumes nothing.
-use Rattle.std.specs.Prelude.{◌≡◌, Bool, true, false, ◌&&◌, ◌||◌, not, ◌⊎◌, ◌≢◌, eqb, length}
+use Rattle.std.specs.Prelude.{◌≡◌, Bool, true, false, ◌&&◌, ◌||◌, not, ◌≢◌, eqb, length}
 use Rattle.std.proofs.Math.Path.{refl}
-use Rattle.std.proofs.Common.{sym, ◌∙◌, ap, subst, inl, inr, ⊎_elim, arith, eqb-true, eq-eqb}
+use Rattle.std.proofs.Common.{sym, ◌∙◌, ap, subst, arith, eqb-true, eq-eqb}
 use mathlib.Core.List.{List, [], ◌∷◌, ◌++◌, append-nil, append_assoc}
-use Rattle.std.proofs.Math.Option.{Option, none, some}
-use Prim.Native.Nat.{ℕ, zero, suc, ◌+◌, ◌<◌}
+use Prim.Native.Nat.{ℕ, zero, suc, ◌<◌}
 use Rattle.theory.specs.Sets.{Set, ◌∖◌, pick, members}
-use Rattle.theory.specs.Counting.{both, left, right, true_or, or_true, either, not-true, never, same_test}
+use Rattle.theory.specs.Counting.{left, true_or, or_true, never}
 use Rattle.theory.specs.Lists.{contents, distinct, before, sift}
-use Rattle.theory.specs.ListLaws.{contents-append}
 use Rattle.theory.specs.Members.{members_in}
 use Rattle.theory.specs.Machine.{Machine, Exchange}
 use Rattle.theory.specs.Traces.{Alike, same, swap, keep, chain}

@@ -1,8 +1,8 @@
 -- Command sequences that differ by exchanges of neighbours without conflict: they give the same state and the same answers.
 -- Assumes nothing.
-use Rattle.std.specs.Prelude.{◌≡◌, refl, Bool, true, false, List, [], ◌∷◌, ◌≢◌, ℕ, eqb}
+use Rattle.std.specs.Prelude.{◌≡◌, refl, Bool, true, false, List, ◌∷◌, ◌≢◌, ℕ, eqb}
 use Rattle.std.proofs.Common.{sym, ◌∙◌, ap, eqb-true}
-use Rattle.std.proofs.Math.Option.{Option, none, some}
+use Rattle.std.proofs.Math.Option.{Option, some}
 use Rattle.theory.specs.Sets.{pick}
 use Rattle.theory.specs.Machine.{Machine, Exchange, run, answer_in}
 

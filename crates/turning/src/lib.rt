@@ -1,4 +1,6 @@
 // The call of a turn: the site acknowledges what it received, or proposes where that has a conflict, and what it sends is written.
+#![tactic(auto)]
+
 ghost use Rattle.std.specs.Prelude.{◌≡◌, ◌≤◌, ◌<◌, length};
 ghost use Rattle.sets.specs.Sets.{capacity};
 ghost use Rattle.entries.specs.Entries.{entry_size};

@@ -1,4 +1,6 @@
 // Numbers of 1, 2, 4 and 8 bytes in lent bytes, least significant byte first.
+#![tactic(auto)]
+
 ghost use Rattle.std.specs.Prelude.{◌≡◌, ◌+◌, ◌≤◌, ◌<◌, length, replicate};
 ghost use Rattle.wire.specs.Wire.{bytes, read_le, splice};
 

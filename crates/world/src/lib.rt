@@ -1,4 +1,6 @@
 // All sites, the log and what was sent, in three lent buffers: the start of a run.
+#![tactic(auto)]
+
 ghost use Rattle.std.specs.Prelude.{◌≡◌, ◌*◌, length};
 ghost use Rattle.layout.specs.Layout.{site_size};
 ghost use Rattle.sent.specs.Sent.{sent_size};

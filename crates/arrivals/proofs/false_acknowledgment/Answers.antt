@@ -1,0 +1,30 @@
+-- `arrivals::false_acknowledgment`: one law for each answer.
+-- Assumes nothing.
+use native.Mathlib.Omega.{arith}
+use Rattle.sets.specs.Sets.{within_of}
+use Rattle.table.specs.Table.{faulty_of}
+use Rattle.table.proofs.Laws.{good_limits}
+use Rattle.arrivals.proofs.Arriving.{false_acknowledgment_refused, false_acknowledged}
+use Rattle.arrivals.proofs.Judging.{passed}
+use Rattle.arrivals.proofs.false_acknowledgment.Goals as goal
+
+pub returns-in-Refused : goal.returns-in-Refused
+returns-in-Refused c =
+    let a = c.args in
+    λ sent. false_acknowledgment_refused a.rules.table a.rules.commands sent a.sites.now (λ k. (c.type_inv.sites k).fits) a.site a.from a.round a.set c.judge_false-verdict.ensures _ c.in-Refused.is
+
+pub hear-requires : goal.hear-requires
+hear-requires c =
+    let o = c in
+    let a = o.args in
+    let p = passed a.rules.table a.site a.from a.round (within_of a.set a.rules.commands) (faulty_of a.rules.table a.from) c.judge_false-verdict.ensures c.in_default.is in
+    let q = p.receiver in
+    let l = good_limits a.rules.table o.requires.1 in
+    let s = p.sender in
+    (omega (arith, o.requires.0), omega arith, p.first, p.last)
+
+pub returns : goal.returns
+returns c =
+    let a = c.args in
+    λ sent. false_acknowledged a.rules.table a.rules.commands sent a.sites.now (λ k. (c.slice_known-1.given k).fits) a.site a.from a.round a.set c.judge_false-verdict.ensures c.in_default.is
+    (passed a.rules.table a.site a.from a.round (within_of a.set a.rules.commands) (faulty_of a.rules.table a.from) c.judge_false-verdict.ensures c.in_default.is) c.hear.ensures

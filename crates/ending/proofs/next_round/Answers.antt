@@ -1,0 +1,12 @@
+-- `ending::next_round`: what stands there after each field is written is that of the definition.
+-- Rests on Next.
+use Rattle.ending.proofs.Next.{next_is}
+use Rattle.ending.proofs.next_round.Goals as goal
+
+pub returns : goal.returns
+returns c =
+    let s = c in
+    let a = s.args in
+    next_is a.site.now a.header a.sets a.deliveries s.requires.2 c.set_round.ensures c.set_count.ensures
+    c.union.ensures c.union-2.ensures c.set_delivered.ensures
+    c.set_pending.ensures c.set_fast.ensures c.set_phase.ensures

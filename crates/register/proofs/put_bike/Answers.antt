@@ -1,0 +1,10 @@
+-- `register::put_bike`: two writes side by side are one.
+-- Assumes nothing.
+use native.Mathlib.Omega.{arith}
+use Rattle.register.proofs.Lent.{bike-written}
+use Rattle.register.proofs.put_bike.Goals as goal
+
+pub returns : goal.returns
+returns c =
+    let a = c.args in
+    bike-written a.register.now a.place a.bike (omega arith) c.put4.ensures c.put4-2.ensures

@@ -1,0 +1,100 @@
+-- `run::run`: a buffer too short, a run refused, a run played.
+-- Assumes nothing.
+use mathlib.Core.Path.{sym, ap, ◌∙◌}
+use native.Mathlib.Omega.{arith}
+use Rattle.refusals.specs.Numbers.{number_short}
+use Rattle.table.specs.Table.{is_good}
+use Rattle.conflicts.proofs.Laws.{all_noted}
+use Rattle.lines.proofs.Laws.{refused_short}
+use Rattle.header.proofs.Laws.{sound, book_part, step_part, judged_taken, judged_table, judged_end, judged_refused}
+use Rattle.run.specs.Ran.{working}
+use Rattle.run.proofs.Laws.{steps_short, print_refused, print_taken, placed_part, roomy_told, no_room, with-room, refused_left, played_left}
+use Rattle.run.proofs.run.Goals as goal
+
+pub returns-then-not-has_room : goal.returns-then-not-has_room
+returns-then-not-has_room c =
+    let a = c.args in
+    no_room a.input.now (working a.sites.now a.log.now a.sent.now) a.out.now (sym c.has_room.ensures ∙ c.if-not-has_room.true)
+
+pub conflict_rows-requires : goal.conflict_rows-requires
+conflict_rows-requires c =
+    let r = c.args.input.now in
+    let q = sym c.in-Good.is ∙ c.judge_run-opened.ensures.0 in
+    placed_part r (book_part r (judged_end r q)) q c.judge_run-opened.ensures.1
+
+pub print_in-requires : goal.print_in-requires
+print_in-requires c =
+    let a = c.args in
+    let r = a.input.now in
+    let q = sym c.in-Good.is ∙ c.judge_run-opened.ensures.0 in
+    let s = sound r (judged_taken r q).0 in
+    let room = roomy_told (working a.sites.now a.log.now a.sent.now) a.out.now (sym c.has_room.ensures ∙ c.if-not-has_room.false) in
+    let e = judged_end r q in
+    let p = placed_part r (book_part r e) q c.judge_run-opened.ensures.1 in
+    (record { good = ap is_good (judged_table r q) ∙ s.table; short = steps_short r s e; room = room.1 }, room.0, all_noted _ _ p.0 p.2 c.conflict_rows.ensures, p.1)
+
+pub put_refused_line-requires : goal.put_refused_line-requires
+put_refused_line-requires c =
+    let a = c.args in
+    let room = roomy_told (working a.sites.now a.log.now a.sent.now) a.out.now (sym c.has_room.ensures ∙ c.if-not-has_room.false) in
+    omega (arith, room.1, refused_short c.number-cause.result (omega (arith, number_short c.in-Refused.refusal, c.number-cause.ensures)))
+
+pub returns-in-Good : goal.returns-in-Good
+returns-in-Good c =
+    let a = c.args in
+    let r = a.input.now in
+    let w = (working a.sites.now a.log.now a.sent.now) in
+    let o = a.out.now in
+    let p = c.print_in in
+    let q = sym c.in-Good.is ∙ c.judge_run-opened.ensures.0 in
+    let e = judged_end r q in
+    let t = judged_table r q in
+    let taken = (judged_taken r q).0 in
+    let room = sym c.has_room.ensures ∙ c.if-not-has_room.false in (
+      with-room r w o room (print_taken r taken t (book_part r e) (step_part r e) p.ensures.0),
+      played_left r w o room taken t (book_part r e) (step_part r e) p.ensures.1,
+    )
+
+pub returns-in-Refused : goal.returns-in-Refused
+returns-in-Refused c =
+    let a = c.args in
+    let r = a.input.now in
+    let w = (working a.sites.now a.log.now a.sent.now) in
+    let o = a.out.now in
+    let refused = judged_refused r (sym c.in-Refused.is ∙ c.judge_run-opened.ensures.0) in (
+      with-room r w o (sym c.has_room.ensures ∙ c.if-not-has_room.false) (print_refused r c.in-Refused.refusal refused c.number-cause.ensures c.put_refused_line.ensures),
+      refused_left r w o c.in-Refused.refusal refused,
+    )
+
+pub slice_bounds-book-count : goal.slice_bounds-book-count
+slice_bounds-book-count c =
+    let r = c.args.input.now in
+    let q = sym c.in-Good.is ∙ c.judge_run-opened.ensures.0 in
+    omega (arith, judged_end r q)
+
+pub slice_bounds-book-start : goal.slice_bounds-book-start
+slice_bounds-book-start c =
+    let r = c.args.input.now in
+    let q = sym c.in-Good.is ∙ c.judge_run-opened.ensures.0 in
+    omega (arith, judged_end r q)
+
+pub slice_bounds-book-end : goal.slice_bounds-book-end
+slice_bounds-book-end c =
+    let r = c.args.input.now in
+    let q = sym c.in-Good.is ∙ c.judge_run-opened.ensures.0 in
+    let s = sound r (judged_taken r q).0 in
+    omega (arith, judged_end r q, s.end)
+
+pub slice_bounds-print_in-count : goal.slice_bounds-print_in-count
+slice_bounds-print_in-count c =
+    let r = c.args.input.now in
+    let q = sym c.in-Good.is ∙ c.judge_run-opened.ensures.0 in
+    let s = sound r (judged_taken r q).0 in
+    omega (arith, judged_end r q, s.end)
+
+pub slice_bounds-print_in-start : goal.slice_bounds-print_in-start
+slice_bounds-print_in-start c =
+    let r = c.args.input.now in
+    let q = sym c.in-Good.is ∙ c.judge_run-opened.ensures.0 in
+    let s = sound r (judged_taken r q).0 in
+    omega (arith, judged_end r q, s.end)

@@ -1,0 +1,13 @@
+-- `wire::clear`: after k turns the first k bytes are 0 and the others as they were.
+-- Assumes nothing.
+use mathlib.Core.Path.{◌≡◌}
+use mathlib.Core.List.{◌++◌}
+use Prim.Native.Nat.{◌-◌, ◌≤◌}
+use lib.ListN.{length, drop, replicate}
+use Rattle.wire.proofs.clear.Given as goal
+
+abbrev pub invariant-loop-k : goal.invariant-loop-k
+invariant-loop-k l = (l.k ≤ length l.s) × (length l.s ≡ length l.initial.s) × (l.s ≡ replicate l.k 0 ++ drop l.k l.initial.s)
+
+abbrev pub decreases-loop-k : goal.decreases-loop-k
+decreases-loop-k l = length l.initial.s - l.k

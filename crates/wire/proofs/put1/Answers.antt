@@ -1,0 +1,13 @@
+use native.Mathlib.Omega.{arith}
+use Prim.Native.Nat.{◌%◌}
+use mathlib.Core.Path.{◌≡◌}
+use Rattle.wire.specs.Wire.{bytes}
+use Rattle.wire.proofs.Laws.{sets-splice}
+use Rattle.wire.proofs.put1.Goals as goal
+
+pub returns : goal.returns
+unfolding bytes
+returns c =
+    let a = c.args in
+    let h : a.x % 256 ≡ a.x = omega arith in
+    rw h (rw h at (sets-splice (bytes 1 a.x) a.s.now a.at c.requires))
