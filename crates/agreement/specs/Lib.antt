@@ -4,14 +4,8 @@ pub mod Promises
 pub mod Heard
 pub mod Acked
 pub mod Answers
-pub mod Sequence
-pub mod Invariant
 pub mod HistoryLaws
-pub mod Common
 pub mod Explained
-pub mod ReadOff
-pub mod Theorem
 pub mod Brought
 pub mod Bound
 pub mod NeverRefused
-pub mod Capacity

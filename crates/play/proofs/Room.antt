@@ -14,7 +14,7 @@ use Rattle.commands.specs.Book.{commands_of}
 use Rattle.commands.proofs.Walk.{few_commands}
 use Rattle.protocol.specs.World.{World, Step, start, step, play}
 use Rattle.agreement.specs.Acked.{Sizes}
-use Rattle.agreement.specs.Capacity.{acks_bound, log_bound}
+use Rattle.agreement.proofs.Capacity.{acks_bound, log_bound}
 use Rattle.system.specs.Dash.{dash}
 use Rattle.entries.proofs.Logs.{log_length}
 use Rattle.sent.specs.Sent.{max_acknowledgments}

@@ -15,7 +15,8 @@ use Rattle.sets.specs.Sets.{capacity, in_set}
 use Rattle.sets.proofs.Laws.{in_above, set_back}
 use Rattle.protocol.specs.System.{System}
 use Rattle.protocol.specs.Recovery.{Entry, Standing, absent, valid, excluded, nc_of, c_of, Tally, decide, nc_set, c_set}
-use Rattle.protocol.specs.StandingLaws.{Logged, logged_split, Backed, decided_backed}
+use Rattle.protocol.specs.StandingLaws.{Logged, logged_split, Backed}
+use Rattle.protocol.proofs.StandingLaws.{decided_backed}
 use Rattle.entries.specs.Entries.{entry_size, entry_of, view_entry, log_to}
 use Rattle.entries.proofs.Bytes.{entry_fits}
 use Rattle.recovery.specs.Decisions.{sets_of}

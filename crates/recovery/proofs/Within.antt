@@ -22,7 +22,8 @@ use Rattle.conflicts.specs.Conflicts.{conflict_rows}
 use Rattle.calm.specs.Rows.{rows_system}
 use Rattle.protocol.specs.Recovery.{Entry, Standing, absent, valid, excluded, is_valid, nc_of, c_of, Tally, decide, nc_set}
 use Rattle.protocol.specs.RecoveryLaws.{decided_count}
-use Rattle.protocol.specs.StandingLaws.{Logged, logged_split, Backed, decided_backed}
+use Rattle.protocol.specs.StandingLaws.{Logged, logged_split, Backed}
+use Rattle.protocol.proofs.StandingLaws.{decided_backed}
 use Rattle.system.specs.Dash.{dash, last_round}
 use Rattle.entries.specs.Entries.{entry_size, entry_of, view_entry, log_to, in_range_of}
 use Rattle.entries.proofs.Judging.{in_range_told}

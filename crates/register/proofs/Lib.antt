@@ -1,2 +1,4 @@
 pub mod Laws
 pub mod Lent
+pub mod Exchange
+pub mod Machine

@@ -7,15 +7,17 @@ use Rattle.table.specs.declared.SiteTable.{SiteTable}
 use Rattle.table.specs.Table.{is_good}
 use Rattle.table.proofs.Laws.{good_quorums, good_few}
 use Rattle.register.specs.declared.Command.{Command}
-use Rattle.register.specs.Machine.{machine_exchange}
+use Rattle.register.proofs.Machine.{machine_exchange}
 use Rattle.commands.specs.Book.{judge_book, commands_of}
 use Rattle.commands.proofs.Walk.{few_commands}
 use Rattle.protocol.specs.World.{Step, start, play}
 use Rattle.protocol.specs.CommonSequence.{CommonSequence}
 use Rattle.agreement.specs.Acked.{Sizes}
-use Rattle.agreement.specs.Bound.{Limits, round_bound}
-use Rattle.agreement.specs.NeverRefused.{NeverRefused, never_refused}
-use Rattle.agreement.specs.Theorem.{common_sequence}
+use Rattle.agreement.specs.Bound.{Limits}
+use Rattle.agreement.proofs.Bound.{round_bound}
+use Rattle.agreement.specs.NeverRefused.{NeverRefused}
+use Rattle.agreement.proofs.NeverRefused.{never_refused}
+use Rattle.agreement.proofs.Theorem.{common_sequence}
 use Rattle.system.specs.Dash.{dash, command_at, last_round}
 
 -- For every site table within its limits, with at most f faulty sites in its mask, every book that is not refused,

@@ -14,7 +14,7 @@ use Rattle.protocol.specs.Steps.{Met, play_keeps, turn_keeps}
 use Rattle.agreement.specs.History.{history_positive}
 use Rattle.agreement.specs.Promises.{said, said_more}
 use Rattle.agreement.specs.Acked.{Sizes}
-use Rattle.agreement.specs.Invariant.{Good, good_start, good_keeps}
+use Rattle.agreement.proofs.Invariant.{Good, good_start, good_keeps}
 
 -- ---- sums
 

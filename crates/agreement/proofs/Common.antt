@@ -17,14 +17,15 @@ use Rattle.theory.specs.TraceLaws.{alike_equal, alike-before, alike-after, alike
 use Rattle.protocol.specs.System.{System, correct}
 use Rattle.protocol.specs.Recovery.{Tally, decide, nc_set, c_set}
 use Rattle.protocol.specs.StandingLaws.{same_some}
-use Rattle.protocol.specs.RecoveryLaws.{nc_free}
+use Rattle.protocol.proofs.RecoveryLaws.{nc_free}
 use Rattle.protocol.specs.World.{World}
 use Rattle.agreement.specs.History.{History, segment, extend, history, history-next, history_part, history_decided}
 use Rattle.agreement.specs.HistoryLaws.{Sound, history_sound}
-use Rattle.agreement.specs.Acked.{Sizes, Acked, fast_acked, acked_calm, acked_decided}
+use Rattle.agreement.specs.Acked.{Sizes, Acked}
+use Rattle.agreement.proofs.Acked.{fast_acked, acked_calm, acked_decided}
 use Rattle.agreement.specs.Answers.{commands_of}
-use Rattle.agreement.specs.Sequence.{Traced, segment-alike}
-use Rattle.agreement.specs.Invariant.{Good}
+use Rattle.agreement.proofs.Sequence.{Traced, segment-alike}
+use Rattle.agreement.proofs.Invariant.{Good}
 
 module _ (S : System) where
   open S use {machine, commands, sites}

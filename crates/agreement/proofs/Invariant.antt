@@ -10,7 +10,7 @@ use Rattle.agreement.specs.Promises.{Promises, promises_start, promises_keep}
 use Rattle.agreement.specs.Heard.{AllHeard, heard_start, heard_keeps}
 use Rattle.agreement.specs.Acked.{Sizes}
 use Rattle.agreement.specs.Answers.{AllFaithful, faithful_start, faithful_keeps}
-use Rattle.agreement.specs.Sequence.{AllTraced, traced_start, traced_keeps}
+use Rattle.agreement.proofs.Sequence.{AllTraced, traced_start, traced_keeps}
 
 module _ (S : System) where
   pub record Good (w : World S) : Type 0 where

@@ -12,7 +12,8 @@ use Rattle.theory.specs.TraceLaws.{alike_equal, alike-before, alike-after, merge
 use Rattle.protocol.specs.System.{System, free}
 use Rattle.protocol.specs.Recovery.{Log, Tally, decide, nc_set, c_set, proposed}
 use Rattle.protocol.specs.StandingLaws.{same_some}
-use Rattle.protocol.specs.RecoveryLaws.{free_pair, nc_free}
+use Rattle.protocol.specs.RecoveryLaws.{free_pair}
+use Rattle.protocol.proofs.RecoveryLaws.{nc_free}
 use Rattle.protocol.specs.Site.{Site, due, finish, decision, tally_or, is_some, acknowledges}
 use Rattle.protocol.specs.World.{World, Step, command, acknowledgment, check, false_acknowledgment, false_check, false_entry, turn, fast_delivery, log_read, round_end, start, demands, change, entry_of, acknowledging_turn, proposing_turn}
 use Rattle.protocol.specs.Steps.{Met, put_keeps, turn_keeps}
@@ -20,7 +21,8 @@ use Rattle.agreement.specs.History.{History, segment, extend, history, history-n
 use Rattle.agreement.specs.Pending.{PendingAt, AllPending}
 use Rattle.agreement.specs.Promises.{Promises}
 use Rattle.agreement.specs.Heard.{AllHeard}
-use Rattle.agreement.specs.Acked.{Sizes, fast_acked, acked_decided}
+use Rattle.agreement.specs.Acked.{Sizes}
+use Rattle.agreement.proofs.Acked.{fast_acked, acked_decided}
 use Rattle.agreement.specs.Answers.{commands_of, commands-append, fold_commands}
 
 -- ---- tests

@@ -25,7 +25,7 @@ use Rattle.agreement.specs.History.{History, decision_log}
 use Rattle.agreement.specs.HistoryLaws.{Sound, history_sound}
 use Rattle.agreement.specs.Acked.{Sizes}
 use Rattle.agreement.specs.Answers.{commands_of, commands-append, fold_commands}
-use Rattle.agreement.specs.Invariant.{Good, good_start, good_step}
+use Rattle.agreement.proofs.Invariant.{Good, good_start, good_step}
 
 -- ---- tests
 

@@ -9,10 +9,10 @@ use Rattle.protocol.specs.System.{System, correct}
 use Rattle.protocol.specs.World.{World, Step, start, play}
 use Rattle.protocol.specs.CommonSequence.{Explains, CommonSequence, taken, delivers}
 use Rattle.agreement.specs.Acked.{Sizes}
-use Rattle.agreement.specs.Invariant.{Good, good_play}
-use Rattle.agreement.specs.Common.{list_of, sequence, sequence_once, sequence_exactly, completed}
+use Rattle.agreement.proofs.Invariant.{Good, good_play}
+use Rattle.agreement.proofs.Common.{list_of, sequence, sequence_once, sequence_exactly, completed}
 use Rattle.agreement.specs.Explained.{explains}
-use Rattle.agreement.specs.ReadOff.{read_off}
+use Rattle.agreement.proofs.ReadOff.{read_off}
 
 module _ (S : System) (f : ℕ) (sizes : Sizes S f) (law : Exchange S.machine) where
   open S use {sites}

@@ -1,0 +1,9 @@
+pub mod Acked
+pub mod Sequence
+pub mod Invariant
+pub mod Common
+pub mod ReadOff
+pub mod Theorem
+pub mod Bound
+pub mod NeverRefused
+pub mod Capacity
