@@ -5,8 +5,8 @@ set -eu
 cd "$(dirname "$0")/.."
 
 archive=target/staticlib/libdash_register.a
-if [ ! -f "$archive" ] || [ -n "$(find crates crates.txt -newer "$archive" -print | head -n 1)" ]; then
-  rt staticlib dash_register >&2
+if [ ! -f "$archive" ] || [ -n "$(find crates crates.txt -name out -prune -o -newer "$archive" -print | head -n 1)" ]; then
+  sh tools/archive.sh >&2
 fi
 
 # A copy of the archive whose functions start at multiples of 64 bytes, as those of the Rust programs are made to.

@@ -7,5 +7,5 @@ if [ $# -ne 1 ] || [ ! -f "$1" ]; then
 fi
 here=$(dirname "$0")
 program="$here/../target/bin/dash_run"
-[ -x "$program" ] || (cd "$here/.." && rt check dash_run >/dev/null)
+[ -x "$program" ] || sh "$here/../tools/program.sh"
 sh "$here/bytes.sh" "$1" | "$program"

@@ -4,6 +4,10 @@ set -u
 cd "$(dirname "$0")/.." || exit 1
 
 program=target/bin/dash_run
+if ! sh tools/program.sh; then
+  echo "0 passed, 1 failed"
+  exit 1
+fi
 passed=0
 failed=0
 

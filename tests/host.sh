@@ -6,7 +6,7 @@ cd "$(dirname "$0")/.." || exit 1
 programs="host_test refusal_test run_test"
 
 build() {
-  rt staticlib dash_register || return 1
+  sh tools/archive.sh || return 1
   for program in $programs; do
     gcc -O2 -Wall -Wextra -Werror -I include "tests/host/$program.c" -Ltarget/staticlib -ldash_register -o "target/$program" || return 1
   done

@@ -24,9 +24,9 @@ while read -r command; do
   count $? "no test runs: $command"
 done < <(sed -nE 's/^    ((sh|bash|rt|cargo|[A-Z_]+=[^ ]*) .*)/\1/p' README.md bench/README.md)
 
-# One crate in seconds, as README.md says of rt dev NAME.
-rt dev refusals
-count $? "rt dev refusals fails"
+# One crate in seconds, as README.md says of rt check.
+(cd crates/refusals && rt check)
+count $? "rt check of refusals fails"
 
 echo "$passed passed, $failed failed"
 [ "$failed" -eq 0 ]

@@ -17,7 +17,7 @@ tests() { # PACKAGE OPTION..
   [ "${PIPESTATUS[0]}" -eq 0 ] || status=1
 }
 
-rt staticlib dash_register || status=1
+sh tools/archive.sh || status=1
 tests reference
 tests tests/compare --features archive
 tests bench
