@@ -1,8 +1,9 @@
 -- How entries are counted and judged, and what the judgment says in the protocol's terms.
 -- Assumes nothing.
+use Rattle.std.specs.List.{filter, range_with_len}
 use mathlib.Core.Path.{◌≡◌, refl, sym, ap, ◌∙◌}
-use mathlib.Core.Bool.{Bool, true, ◌&&◌}
-use mathlib.Core.List.{List}
+use mathlib.Core.Bool.{Bool, true, false, ◌&&◌, cond}
+use mathlib.Core.List.{List, ◌∷◌}
 use Prim.Native.Nat.{ℕ, zero, suc, ◌+◌, ◌/◌, ◌≤◌, ◌<◌}
 use native.Mathlib.Omega.{arith}
 use lib.Dec.{eqb, leb, ltb}
@@ -10,7 +11,7 @@ use lib.ListN.{length, take}
 use borrow.Author.Tests.{ltb-true, leb-true, eq-eqb, ne_eqb}
 use Rattle.theory.specs.Sets.{one, all}
 use Rattle.theory.specs.Lists.{nth}
-use Rattle.theory.specs.Counting.{both, left, right, all_ext, and_false, one_le}
+use Rattle.theory.specs.Counting.{both, left, right, all_ext, and_false}
 use Rattle.sets.specs.Sets.{within_of}
 use Rattle.table.specs.declared.SiteTable.{SiteTable}
 use Rattle.register.specs.declared.Command.{Command}
@@ -32,21 +33,25 @@ module _ (b : List ℕ) (j r : ℕ) where
   pub entries_next : (i : ℕ) → entries j r (log_to b (i + 1)) ≡ entries j r (log_to b i) + one_of b i j r
   entries_next i = ap (entries j r) (log_more b i) ∙ entries-more j r (log_to b i) (view_entry (entry_of b i))
 
-  pub entries_turn : (i : ℕ) {n m : ℕ} → n ≡ entries j r (log_to b i) → m ≡ one_of b i j r → n + m ≡ entries j r (log_to b (i + 1))
-  entries_turn i e f = (λ k. e k + f k) ∙ sym (entries_next i)
+  -- Whether the i-th entry is of the site and the round.
+  abbrev pub is_of : ℕ → Bool
+  is_of i = eqb (entry_of b i).site j && eqb (entry_of b i).round r
 
-  pub entries_end : (i k : ℕ) {n : ℕ} → i ≡ k → n ≡ entries j r (log_to b i) → n ≡ entries j r (log_to b k)
-  entries_end i k q e = e ∙ ap (λ (x : ℕ). entries j r (log_to b x)) q
+  -- A list with one number more, if it passes.
+  first_counted : (t : Bool) (i : ℕ) (is : List ℕ) → length (cond t (i ∷ is) is) ≡ one t + length is
+  first_counted true i is = omega arith
+  first_counted false i is = omega arith
 
-  pub one_of_le : (i : ℕ) → one_of b i j r ≤ 1
-  one_of_le i = one_le (eqb (entry_of b i).site j && eqb (entry_of b i).round r)
+  -- The n entries from the i-th on are counted.
+  counted_on : (i n : ℕ) → entries j r (log_to b i) + length (filter is_of (range_with_len i n)) ≡ entries j r (log_to b (i + n))
+  counted_on i zero = let q : i + 0 ≡ i = omega arith in omega (arith, ap (λ (x : ℕ). entries j r (log_to b x)) q)
+  counted_on i (suc n) =
+      let q : (i + 1) + n ≡ i + suc n = omega arith in
+      omega (arith, first_counted (is_of i) i (filter is_of (range_with_len (i + 1) n)), entries_next i, counted_on (i + 1) n, ap (λ (x : ℕ). entries j r (log_to b x)) q)
 
-  pub entries_le : (i : ℕ) → entries j r (log_to b i) ≤ i
-  entries_le zero = omega (arith, entries_none)
-  entries_le (suc i) =
-      let q : suc i ≡ i + 1 = omega arith in
-      let e = ap (λ (x : ℕ). entries j r (log_to b x)) q ∙ entries_next i in
-      omega (arith, entries_le i, one_of_le i)
+  -- The entries that pass are those of the site in the round.
+  pub entries_counted : (k : ℕ) → length (filter is_of (range_with_len 0 k)) ≡ entries j r (log_to b k)
+  entries_counted k = let q : 0 + k ≡ k = omega arith in omega (arith, entries_none, counted_on 0 k, ap (λ (x : ℕ). entries j r (log_to b x)) q)
 
   pub one_yes : (i : ℕ) {x y : ℕ} → x ≡ (entry_of b i).round → y ≡ (entry_of b i).site → x ≡ r → y ≡ j → 1 ≡ one_of b i j r
   one_yes i ex ey hx hy =

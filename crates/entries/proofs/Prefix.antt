@@ -1,15 +1,16 @@
 -- The first entry of a round among a log's first entries.
 -- Assumes nothing.
-use mathlib.Core.Path.{◌≡◌, sym, ap, ◌∙◌}
-use mathlib.Core.Bool.{Bool, true, false}
+use Rattle.std.specs.Option.{MatchOption, unwrap_or}
+use Rattle.std.proofs.Common.{Option, Some, None}
+use mathlib.Core.Path.{◌≡◌}
+use mathlib.Core.Bool.{Bool}
 use mathlib.Core.List.{List}
-use mathlib.Core.Logic.{◌⊎◌, inl, inr, ⊎_elim}
-use Prim.Native.Nat.{ℕ, ◌+◌, ◌≤◌, ◌<◌}
-use native.Mathlib.Decide.{ℕ_discrete}
+use mathlib.Core.Logic.{⊎_elim}
+use Prim.Native.Nat.{ℕ, ◌≤◌, ◌<◌}
 use native.Mathlib.Omega.{arith}
 use lib.Dec.{eqb}
-use borrow.Author.Tests.{eq-eqb, ne_eqb}
-use Rattle.theory.specs.Counting.{lt_or_le, last_or_below, never}
+use borrow.Author.Tests.{eq-eqb, eqb-true}
+use Rattle.theory.specs.Counting.{lt_or_le, never}
 use Rattle.sets.specs.Sets.{least}
 use Rattle.sets.proofs.Laws.{least_le, least_in, least-before}
 use Rattle.entries.specs.Entries.{entry_of}
@@ -20,34 +21,28 @@ module _ (b : List ℕ) (r : ℕ) where
   is_of i = eqb (entry_of b i).round r
 
   -- None of the first i is.
-  abbrev pub NoneOf : ℕ → Type 0
-  NoneOf i = (j : ℕ) → j < i → is_of j ≡ false
+  abbrev NoneOf : ℕ → Type 0
+  NoneOf i = (j : ℕ) → 0 ≤ j → j < i → (entry_of b j).round ≡ r → ⊥
 
-  pub none_yet : NoneOf 0
-  none_yet j l = absurd (omega arith)
+  -- The first is no earlier then.
+  none_below : (i k : ℕ) → i ≤ k → NoneOf i → i ≤ least k is_of
+  none_below i k l h =
+      ⊎_elim
+      (λ g. absurd (h (least k is_of) (omega arith) g (eqb-true (entry_of b (least k is_of)).round r (least_in k is_of (omega arith)))))
+      (λ g. g)
+      (lt_or_le (least k is_of) i)
 
-  pub none_more : (i : ℕ) {x : ℕ} → NoneOf i → x ≡ (entry_of b i).round → (x ≡ r → ⊥) → NoneOf (i + 1)
-  none_more i h e d j l = go (last_or_below j i (omega arith))
-    where
-      go : (j ≡ i) ⊎ (j < i) → is_of j ≡ false
-      go (inl q) = ap is_of q ∙ ne_eqb (entry_of b i).round r (λ z. d (e ∙ z))
-      go (inr g) = h j g
-
-  pub first_found : (i k : ℕ) {x : ℕ} → NoneOf i → i < k → x ≡ (entry_of b i).round → x ≡ r → i ≡ least k is_of
-  first_found i k h l e q =
-      let is : is_of i ≡ true = eq-eqb (entry_of b i).round r (sym e ∙ q) in
-      elim (ℕ_discrete i (least k is_of)) [
-        | yes z ↦ z
-        | no z ↦ ⊎_elim
-            (λ g. absurd (never (is_of i) is (least-before k is_of i g)))
-            (λ g. let w : least k is_of < i = omega arith in absurd (never (is_of (least k is_of)) (least_in k is_of (omega arith)) (h (least k is_of) w)))
-            (lt_or_le i (least k is_of))
-      ]
-
-  pub first_none : (i k : ℕ) → NoneOf i → i ≡ k → k ≡ least k is_of
-  first_none i k h q =
-      let g = least_le k is_of in
-      ⊎_elim (λ l. absurd (never (is_of (least k is_of)) (least_in k is_of l) (h (least k is_of) (omega arith)))) (λ l. omega arith) (lt_or_le (least k is_of) k)
+  -- What a search among the first k tells.
+  pub first_searched : (k : ℕ) (o : Option ℕ)
+      → MatchOption o (NoneOf k) (λ i. (0 ≤ i) × (i < k) × ((entry_of b i).round ≡ r) × NoneOf i)
+      → unwrap_or o k ≡ least k is_of
+  first_searched k None h = omega (arith, least_le k is_of, none_below k k (omega arith) h)
+  first_searched k (Some i) h =
+      let n = none_below i k (omega arith) h.3 in
+      ⊎_elim
+      (λ g. absurd (never (is_of i) (eq-eqb (entry_of b i).round r h.2) (least-before k is_of i g)))
+      (λ g. omega arith)
+      (lt_or_le i (least k is_of))
 
   -- No entry before the first is of the round.
   pub first_told : (k : ℕ) {f : ℕ} → f ≡ least k is_of → (f ≤ k) × ((i : ℕ) → i < f → (entry_of b i).round ≡ r → ⊥)

@@ -6,7 +6,7 @@ ghost use Rattle.sets.specs.Sets.{least};
 ghost use Rattle.table.specs.Table.{max_sites};
 ghost use Rattle.protocol.specs.Recovery.{entries};
 ghost use Rattle.system.specs.Dash.{last_round};
-ghost use Rattle.entries.specs.Entries.{entry_size, entry_of, write_entry, log_to, one_of, in_range_of, good_to, cells, Counting};
+ghost use Rattle.entries.specs.Entries.{entry_size, entry_of, write_entry, log_to, in_range_of, good_to, cells, Counting};
 
 use sets::Set;
 
@@ -92,33 +92,14 @@ pub fn write_entry(log: &mut [u8], k: usize, entry: Entry)
     c.write(log, at + 10);
 }
 
-// 1 where the k-th entry is one of a site in a round, else 0.
-fn one_of(log: &[u8], k: usize, site: usize, round: usize) -> usize
-    requires { k * entry_size + entry_size ≤ length log.now }
-    ensures { result ≡ one_of log.now k site round }
-{
-    if round_of(log, k) != round {
-        return 0;
-    }
-    if site_of(log, k) != site {
-        return 0;
-    }
-    1
-}
-
 // How many of the first k entries a site has in a round.
 pub fn entries_of(log: &[u8], k: usize, site: usize, round: usize) -> usize
     requires { k * entry_size ≤ length log.now }
     ensures { result ≡ entries site round (log_to log.now k) }
 {
-    let mut all: usize = 0;
-    let mut i: usize = 0;
-    while i < k {
-        let more = one_of(log, i, site, round);
-        all += more;
-        i += 1;
-    }
-    all
+    (0..k)
+        .filter(|i| site_of(log, *i) == site && round_of(log, *i) == round)
+        .count()
 }
 
 // The first of the first k entries that is of a round; k where none is.
@@ -126,14 +107,7 @@ pub fn first_of(log: &[u8], k: usize, round: usize) -> usize
     requires { k * entry_size ≤ length log.now }
     ensures { result ≡ least k (λ (i : ℕ). eqb (entry_of log.now i).round round) }
 {
-    let mut i: usize = 0;
-    while i < k {
-        if round_of(log, i) == round {
-            return i;
-        }
-        i += 1;
-    }
-    k
+    (0..k).find(|i| round_of(log, *i) == round).unwrap_or(k)
 }
 
 // Whether site, round and sets of an entry are in range.
@@ -154,8 +128,7 @@ fn judge_counting(log: &[u8], k: usize, sites: usize, commands: usize, counts: &
     requires { (k * entry_size ≤ length log.now) × (sites ≤ max_sites) × (counts.old ≡ replicate cells 0) }
     ensures { result ≡ good_to log.now sites commands k }
 {
-    let mut i: usize = 0;
-    while i < k {
+    for i in 0..k {
         let entry = read_entry(log, i);
         if !in_range(entry, sites, commands) {
             return false;
@@ -166,7 +139,6 @@ fn judge_counting(log: &[u8], k: usize, sites: usize, commands: usize, counts: &
             return false;
         }
         counts[cell] = before + 1;
-        i += 1;
     }
     true
 }

@@ -1,17 +1,14 @@
--- `entries_of` meets its contract: the entries counted are those among the first i.
+-- `entries_of` meets its contract: the entries counted are those among the first k.
 -- Assumes nothing.
-use native.Mathlib.Omega.{arith}
-use Rattle.entries.proofs.Judging.{entries_none, entries_turn, entries_end, one_of_le}
+use Rattle.std.proofs.Common.{◌∙◌, arith, rules, tests}
+use Rattle.std.proofs.lemmas.Iterator.{YieldsList-from_range}
+use Rattle.std.proofs.lemmas.Iterator.Consumers.{YieldsList-from_filter, count_from_yields_List}
+use Rattle.entries.proofs.Judging.{is_of, entries_counted}
 use Rattle.entries.proofs.entries_of.Goals as goal
 
-pub loop-i-init : goal.loop-i-init
-loop-i-init c = let a = c.args in (omega arith, omega arith, entries_none a.log.now a.site a.round)
-
-pub loop-i-preserved : goal.loop-i-preserved
-loop-i-preserved c =
-    let a = c.args in
-    let l = c.loop-i in
-    (omega arith, omega (arith, c.one_of-more.ensures, one_of_le a.log.now a.site a.round l.i), entries_turn a.log.now a.site a.round l.i l.invariant.2 c.one_of-more.ensures)
-
 pub returns : goal.returns
-returns c = let a = c.args in let l = c.loop-i in entries_end a.log.now a.site a.round l.i a.k (omega arith) l.invariant.2
+returns c =
+    let a = c.args in
+    count_from_yields_List c.filter.result c.count.result c.count.ensures.ran
+    (YieldsList-from_filter _ (is_of a.log.now a.site a.round) (YieldsList-from_range 0 a.k a.k c.filter.ensures.source (omega arith)) c.filter.ensures.closure (λ x r q k. search (rules, tests)))
+    ∙ entries_counted a.log.now a.site a.round a.k

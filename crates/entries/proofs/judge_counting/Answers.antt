@@ -2,14 +2,14 @@
 -- Assumes nothing.
 use Rattle.theory.specs.Counting.{all_none}
 use Rattle.entries.specs.Entries.{good_at}
-use Rattle.entries.proofs.Counts.{counting_none, entry_bad, in_cells, third_bad, prefix_more, prefix_end}
+use Rattle.entries.proofs.Counts.{counting_none, entry_bad, third_bad, prefix_more, prefix_end}
 use native.Mathlib.Omega.{arith}
 use mathlib.Core.Path.{ap}
 use mathlib.Core.Bool.{not}
 use Rattle.entries.proofs.judge_counting.Goals as goal
 
 pub loop-i-init : goal.loop-i-init
-loop-i-init c = let a = c.args in (omega arith, counting_none a.log.now c.requires.2, all_none (good_at a.log.now a.sites a.commands))
+loop-i-init c = let a = c.args in (counting_none a.log.now c.requires.2, all_none (good_at a.log.now a.sites a.commands))
 
 pub returns-then-not-in_range : goal.returns-then-not-in_range
 returns-then-not-in_range c =
@@ -19,37 +19,12 @@ returns-then-not-in_range c =
 pub returns-then-before-ge2 : goal.returns-then-before-ge2
 returns-then-before-ge2 c =
     let a = c.args in
-    (third_bad a.log.now a.sites a.commands c.requires.1 c.loop-i.i c.read_entry-entry.ensures c.in_range.ensures (ap not c.if-not-in_range.false) c.loop-i.counts c.loop-i.invariant.1 (omega arith) a.k (omega arith))
+    (third_bad a.log.now a.sites a.commands c.requires.1 c.loop-i.i c.read_entry-entry.ensures c.in_range.ensures (ap not c.if-not-in_range.false) c.loop-i.counts c.loop-i.invariant.0 (omega arith) a.k (omega arith))
 
 pub loop-i-preserved : goal.loop-i-preserved
 loop-i-preserved c =
     let a = c.args in
-    let w = prefix_more a.log.now a.sites a.commands c.requires.1 c.loop-i.i c.read_entry-entry.ensures c.in_range.ensures (ap not c.if-not-in_range.false) c.loop-i.counts c.loop-i.invariant.1 (omega arith) c.loop-i.invariant.2 in
-    (omega arith, w.0, w.1)
+    prefix_more a.log.now a.sites a.commands c.requires.1 c.loop-i.i c.read_entry-entry.ensures c.in_range.ensures (ap not c.if-not-in_range.false) c.loop-i.counts c.loop-i.invariant.0 (omega arith) c.loop-i.invariant.1
 
 pub returns : goal.returns
-returns c = let a = c.args in prefix_end a.log.now a.sites a.commands c.loop-i.i a.k (omega arith) c.loop-i.invariant.2
-
-pub overflow_mul-cell : goal.overflow_mul-cell
-overflow_mul-cell c =
-    let a = c.args in
-    let w = in_cells a.log.now a.sites a.commands c.requires.1 c.loop-i.i c.read_entry-entry.ensures c.in_range.ensures (ap not c.if-not-in_range.false) in
-    omega arith
-
-pub overflow_sub-cell : goal.overflow_sub-cell
-overflow_sub-cell c =
-    let a = c.args in
-    let w = in_cells a.log.now a.sites a.commands c.requires.1 c.loop-i.i c.read_entry-entry.ensures c.in_range.ensures (ap not c.if-not-in_range.false) in
-    omega arith
-
-pub overflow_add-cell : goal.overflow_add-cell
-overflow_add-cell c =
-    let a = c.args in
-    let w = in_cells a.log.now a.sites a.commands c.requires.1 c.loop-i.i c.read_entry-entry.ensures c.in_range.ensures (ap not c.if-not-in_range.false) in
-    omega arith
-
-pub bounds-counts-cell : goal.bounds-counts-cell
-bounds-counts-cell c =
-    let a = c.args in
-    let w = in_cells a.log.now a.sites a.commands c.requires.1 c.loop-i.i c.read_entry-entry.ensures c.in_range.ensures (ap not c.if-not-in_range.false) in
-    omega (arith, c.loop-i.invariant.1.size)
+returns c = let a = c.args in prefix_end a.log.now a.sites a.commands c.loop-i.i a.k (omega arith) c.loop-i.invariant.1
