@@ -198,6 +198,3 @@ module _ (b : List ℕ) (r : ℕ) (valid : Set) where
       levels_before n (λ i l. h i (omega arith))
       ∙ levels_passed n (ap (λ (x : Bool). x && in_set valid (entry_of b n).site) (ne_eqb (entry_of b n).round r (h n (omega arith))))
       ∙ ap (levels_of b r valid) (add-one n)
-
-  pub levels_end : (k n : ℕ) {l : Levels} → k ≡ n → l ≡ levels_of b r valid k → l ≡ levels_of b r valid n
-  levels_end k n q e = e ∙ ap (levels_of b r valid) q

@@ -108,10 +108,8 @@ fn gather(log: &[u8], from: usize, n: usize, round: usize, valid: Set) -> Levels
     ensures { result ≡ levels_of log.now round valid n }
 {
     let mut levels = no_levels();
-    let mut k: usize = from;
-    while k < n {
+    for k in from..n {
         levels = levels_after(levels, log, k, round, valid);
-        k += 1;
     }
     levels
 }

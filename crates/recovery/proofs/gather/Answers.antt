@@ -2,17 +2,14 @@
 -- Assumes nothing.
 use mathlib.Core.Path.{◌∙◌}
 use native.Mathlib.Omega.{arith}
-use Rattle.recovery.proofs.Counts.{levels_before, levels_more, levels_end}
+use Rattle.recovery.proofs.Counts.{levels_before, levels_more}
 use Rattle.recovery.proofs.gather.Goals as goal
 
 pub loop-k-init : goal.loop-k-init
-loop-k-init c = let a = c.args in (c.requires.1, c.no_levels-levels.ensures ∙ levels_before a.log.now a.round a.valid a.from c.requires.2)
+loop-k-init c = let a = c.args in c.no_levels-levels.ensures ∙ levels_before a.log.now a.round a.valid a.from c.requires.2
 
 pub loop-k-preserved : goal.loop-k-preserved
 loop-k-preserved c =
     let a = c.args in
     let l = c.loop-k in
-    (omega arith, levels_more a.log.now a.round a.valid l.k (λ i. (c.type_inv.log i).fits) (omega arith) l.invariant.1 c.levels_after-levels.ensures)
-
-pub returns : goal.returns
-returns c = let a = c.args in let l = c.loop-k in levels_end a.log.now a.round a.valid l.k a.n (omega arith) l.invariant.1
+    levels_more a.log.now a.round a.valid l.k (λ i. (c.type_inv.log i).fits) (omega arith) l.invariant c.levels_after-levels.ensures
