@@ -117,9 +117,6 @@ module _ (t : SiteTable) (rows : List ℕ) (r : ℕ) (b : List ℕ) where
           ap (λ (x : Bool). pick x s (with_entry t rows r (suc k) (entry_of b k) s)) (sym d)
           ∙ (λ j. pick (e j).decided (e j) (with_entry t rows r (suc k) (entry_of b k) (e j)))
 
-  pub standing_end : (i k : ℕ) {s : Standing} → s ≡ standing_of t rows r b i → i ≡ k → s ≡ standing_of t rows r b k
-  standing_end i k es q = es ∙ ap (standing_of t rows r b) q
-
   -- The entry that decides the round does not come before its first.
   module _ (from : ℕ) (none : (i : ℕ) → i < from → (entry_of b i).round ≡ r → ⊥) where
     pub decided_after : (k : ℕ) → (standing_of t rows r b k).decided ≡ true → from ≤ (standing_of t rows r b k).entries

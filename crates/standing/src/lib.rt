@@ -102,8 +102,7 @@ pub fn standing_after(
     ensures { result ≡ standing_of table rows.now round log.now k }
 {
     let mut sources = nobody_yet();
-    let mut i: usize = from;
-    while i < k {
+    for i in from..k {
         if entries::round_of(log, i) == round {
             let free = calm::is_free(rows, entries::nc_of(log, i));
             sources = with_entry(sources, log, i, round, table, free);
@@ -111,7 +110,6 @@ pub fn standing_after(
                 return sources;
             }
         }
-        i += 1;
     }
     sources
 }

@@ -2,12 +2,8 @@
 -- Assumes nothing.
 use mathlib.Core.Bool.{false}
 use mathlib.Core.Path.{◌≡◌}
-use Prim.Native.Nat.{◌-◌, ◌≤◌}
 use Rattle.standing.specs.Standings.{standing_of}
 use Rattle.standing.proofs.standing_after.Given as goal
 
 abbrev pub invariant-loop-i : goal.invariant-loop-i
-invariant-loop-i l = (l.i ≤ l.k) × (l.sources ≡ standing_of l.table l.rows l.round l.log l.i) × (l.sources.decided ≡ false)
-
-abbrev pub decreases-loop-i : goal.decreases-loop-i
-decreases-loop-i l = l.k - l.i
+invariant-loop-i l = (l.sources ≡ standing_of l.table l.rows l.round l.log l.i) × (l.sources.decided ≡ false)
