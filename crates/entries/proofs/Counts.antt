@@ -37,10 +37,6 @@ set-one counts old new s k x ls lk z h e o j r lj lr =
         let c : k ≡ r = omega arith in
         ap (λ (p : ℕ). get_or (set counts (s * 32 + k) x) p 0) q ∙ get_or-set_same counts (s * 32 + k) x 0 (omega arith) ∙ e ∙ (λ i. new (a i) (c i))
 
--- A table keeps its size.
-pub table_size : (counts : List ℕ) {start : List ℕ} → length counts ≡ cells → start ≡ replicate cells 0 → length counts ≡ length start
-table_size counts h e = h ∙ sym (ap length e ∙ length-replicate {0} {A = ℕ} 352 0)
-
 module _ (b : List ℕ) where
   pub counting_none : {counts : List ℕ} → counts ≡ replicate cells 0 → Counting b 0 counts
   counting_none e =
@@ -119,6 +115,3 @@ module _ (b : List ℕ) where
                 (ap (λ (x : ℕ). x + 1) (counted_at c e.site e.round in_cells.0 in_cells.1 in_cells.2)),
             all_more i (good_at b n m) g (good_here ∙ lt-ltb before 2 l),
           )
-
-    pub prefix_end : (i k : ℕ) → i ≡ k → good_to b n m i ≡ true → true ≡ good_to b n m k
-    prefix_end i k q g = sym g ∙ ap (good_to b n m) q
