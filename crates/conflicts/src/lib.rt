@@ -54,11 +54,9 @@ fn gather(book: &[u8], places: &[u64], n: usize, sets: &mut [u64])
         × Gathered book.now 0 sets.old }
     ensures { Gathered book.now n sets.new }
 {
-    let mut k: usize = 0;
-    while k < n {
+    for k in 0..n {
         let command = commands::indexed(book, places, k);
         join(sets, command, k);
-        k += 1;
     }
 }
 
@@ -98,11 +96,9 @@ fn fill_rows(book: &[u8], n: usize, sets: &[u64], noted: &mut [u64])
         × Placed book.now noted.old × Gathered book.now n sets.now }
     ensures { noted.new ≡ take max_commands noted.old ++ conflict_rows book.now }
 {
-    let mut m: usize = 0;
-    while m < n {
+    for m in 0..n {
         let found = row(book, &noted[..], m, sets);
         found.store(noted, commands::MAX_COMMANDS + m);
-        m += 1;
     }
 }
 
