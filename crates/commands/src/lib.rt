@@ -182,15 +182,13 @@ pub fn write_commands(out: &mut [u8], at: usize, book: &[u8]) -> usize
     let n = count(book);
     let mut from: usize = 0;
     let mut to = at;
-    let mut k: usize = 0;
-    while k < n {
+    for _ in 0..n {
         let reading = read_command(&book[from..]);
         let Reading::Whole(command) = reading else {
             return to;
         };
         to = write_command(out, to, command);
         from += size(command);
-        k += 1;
     }
     to
 }
