@@ -12,7 +12,7 @@ use Rattle.refusals.specs.declared.Refusal.TheVariants.{Disabled, Full}
 use Rattle.refusals.specs.declared.Verdict.{Verdict}
 use Rattle.refusals.specs.declared.Verdict.TheVariants.{Taken, Refused}
 use Rattle.theory.specs.Sets.{one, count}
-use Rattle.theory.specs.Counting.{left, right, not-true, never, count_none, count-more, count_no, count_le}
+use Rattle.theory.specs.Counting.{left, right, not-true, never, count_none, count-more, count_no}
 use Rattle.wire.specs.Wire.{read_le}
 use Rattle.sets.specs.declared.Set.{Set}
 use Rattle.sets.specs.Sets.{has, in_set, without_of, read_set}
@@ -40,9 +40,6 @@ pub sender_more : (b : List ℕ) (r m j : ℕ) {n o : ℕ} {set : Set} {t : Bool
     → set ≡ read_set b (cell j r) → t ≡ in_set set m → o ≡ one t → n + o ≡ count (j + 1) (λ k. heard_of b k r m)
 sender_more b r m j hj h1 hr en es et eo =
     (λ i. en i + (eo ∙ ap one (et ∙ ap (λ (s : Set). in_set s m) es ∙ sym (heard_at b j r m hj h1 hr))) i) ∙ sym (count-more j (λ k. heard_of b k r m))
-
-pub sender_few : (b : List ℕ) (r m j : ℕ) {n : ℕ} → n ≡ count j (λ k. heard_of b k r m) → n ≤ j
-sender_few b r m j e = let l = count_le j (λ k. heard_of b k r m) in omega arith
 
 count_beyond : (n k : ℕ) (p : ℕ → Bool) → ((j : ℕ) → n ≤ j → j < n + k → p j ≡ false) → count (n + k) p ≡ count n p
 count_beyond n zero p h = let e : n + 0 ≡ n = omega arith in ap (λ (j : ℕ). count j p) e

@@ -35,14 +35,12 @@ fn has_senders(site: &[u8], header: Site, m: usize, needed: usize) -> bool
         return false;
     }
     let mut n = 0;
-    let mut sender = 0;
-    while sender < SiteTable::MAX_SITES {
+    for sender in 0..SiteTable::MAX_SITES {
         let set = layout::heard(site, sender, round);
         n += one(set.holds(m));
         if n >= needed {
             return true;
         }
-        sender += 1;
     }
     false
 }

@@ -21,7 +21,7 @@ returns-then-round-header c =
     few_senders a.site.now a.header.round a.m a.needed none (search rules)
 
 pub loop-sender-init : goal.loop-sender-init
-loop-sender-init c = (search rules, sym (count_none _), search rules)
+loop-sender-init c = (sym (count_none _), search rules)
 
 pub returns-then-n-needed : goal.returns-then-n-needed
 returns-then-n-needed c =
@@ -29,7 +29,7 @@ returns-then-n-needed c =
     let a = c.args in
     let e = ap (λ (h : Site). h.span) c.requires.1 in
     let k = spanned a.site.now in
-    let more = sender_more a.site.now a.header.round a.m l.sender (omega arith) (omega arith) (omega arith) l.invariant.1 c.heard-set.ensures c.holds.ensures c.one-n.ensures.0 in
+    let more = sender_more a.site.now a.header.round a.m l.sender (omega arith) (omega arith) (omega arith) l.invariant.0 c.heard-set.ensures c.holds.ensures c.one-n.ensures.0 in
     enough-senders a.site.now a.header.round a.m l.sender a.needed (omega arith) more (let h = c.if-n-needed.true in omega arith)
 
 pub loop-sender-preserved : goal.loop-sender-preserved
@@ -38,8 +38,7 @@ loop-sender-preserved c =
     let a = c.args in
     let e = ap (λ (h : Site). h.span) c.requires.1 in
     let k = spanned a.site.now in (
-      omega arith,
-      sender_more a.site.now a.header.round a.m l.sender (omega arith) (omega arith) (omega arith) l.invariant.1 c.heard-set.ensures c.holds.ensures c.one-n.ensures.0,
+      sender_more a.site.now a.header.round a.m l.sender (omega arith) (omega arith) (omega arith) l.invariant.0 c.heard-set.ensures c.holds.ensures c.one-n.ensures.0,
       omega arith,
     )
 
@@ -48,4 +47,4 @@ returns c =
     let l = c.loop-sender in
     let a = c.args in
     let e : l.sender ≡ max_sites = omega arith in
-    few_senders a.site.now a.header.round a.m a.needed (l.invariant.1 ∙ ap (λ (n : ℕ). count n (λ j. heard_of a.site.now j a.header.round a.m)) e) l.invariant.2
+    few_senders a.site.now a.header.round a.m a.needed (l.invariant.0 ∙ ap (λ (n : ℕ). count n (λ j. heard_of a.site.now j a.header.round a.m)) e) l.invariant.1
