@@ -252,9 +252,6 @@ module _ (b : List ℕ) (sites commands : ℕ) {n : ℕ} (e : n ≡ read_le 2 b 
   pub heard_bad : (j i : ℕ) {t : Bool} → j < max_sites → i < n → t ≡ good_cell sites commands b j (i + 1) → t ≡ false → false ≡ good_heard sites commands b
   heard_bad j i lj li et f = sym (all-not max_sites _ j lj (all-not (read_le 2 b span_place) _ i (omega arith) (sym et ∙ f)))
 
-  pub heard_all : (j : ℕ) → j ≡ max_sites → all j (λ k. all n (λ i. good_cell sites commands b k (i + 1))) ≡ true → true ≡ good_heard sites commands b
-  heard_all j q h = sym h ∙ (λ d. all (q d) (λ k. all (e d) (λ i. good_cell sites commands b k (i + 1))))
-
 -- What a header that was read says of the log position and of the deliveries.
 module _ (b : List ℕ) {h : Site} (e : h ≡ head_of b) where
   pub positioned : h.position ≡ read_le 2 b position_place

@@ -1,3 +1,4 @@
 pub mod Judged
 pub mod Blank
 pub mod RoundTrip
+pub mod Ranges

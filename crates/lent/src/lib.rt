@@ -60,16 +60,12 @@ fn judge_heard(site: &[u8], sites: usize, commands: usize) -> bool
     ensures { result ≡ good_heard sites commands site.now }
 {
     let rounds = wire::get2(site, Site::SPAN) as usize;
-    let mut sender = 0;
-    while sender < SiteTable::MAX_SITES {
-        let mut k = 0;
-        while k < rounds {
+    for sender in 0..SiteTable::MAX_SITES {
+        for k in 0..rounds {
             if !judge_cell(site, sites, commands, sender, k + 1) {
                 return false;
             }
-            k += 1;
         }
-        sender += 1;
     }
     true
 }
@@ -90,14 +86,7 @@ fn judge_deliveries(site: &[u8], commands: usize, recorded: usize) -> bool
     requires { length site.now ≡ site_size }
     ensures { result ≡ all capacity (good_slot commands recorded site.now) }
 {
-    let mut k = 0;
-    while k < Set::CAPACITY {
-        if !judge_slot(site, commands, recorded, k) {
-            return false;
-        }
-        k += 1;
-    }
-    true
+    (0..Set::CAPACITY).all(|k| judge_slot(site, commands, recorded, k))
 }
 
 // Whether lent bytes are a site, for so many sites, commands and log entries.

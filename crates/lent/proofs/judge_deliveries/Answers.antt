@@ -1,25 +1,16 @@
--- `lent::judge_deliveries`: the places before are good.
--- Assumes nothing.
-use mathlib.Core.Path.{◌≡◌, sym, ap, ◌∙◌}
-use Prim.Native.Nat.{ℕ}
-use Rattle.theory.specs.Sets.{all}
-use Rattle.theory.specs.Counting.{all_none, all_more, all-not}
+-- `lent::judge_deliveries`: the call of `all` looks at every place, and each tells whether it is good.
+-- Rests on Ranges.
+use mathlib.Core.Path.{refl, ◌∙◌}
+use Rattle.std.proofs.Common.{rules, tests}
+use Rattle.std.proofs.lemmas.Iterator.{YieldsList-from_range}
+use Rattle.std.proofs.lemmas.Iterator.Search.{all_from_yields_List}
 use Rattle.sets.specs.Sets.{capacity}
 use Rattle.layout.specs.Good.{good_slot}
-use native.Mathlib.Omega.{arith}
+use Rattle.lent.proofs.Ranges.{all_range}
 use Rattle.lent.proofs.judge_deliveries.Goals as goal
-
-pub loop-k-init : goal.loop-k-init
-loop-k-init c = (omega arith, all_none _)
-
-pub returns-then-not-judge_slot : goal.returns-then-not-judge_slot
-returns-then-not-judge_slot c = let a = c.args in sym (all-not capacity (good_slot a.commands a.recorded a.site.now) c.loop-k.k (omega arith) (sym c.judge_slot.ensures ∙ c.if-not-judge_slot.true))
-
-pub loop-k-preserved : goal.loop-k-preserved
-loop-k-preserved c = (omega arith, all_more _ _ c.loop-k.invariant.1 (sym c.judge_slot.ensures ∙ c.if-not-judge_slot.false))
 
 pub returns : goal.returns
 returns c =
     let a = c.args in
-    let e : c.loop-k.k ≡ capacity = omega arith in
-    sym c.loop-k.invariant.1 ∙ ap (λ (n : ℕ). all n (good_slot a.commands a.recorded a.site.now)) e
+    let good = good_slot a.commands a.recorded a.site.now in
+    all_from_yields_List good _ _ _ c.all.ensures.ran (YieldsList-from_range 0 capacity capacity refl refl) (λ x b q k. search (rules, tests)) ∙ all_range capacity good

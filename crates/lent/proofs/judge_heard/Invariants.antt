@@ -2,20 +2,13 @@
 -- Rests on Judged.
 use mathlib.Core.Bool.{true}
 use mathlib.Core.Path.{◌≡◌}
-use Prim.Native.Nat.{◌+◌, ◌-◌, ◌≤◌}
+use Prim.Native.Nat.{◌+◌}
 use Rattle.theory.specs.Sets.{all}
-use Rattle.table.specs.Table.{max_sites}
 use Rattle.layout.specs.Good.{good_cell}
 use Rattle.lent.proofs.judge_heard.Given as goal
 
 abbrev pub invariant-loop-k : goal.invariant-loop-k
-invariant-loop-k l = (l.k ≤ l.rounds) × (all l.k (λ i. good_cell l.sites l.commands l.site l.sender (i + 1)) ≡ true)
-
-abbrev pub decreases-loop-k : goal.decreases-loop-k
-decreases-loop-k l = l.rounds - l.k
+invariant-loop-k l = all l.k (λ i. good_cell l.sites l.commands l.site l.sender (i + 1)) ≡ true
 
 abbrev pub invariant-loop-sender : goal.invariant-loop-sender
-invariant-loop-sender l = (l.sender ≤ max_sites) × (all l.sender (λ j. all l.rounds (λ i. good_cell l.sites l.commands l.site j (i + 1))) ≡ true)
-
-abbrev pub decreases-loop-sender : goal.decreases-loop-sender
-decreases-loop-sender l = max_sites - l.sender
+invariant-loop-sender l = all l.sender (λ j. all l.rounds (λ i. good_cell l.sites l.commands l.site j (i + 1))) ≡ true
