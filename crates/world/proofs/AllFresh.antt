@@ -35,9 +35,6 @@ pub record FreshTo (n : ℕ) (earlier sites : List ℕ) : Type 0 where
   pub past : (i : ℕ) → i < n → drop heard_place (site_at sites i) ≡ drop heard_place (site_at earlier i)
   pub rest : (i : ℕ) → n ≤ i → site_at sites i ≡ site_at earlier i
 
-pub fresh-none : (sites : List ℕ) → FreshTo 0 sites sites
-fresh-none sites = record { site = λ i l. absurd (omega arith); past = λ i l. absurd (omega arith); rest = λ i l. refl }
-
 -- Some site table: what is past a fresh site is the same at each.
 some_table : SiteTable
 some_table = record { sites = 1; faults = 0; mask = 0 }

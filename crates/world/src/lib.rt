@@ -14,13 +14,10 @@ pub fn start(sites: &mut [u8], sent: &mut [u8], table: SiteTable)
     requires { (length sites.old ≡ table.sites * site_size) × (length sent.old ≡ sent_size) }
     ensures { Started table sites.new sent.new sites.old sent.old }
 {
-    let n = table.sites;
-    let mut i: usize = 0;
-    while i < n {
+    for i in 0..table.sites {
         let from = i * Site::SIZE;
         let to = from + Site::SIZE;
         lent::fresh(&mut sites[from..to]);
-        i += 1;
     }
     sent::clear(sent);
 }

@@ -6,18 +6,9 @@ use native.Mathlib.Omega.{arith}
 use borrow.Author.Rules.{rules}
 use lib.ListN.{length}
 use Rattle.layout.specs.Layout.{site_size}
-use Rattle.world.proofs.AllFresh.{fresh-none, fresh-more, started}
+use Rattle.world.proofs.AllFresh.{fresh-more, started}
 use Rattle.world.proofs.Sites.{length_part}
 use Rattle.world.proofs.start.Goals as goal
-
-pub loop-i-init : goal.loop-i-init
-loop-i-init c = (omega arith, search rules, fresh-none _)
-
-pub fresh-requires : goal.fresh-requires
-fresh-requires c =
-    let l = c.loop-i in
-    let e : (l.i * site_size + site_size) - l.i * site_size ≡ site_size = omega arith in
-    length_part l.sites l.i ((l.i * site_size + site_size) - l.i * site_size) e (omega arith)
 
 pub loop-i-preserved : goal.loop-i-preserved
 loop-i-preserved c =
@@ -26,13 +17,12 @@ loop-i-preserved c =
     let e : (l.i * site_size + site_size) - l.i * site_size ≡ site_size = omega arith in
     let room : l.i * site_size + site_size ≤ length l.sites = omega arith in
     let size = k.fresh.auto.site ∙ length_part l.sites l.i ((l.i * site_size + site_size) - l.i * site_size) e room in (
-      omega arith,
       search rules,
-      fresh-more _ l.sites l.i ((l.i * site_size + site_size) - l.i * site_size) _ e room size l.invariant.2 k.fresh.ensures,
+      fresh-more _ l.sites l.i ((l.i * site_size + site_size) - l.i * site_size) _ e room size l.invariant.1 k.fresh.ensures,
     )
 
 pub returns : goal.returns
 returns c =
     let l = c.loop-i in
     let o = c in
-    started o.args.table l.i (omega arith) (l.invariant.1 ∙ o.requires.0) l.invariant.2 c.clear.ensures
+    started o.args.table l.i (omega arith) (l.invariant.0 ∙ o.requires.0) l.invariant.1 c.clear.ensures
