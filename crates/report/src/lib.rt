@@ -18,11 +18,9 @@ fn put_deliveries(out: &mut [u8], at: usize, site: &[u8], n: usize) -> usize
     ensures { Wrote out.new result out.old at (deliveries_text (deliveries_of n site.now)) × (result ≤ at + delivery_room * n) }
 {
     let mut end = at;
-    let mut k: usize = 0;
-    while k < n {
+    for k in 0..n {
         let delivery = layout::delivery_at(site, k);
         end = lines::put_delivery(out, end, delivery.command as usize, delivery.answer);
-        k += 1;
     }
     end
 }
@@ -58,12 +56,9 @@ pub fn put_site_lines(out: &mut [u8], at: usize, sites: &[u8], table: SiteTable)
     requires { AllPrintable table sites.now × (at + line_room * table.sites ≤ length out.old) }
     ensures { Wrote out.new result out.old at (lines_below table sites.now table.sites) × (result ≤ at + line_room * table.sites) }
 {
-    let n = table.sites;
     let mut end = at;
-    let mut i: usize = 0;
-    while i < n {
+    for i in 0..table.sites {
         end = put_line_at(out, end, sites, table, i);
-        i += 1;
     }
     end
 }

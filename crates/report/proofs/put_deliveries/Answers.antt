@@ -1,7 +1,7 @@
 -- `report::put_deliveries`: what was written is the text of the deliveries passed.
 -- Assumes nothing.
 use native.Mathlib.Omega.{arith}
-use mathlib.Core.Path.{◌≡◌, ◌∙◌}
+use mathlib.Core.Path.{◌∙◌}
 use Prim.Native.Nat.{◌≤◌}
 use lib.ListN.{length}
 use mir.Facts.{to_z-of_z}
@@ -16,7 +16,7 @@ use Rattle.report.proofs.put_deliveries.Goals as goal
 
 pub loop-k-init : goal.loop-k-init
 unfolding deliveries_of
-loop-k-init c = (omega arith, omega arith, omega arith, wrote_none _ _)
+loop-k-init c = (omega arith, omega arith, wrote_none _ _)
 
 pub put_delivery-end-requires : goal.put_delivery-end-requires
 put_delivery-end-requires c =
@@ -34,13 +34,7 @@ loop-k-preserved c =
     let inv = c.loop-k.invariant in
     let s = c.args.out.now in
     let h : c.args.at ≤ length s = omega arith in (
-      omega arith,
       omega (arith, w.end),
-      c.put_delivery-end.auto.out ∙ inv.2,
-      deliveries_more c.args.site.now c.loop-k.k h c.delivery_at-delivery.ensures inv.3 w,
+      c.put_delivery-end.auto.out ∙ inv.1,
+      deliveries_more c.args.site.now c.loop-k.k h c.delivery_at-delivery.ensures inv.2 w,
     )
-
-pub returns : goal.returns
-returns c =
-    let e : c.loop-k.k ≡ c.args.n = omega arith in
-    (rw e at c.loop-k.invariant.3, omega arith)

@@ -1,7 +1,7 @@
 -- `report::put_deliveries`: what was written is the text of the deliveries passed.
 -- Assumes nothing.
 use mathlib.Core.Path.{◌≡◌}
-use Prim.Native.Nat.{◌+◌, ◌*◌, ◌-◌, ◌≤◌}
+use Prim.Native.Nat.{◌+◌, ◌*◌, ◌≤◌}
 use lib.ListN.{length}
 use Rattle.print.specs.Print.{Wrote}
 use Rattle.lines.specs.Lines.{deliveries_text}
@@ -10,7 +10,4 @@ use Rattle.report.specs.Report.{delivery_room}
 use Rattle.report.proofs.put_deliveries.Given as goal
 
 abbrev pub invariant-loop-k : goal.invariant-loop-k
-invariant-loop-k l = (l.k ≤ l.n) × (l.end ≤ l.at + delivery_room * l.k) × (length l.out ≡ length l.initial.out) × Wrote l.out l.end l.initial.out l.at (deliveries_text (deliveries_of l.k l.site))
-
-abbrev pub decreases-loop-k : goal.decreases-loop-k
-decreases-loop-k l = l.n - l.k
+invariant-loop-k l = (l.end ≤ l.at + delivery_room * l.k) × (length l.out ≡ length l.initial.out) × Wrote l.out l.end l.initial.out l.at (deliveries_text (deliveries_of l.k l.site))
