@@ -1,14 +1,10 @@
 -- `fast::has_senders`: the invariant is that the senders so far are counted, and that they are too few.
 -- Rests on Judging.
-use mathlib.Core.Path.{◌≡◌, sym, ap, ◌∙◌}
-use Prim.Native.Nat.{ℕ}
+use mathlib.Core.Path.{sym, ap}
 use native.Mathlib.Omega.{arith}
 use borrow.Author.Rules.{rules}
-use Rattle.theory.specs.Sets.{count}
 use Rattle.theory.specs.Counting.{count_none}
-use Rattle.table.specs.Table.{max_sites}
 use Rattle.layout.specs.declared.Site.{Site}
-use Rattle.layout.specs.Layout.{heard_of}
 use Rattle.layout.proofs.Encode.{spanned}
 use Rattle.fast.proofs.Judging.{past-rows, sender_more, enough-senders, few_senders}
 use Rattle.fast.proofs.has_senders.Goals as goal
@@ -41,10 +37,3 @@ loop-sender-preserved c =
       sender_more a.site.now a.header.round a.m l.sender (omega arith) (omega arith) (omega arith) l.invariant.0 c.heard-set.ensures c.holds.ensures c.one-n.ensures.0,
       omega arith,
     )
-
-pub returns : goal.returns
-returns c =
-    let l = c.loop-sender in
-    let a = c.args in
-    let e : l.sender ≡ max_sites = omega arith in
-    few_senders a.site.now a.header.round a.m a.needed (l.invariant.0 ∙ ap (λ (n : ℕ). count n (λ j. heard_of a.site.now j a.header.round a.m)) e) l.invariant.1
