@@ -3,11 +3,12 @@
 use Prim.Native.Nat.{ℕ, zero, suc, ◌+◌, ◌*◌, ◌-◌, ◌/◌, ◌%◌, ◌^◌, ◌≤◌, ◌<◌}
 use mathlib.Core.Path.{◌≡◌, refl, sym, ap, ◌∙◌}
 use mathlib.Core.List.{List, [], ◌∷◌, ◌++◌, append_assoc, append-nil}
-use native.Mathlib.Nat.{pow-suc, div-lt_iff_lt-mul, add_assoc, mul_assoc, mul_comm}
+use native.Mathlib.Nat.{pow-suc, div-lt_iff_lt-mul, div-div-eq-div-mul, add_assoc, mul_assoc, mul_comm}
 use native.Mathlib.Omega.{arith}
 use lib.ListN.{length, take, drop, get_or, length-append, length-take, length-drop, take-append-drop}
 use lib.Seq.{drop-cons, sets, sets-eq, drop-drop, take_at, drop_at, take-append-le, drop-append-le, length-take-le, take_all}
 use borrow.Rule.Slice.PartMut.{put_mid}
+use Rattle.std.specs.Int.{byte_at, byte_worth, bytes_low_first, sum_through}
 use Rattle.wire.specs.Wire.{value, bytes, read_le, splice}
 
 pub length-bytes : (n x : ℕ) → length (bytes n x) ≡ n
@@ -135,12 +136,16 @@ module _ (s : List ℕ) (small : (i : ℕ) → get_or s i 0 < 256) where
   unfolding splice
   splice_same n at h = rw (length-bytes n (read_le n s at), append_assoc, peel n at h) (take-append-drop at s)
 
--- ---- a number in two parts
+-- The part from a position to the end.
+pub part_all : (s : List ℕ) (at : ℕ) → take (length s - at) (drop at s) ≡ drop at s
+part_all s at = take_all (length s - at) (drop at s) (omega (arith, length-drop at s))
+
+-- ---- the bytes of a number, and the number of its bytes, as the library has them
 
 next_power : (n x : ℕ) → 256 ^ suc n * x ≡ 256 * (256 ^ n * x)
 next_power n x = rw (pow-suc, mul_comm (256 ^ n) 256) (mul_assoc 256 (256 ^ n) x)
 
--- What is read in two parts is one number,
+-- What is read in two parts is one number.
 pub read_parts : (n m : ℕ) (s : List ℕ) (at : ℕ) → at + n ≤ length s → read_le (n + m) s at ≡ read_le n s at + 256 ^ n * read_le m s (at + n)
 read_parts zero m s at h =
     let q : at + 0 ≡ at = omega arith in
@@ -151,30 +156,42 @@ read_parts (suc n) m s at h =
     let z : suc n + m ≡ suc (n + m) = omega arith in
     rw (z, read-suc (n + m) s at (omega arith), q, read-suc n s at (omega arith), next_power) (let r = read_parts n m s (suc at) (omega arith) in omega arith)
 
--- and its bytes are those of both parts.
-bytes_parts : (n m low high : ℕ) → low < 256 ^ n → bytes (n + m) (low + 256 ^ n * high) ≡ bytes n low ++ bytes m high
+-- The lowest k bytes from byte i on are the bytes of what is left above them.
+low_bytes : (i k x : ℕ) → bytes_low_first i k x ≡ bytes k (x / 256 ^ i)
 unfolding bytes
-bytes_parts zero m low high h =
-    let q : low + 256 ^ 0 * high ≡ high = omega arith in
-    let z : 0 + m ≡ m = omega arith in
-    rw (z, q) refl
-bytes_parts (suc n) m low high h =
-    let l : low / 256 < 256 ^ n = (div-lt_iff_lt-mul {k = 256} (omega arith)).1 (rw pow-suc at h) in
-    let p = next_power n high in
-    let first : (low + 256 ^ suc n * high) % 256 ≡ low % 256 = omega arith in
-    let rest : (low + 256 ^ suc n * high) / 256 ≡ low / 256 + 256 ^ n * high = omega arith in
-    let z : suc n + m ≡ suc (n + m) = omega arith in
-    rw (z, first, rest) (ap (λ (l : List ℕ). (low % 256) ∷ l) (bytes_parts n m (low / 256) high l))
+low_bytes i zero x = refl
+low_bytes i (suc k) x =
+    let next : x / 256 ^ suc i ≡ x / 256 ^ i / 256 = ap (λ (m : ℕ). x / m) (pow-suc 256 i) ∙ sym (div-div-eq-div-mul x (256 ^ i) 256) in
+    (λ j. first i j ∷ (low_bytes (suc i) k x ∙ ap (bytes k) next) j)
+  where
+    first : (i : ℕ) → byte_at i x ≡ x / 256 ^ i % 256
+    first zero = let q : x / 256 ^ 0 ≡ x = omega arith in ap (λ (m : ℕ). m % 256) (sym q)
+    first (suc i) = refl
 
--- So a number written in two parts is written.
-pub write_parts : (n m low high x : ℕ) (s : List ℕ) (at : ℕ) {a b : List ℕ} → at + (n + m) ≤ length s → low < 256 ^ n → low + 256 ^ n * high ≡ x
-    → a ≡ splice s at (bytes n low) → b ≡ splice a (at + n) (bytes m high) → b ≡ splice s at (bytes (n + m) x)
-write_parts n m low high x s at h l e ea eb =
-    eb
-    ∙ (λ i. splice (ea i) (at + sym (length-bytes n low) i) (bytes m high))
-    ∙ splice_two s at (bytes n low) (bytes m high) (omega arith)
-    ∙ ap (splice s at) (sym (bytes_parts n m low high l) ∙ ap (bytes (n + m)) e)
+-- A part of a list replaced by the lowest bytes of a number.
+pub part_written : (n x : ℕ) (s : List ℕ) (at : ℕ) {part : List ℕ} → part ≡ bytes_low_first 0 n x → put_mid at (at + n - at) s part ≡ splice s at (bytes n x)
+part_written n x s at {part} e =
+    let q : x / 256 ^ 0 ≡ x = omega arith in
+    let p : part ≡ bytes n x = e ∙ low_bytes 0 n x ∙ ap (bytes n) q in
+    mid_splice at (at + n - at) s part (ap length p ∙ length-bytes n x ∙ omega arith) ∙ ap (splice s at) p
 
--- The part from a position to the end.
-pub part_all : (s : List ℕ) (at : ℕ) → take (length s - at) (drop at s) ≡ drop at s
-part_all s at = take_all (length s - at) (drop at s) (omega (arith, length-drop at s))
+-- The worth of the first bytes together is what is read there.
+worth_read : (k : ℕ) (s : List ℕ) → k < length s → sum_through (λ i. byte_worth i (get_or s i 0)) k ≡ read_le (suc k) s 0
+worth_read zero s h = sym (read_one s 0 h)
+worth_read (suc k) s h =
+    let q : suc k + 1 ≡ suc (suc k) = omega arith in
+    let z : 0 + suc k ≡ suc k = omega arith in
+    let one = read_one s (suc k) (omega arith) in
+    let parts = rw z at (read_parts (suc k) 1 s 0 (omega arith)) in
+    let here : get_or s (suc k) 0 * 256 ^ suc k ≡ 256 ^ suc k * read_le 1 s (suc k) = mul_comm (get_or s (suc k) 0) (256 ^ suc k) ∙ ap (λ (m : ℕ). 256 ^ suc k * m) (sym one) in
+    (λ i. worth_read k s (omega arith) i + here i) ∙ sym (ap (λ (m : ℕ). read_le m s 0) (sym q) ∙ parts)
+
+-- A part of a list as a number.
+pub part_read : (k : ℕ) (s : List ℕ) (at : ℕ) {part : List ℕ} → at + suc k ≤ length s → part ≡ take (at + suc k - at) (drop at s)
+    → sum_through (λ i. byte_worth i (get_or part i 0)) k ≡ read_le (suc k) s at
+unfolding read_le
+part_read k s at {part} h e =
+    let q : at + suc k - at ≡ suc k = omega arith in
+    let p : part ≡ take (suc k) (drop at s) = e ∙ ap (λ (m : ℕ). take m (drop at s)) q in
+    let l : length part ≡ suc k = ap length p ∙ length-take-le (suc k) (drop at s) (omega (arith, length-drop at s)) in
+    worth_read k part (omega arith) ∙ ap value (take_all (suc k) part (omega arith) ∙ p)

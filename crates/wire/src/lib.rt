@@ -1,89 +1,148 @@
-// Numbers of 1, 2, 4 and 8 bytes in lent bytes, least significant byte first.
+// Numbers in lent bytes, least significant byte first.
 #![tactic(auto)]
 
-ghost use Rattle.std.specs.Prelude.{◌≡◌, ◌+◌, ◌≤◌, ◌<◌, length, replicate};
+ghost use Rattle.std.specs.Prelude.{◌≡◌, ◌+◌, ◌≤◌, ◌<◌, ℕ, length, replicate};
+ghost use Rattle.std.specs.Int.{w16, w32, cast_signed, cast_unsigned};
 ghost use Rattle.wire.specs.Wire.{bytes, read_le, splice};
 
-// The byte at a position.
-pub fn get1(s: &[u8], at: usize) -> u8
-    requires { at + 1 ≤ length s.now }
-    ensures { result ≡ read_le 1 s.now at }
-{
-    s[at]
+// A number that takes a fixed number of bytes, which hold a word.
+pub trait Number {
+    // How many.
+    ghost width: { ℕ };
+
+    // The number that a word of so many bytes stands for.
+    ghost of_word: { ℕ → Self };
+
+    // The word that stands for a number.
+    ghost word: { Self → ℕ };
+
+    // The number at a position.
+    fn get(s: &[u8], at: usize) -> Self
+        requires { at + width ≤ length s.now }
+        ensures { result ≡ of_word (read_le width s.now at) };
+
+    // The number is written at a position.
+    fn put(self, s: &mut [u8], at: usize)
+        requires { at + width ≤ length s.old }
+        ensures { s.new ≡ splice s.old at (bytes width (word self)) };
 }
 
-// The number of two bytes at a position.
-pub fn get2(s: &[u8], at: usize) -> u16
-    requires { at + 2 ≤ length s.now }
-    ensures { result ≡ read_le 2 s.now at }
-{
-    let low = get1(s, at) as u16;
-    let high = get1(s, at + 1) as u16;
-    low + 256 * high
+impl Number for u8 {
+    ghost width = { 1 };
+
+    ghost of_word = { λ n. n };
+
+    ghost word = { λ x. x };
+
+    fn get(s: &[u8], at: usize) -> u8 {
+        s[at]
+    }
+
+    fn put(self, s: &mut [u8], at: usize) {
+        s[at] = self;
+    }
 }
 
-// The number of four bytes at a position.
-pub fn get4(s: &[u8], at: usize) -> u32
-    requires { at + 4 ≤ length s.now }
-    ensures { result ≡ read_le 4 s.now at }
-{
-    let low = get2(s, at) as u32;
-    let high = get2(s, at + 2) as u32;
-    low + 65536 * high
+impl Number for u16 {
+    ghost width = { 2 };
+
+    ghost of_word = { λ n. n };
+
+    ghost word = { λ x. x };
+
+    fn get(s: &[u8], at: usize) -> u16 {
+        u16::from_le_bytes(s[at..at + 2].try_into().unwrap())
+    }
+
+    fn put(self, s: &mut [u8], at: usize) {
+        s[at..at + 2].copy_from_slice(&self.to_le_bytes());
+    }
 }
 
-// The number of eight bytes at a position.
-pub fn get8(s: &[u8], at: usize) -> u64
-    requires { at + 8 ≤ length s.now }
-    ensures { result ≡ read_le 8 s.now at }
+impl Number for u32 {
+    ghost width = { 4 };
+
+    ghost of_word = { λ n. n };
+
+    ghost word = { λ x. x };
+
+    fn get(s: &[u8], at: usize) -> u32 {
+        u32::from_le_bytes(s[at..at + 4].try_into().unwrap())
+    }
+
+    fn put(self, s: &mut [u8], at: usize) {
+        s[at..at + 4].copy_from_slice(&self.to_le_bytes());
+    }
+}
+
+impl Number for u64 {
+    ghost width = { 8 };
+
+    ghost of_word = { λ n. n };
+
+    ghost word = { λ x. x };
+
+    fn get(s: &[u8], at: usize) -> u64 {
+        u64::from_le_bytes(s[at..at + 8].try_into().unwrap())
+    }
+
+    fn put(self, s: &mut [u8], at: usize) {
+        s[at..at + 8].copy_from_slice(&self.to_le_bytes());
+    }
+}
+
+// Two's complement.
+impl Number for i16 {
+    ghost width = { 2 };
+
+    ghost of_word = { cast_signed w16 };
+
+    ghost word = { cast_unsigned w16 };
+
+    fn get(s: &[u8], at: usize) -> i16 {
+        u16::get(s, at).cast_signed()
+    }
+
+    fn put(self, s: &mut [u8], at: usize) {
+        self.cast_unsigned().put(s, at);
+    }
+}
+
+impl Number for i32 {
+    ghost width = { 4 };
+
+    ghost of_word = { cast_signed w32 };
+
+    ghost word = { cast_unsigned w32 };
+
+    fn get(s: &[u8], at: usize) -> i32 {
+        u32::get(s, at).cast_signed()
+    }
+
+    fn put(self, s: &mut [u8], at: usize) {
+        self.cast_unsigned().put(s, at);
+    }
+}
+
+// The number at a position.
+pub fn get<N: Number>(s: &[u8], at: usize) -> N
+    requires { at + N.width ≤ length s.now }
+    ensures { result ≡ N.of_word (read_le N.width s.now at) }
 {
-    let low = get4(s, at) as u64;
-    let high = get4(s, at + 4) as u64;
-    low + 4294967296 * high
+    N::get(s, at)
+}
+
+// A number is written at a position.
+pub fn put<N: Number>(s: &mut [u8], at: usize, x: N)
+    requires { at + N.width ≤ length s.old }
+    ensures { s.new ≡ splice s.old at (bytes N.width (N.word x)) }
+{
+    x.put(s, at);
 }
 
 // Every byte becomes 0.
 pub fn clear(s: &mut [u8])
     ensures { s.new ≡ replicate (length s.old) 0 }
 {
-    let mut k = 0;
-    while k < s.len() {
-        s[k] = 0;
-        k += 1;
-    }
-}
-
-// A byte is written at a position.
-pub fn put1(s: &mut [u8], at: usize, x: u8)
-    requires { at + 1 ≤ length s.old }
-    ensures { s.new ≡ splice s.old at (bytes 1 x) }
-{
-    s[at] = x;
-}
-
-// A number is written as two bytes at a position.
-pub fn put2(s: &mut [u8], at: usize, x: u16)
-    requires { at + 2 ≤ length s.old }
-    ensures { s.new ≡ splice s.old at (bytes 2 x) }
-{
-    put1(s, at, (x % 256) as u8);
-    put1(s, at + 1, (x / 256) as u8);
-}
-
-// A number is written as four bytes at a position.
-pub fn put4(s: &mut [u8], at: usize, x: u32)
-    requires { at + 4 ≤ length s.old }
-    ensures { s.new ≡ splice s.old at (bytes 4 x) }
-{
-    put2(s, at, (x % 65536) as u16);
-    put2(s, at + 2, (x / 65536) as u16);
-}
-
-// A number is written as eight bytes at a position.
-pub fn put8(s: &mut [u8], at: usize, x: u64)
-    requires { at + 8 ≤ length s.old }
-    ensures { s.new ≡ splice s.old at (bytes 8 x) }
-{
-    put4(s, at, (x % 4294967296) as u32);
-    put4(s, at + 4, (x / 4294967296) as u32);
+    s.fill(0);
 }

@@ -2,7 +2,7 @@ use native.Mathlib.Omega.{arith}
 use lib.ListN.{length}
 use Prim.Native.Nat.{◌+◌, ◌≤◌}
 use Rattle.wire.proofs.Laws.{read_one}
-use Rattle.wire.proofs.get1.Goals as goal
+use Rattle.wire.proofs.U8Number.get.Goals as goal
 
 pub returns : goal.returns
 returns c =
