@@ -5,22 +5,21 @@ use mathlib.Core.Path.{◌≡◌, refl, sym, ap, subst, ◌∙◌}
 use mathlib.Core.Bool.{Bool, true, false, cond}
 use native.Mathlib.Omega.{arith}
 use native.Mathlib.Nat.{lt_of_lt_of_le}
-use lib.Pow.{pow_mono}
 use native.Mathlib.Decide.{dec_lt}
 use borrow.Author.Tests.{ltb-true, lt-ltb, le-ltb}
-use lib.Dec.{T, leb, leb→le}
+use lib.Dec.{T}
 use mathlib.Core.List.{List}
 use lib.ListN.{length, get_or}
 use Rattle.wire.specs.Wire.{bytes, read_le, splice}
 use Rattle.wire.proofs.Laws.{read_same, read_lt}
-use lib.IntN.{ℤ, pos, negsuc, nat_abs, sub_ℕ, ◌+ℤ◌, ◌-ℤ◌}
-use lib.Signed.{mag, lt_z, non_neg}
+use lib.IntN.{ℤ, pos, negsuc, sub_ℕ, ◌+ℤ◌, ◌-ℤ◌}
+use lib.Signed.{mag, lt_z}
 use mir.Syntax.{Width}
-use mir.Val.{Fits, SFits, bits, hbits, sel, to_z, of_z}
+use mir.Val.{SFits, bits, hbits, sel, to_z, of_z}
 use mir.ValLaws.{half_full}
-use mir.Facts.{to_z-of_z, of_z-to_z, to_z_pos, Fits-of_z, sfits_widen}
+use mir.Facts.{to_z-of_z, of_z-to_z, Fits-of_z}
 
--- A value in the code is the bits of a number. One equation to the exact number is carried along, and these four use it.
+-- A value in the code is the bits of a number. One equation to the exact number is carried along, and these three use it.
 
 -- What equals a number that fits, fits.
 pub fit : {w : Width} {x z : ℤ} → x ≡ z → SFits w z → SFits w x
@@ -29,10 +28,6 @@ fit {w} e f = subst (SFits w) (sym e) f
 -- The bits of what equals a number that fits stand for that number.
 pub kept : {w : Width} {x z : ℤ} → x ≡ z → SFits w z → to_z w (of_z w x) ≡ z
 kept {w} e f = ap (λ (y : ℤ). to_z w (of_z w y)) e ∙ to_z-of_z f
-
--- What a cast to an unsigned type asks.
-pub unsigned : {w : Width} {x : ℤ} (n : ℕ) → x ≡ pos n → n < 2 ^ bits w → T (non_neg x) × Fits w (nat_abs x)
-unsigned {w} n e h = subst (λ (y : ℤ). T (non_neg y) × Fits w (nat_abs y)) (sym e) (tt, record { fits = h })
 
 -- A signed result that is handed on.
 pub returned : (w : Width) {x z : ℤ} → mag x < 2 ^ hbits w → x ≡ z → to_z w (of_z w x) ≡ z
@@ -77,18 +72,6 @@ sfits_diff w a b {m} p q h =
 pub to_z_high : (w : Width) (n : ℕ) → 2 ^ hbits w ≤ n → to_z w n ≡ negsuc (2 ^ bits w - suc n)
 to_z_high w n h = ap (λ (t : Bool). sel t (pos n) (negsuc (2 ^ bits w - suc n))) (le-ltb n (2 ^ hbits w) h)
 
--- A word of the width w is a small number at a width v of more bits.
-pub wider : {w : Width} {n : ℕ} (v : Width) → T (leb (bits w) (hbits v)) → Fits w n → n < 2 ^ hbits v
-wider {w} v t f = lt_of_lt_of_le f.fits (pow_mono (leb→le (bits w) (hbits v) t))
-
--- The signed number of a word with its top bit set, computed at a wider width.
-pub upper : (w v : Width) {n : ℕ} → T (leb (bits w) (hbits v)) → 2 ^ hbits w ≤ n → Fits w n → to_z v n -ℤ pos (2 ^ bits w) ≡ to_z w n
-upper w v {n} t h f =
-    ap (λ (z : ℤ). z -ℤ pos (2 ^ bits w)) (to_z_pos v (wider v t f))
-    ∙ diff n (2 ^ bits w)
-    ∙ sub_below n (2 ^ bits w) f.fits
-    ∙ sym (to_z_high w n h)
-
 -- The word of a number below 0 is the number plus 2 ^ bits w; of any other it is the number itself.
 pub word_below : (w : Width) (z : ℤ) → SFits w z → lt_z z (pos 0) ≡ true → z +ℤ pos (2 ^ bits w) ≡ pos (of_z w z)
 word_below w (pos n) f h = let k = ltb-true n 0 h in absurd (omega arith)
@@ -97,17 +80,6 @@ word_below w (negsuc n) f h = sub_above (2 ^ bits w) (suc n) (half_full w f.sfit
 pub word_above : (w : Width) (z : ℤ) → lt_z z (pos 0) ≡ false → z ≡ pos (of_z w z)
 word_above w (pos n) h = refl
 word_above w (negsuc n) h = absurd (subst T h tt)
-
--- The size of a number below 0.
-pub negated : (z : ℤ) → lt_z z (pos 0) ≡ true → pos 0 -ℤ z ≡ pos (nat_abs z)
-negated (pos n) h = let k = ltb-true n 0 h in absurd (omega arith)
-negated (negsuc n) h = let e : 0 + suc n ≡ suc n = omega arith in ap pos e
-
--- The word of a number below 0, computed at a wider width.
-pub lower : (w v : Width) {z : ℤ} → T (leb (hbits w) (hbits v)) → SFits w z → lt_z (to_z w (of_z w z)) (pos 0) ≡ true → to_z v (of_z v (to_z w (of_z w z))) +ℤ pos (2 ^ bits w) ≡ pos (of_z w z)
-lower w v {z} t f h =
-    ap (λ (y : ℤ). y +ℤ pos (2 ^ bits w)) (kept {w = v} (to_z-of_z f) (sfits_widen t f))
-    ∙ word_below w z f (ap (λ (y : ℤ). lt_z y (pos 0)) (sym (to_z-of_z f)) ∙ h)
 
 -- Signed numbers and words are the same, both ways.
 pub signed_word : {w : Width} {z : ℤ} → SFits w z → to_z w (of_z w z) ≡ z
