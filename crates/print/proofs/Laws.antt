@@ -3,17 +3,16 @@
 use mathlib.Core.Bool.{true, false}
 use mathlib.Core.Path.{◌≡◌, refl, sym, ap, subst, ◌∙◌}
 use mathlib.Core.List.{List, [], ◌∷◌, ◌++◌, append_assoc}
-use Prim.Native.Nat.{ℕ, zero, suc, ◌+◌, ◌-◌, ◌*◌, ◌/◌, ◌%◌, ◌^◌, ◌≤◌, ◌<◌}
+use Prim.Native.Nat.{ℕ, zero, suc, ◌+◌, ◌-◌, ◌/◌, ◌%◌, ◌^◌, ◌≤◌, ◌<◌}
 use native.Mathlib.Nat.{pow-suc, pow-le-pow_right, div-lt_iff_lt-mul, le-div_iff_mul-le}
 use native.Mathlib.Decide.{dec_lt}
-use native.Mathlib.Numerals.{add-one}
 use native.Mathlib.Omega.{arith}
 use borrow.Author.Tests.{le-leb, lt-leb, ltb-true}
 use lib.Dec.{T}
 use lib.IntN.{ℤ, pos, negsuc, nat_abs}
 use lib.Signed.{lt_z}
-use lib.ListN.{length, take, drop, get_or, set, length-append}
-use lib.Seq.{set_split, drop_at, take_all, length-take-le, paste, paste-suc, take-set-le}
+use lib.ListN.{length, take, drop, set, length-append}
+use lib.Seq.{set_split, drop_at, length-take-le, take-set-le}
 use Rattle.wire.specs.Wire.{splice}
 use Rattle.wire.proofs.Laws.{splice-none, splice_two}
 use Rattle.print.specs.Ascii.{ascii}
@@ -71,17 +70,6 @@ width-past (suc n) x h =
     let g : 10 ^ n ≤ x / 10 = (le-div_iff_mul-le {k = 10} (omega arith)).1 (rw pow-suc at h) in
     let p = powers 0 n (omega arith) in
     omega (arith, width-more x (omega (arith, p, g)), width-past n (x / 10) g)
-
--- One below it, for an n above 0, has at most n.
-pub width-within : (n x : ℕ) → 1 ≤ n → x < 10 ^ n → width x ≤ n
-width-within zero x l h = absurd (omega arith)
-width-within (suc n) x l h = width_short n x h
-
--- The next power of ten, of which 10 ^ 19 is the last that fits a word.
-pub next_power : (n : ℕ) {p : ℕ} → p ≡ 10 ^ n → n < 19 → (p * 10 ≡ 10 ^ (n + 1)) × (p * 10 ≤ 10 ^ 19)
-next_power n {p} e l =
-    let q : p * 10 ≡ 10 ^ suc n = ap (λ (m : ℕ). m * 10) e ∙ sym (pow-suc 10 n) in
-    (q ∙ ap (λ (m : ℕ). 10 ^ m) (sym (add-one n)), subst (λ (m : ℕ). m ≤ 10 ^ 19) (sym q) (powers (suc n) 19 (omega arith)))
 
 pub length_digits : (n x : ℕ) → length (digits n x) ≡ n
 unfolding digits
@@ -142,16 +130,6 @@ pub digits-none : (s : List ℕ) (at i x : ℕ) → i ≡ 0 → splice s at (dig
 unfolding digits
 digits-none s at zero x h = splice-none s at
 digits-none s at (suc i) x h = absurd (omega arith)
-
--- ---- the copy of a text
-
-pub copy_more : (d : List ℕ) (at : ℕ) (t : List ℕ) (i : ℕ) {s : List ℕ} → at + i < length d → i < length t → s ≡ paste d at t i
-    → set s (at + i) (get_or t i 0) ≡ paste d at t (i + 1)
-copy_more d at t i h g e = ap (λ (l : List ℕ). set l (at + i) (get_or t i 0)) e ∙ paste-suc d at t i 0 h g ∙ ap (paste d at t) (sym (add-one i))
-
-pub copy_all : (d : List ℕ) (at : ℕ) (t : List ℕ) (i : ℕ) {s : List ℕ} → i ≡ length t → s ≡ paste d at t i → s ≡ splice d at t
-unfolding splice
-copy_all d at t i h e = e ∙ rw (take_all i t (omega arith), h) refl
 
 -- ---- texts one after another
 

@@ -1,35 +1,14 @@
--- `print::digit_count`: the power of ten grows until it is past the number.
+-- `print::digit_count`: a number has one digit more than the exponent of the greatest power of ten that it reaches; 0 has one.
 -- Assumes nothing.
-use native.Mathlib.Omega.{arith}
-use mathlib.Core.Path.{refl}
-use Rattle.print.proofs.Laws.{width_some, width-past, width-within, next_power}
+use Rattle.std.proofs.Common.{◌≡◌, ℕ, ◌+◌, ◌*◌, ◌^◌, ◌≤◌, ◌<◌, Option, Some, None, ap, ◌∙◌, arith, unwrap_or, IfSome, IfNone}
+use native.Mathlib.Nat.{pow-succ'}
+use Rattle.print.specs.Print.{width}
+use Rattle.print.proofs.Laws.{width_one, width-past, width_short}
 use Rattle.print.proofs.digit_count.Goals as goal
 
-pub loop-power-init : goal.loop-power-init
-loop-power-init c = (refl, omega arith, omega arith, width_some c.args.x)
-
-pub returns-then-n-eq-MOST_DIGITS : goal.returns-then-n-eq-MOST_DIGITS
-returns-then-n-eq-MOST_DIGITS c =
-    let l = c.loop-power in
-    let x = c.args.x in
-    omega (arith, l.invariant.2, width-past l.n x (omega (arith, l.invariant.0, c.loop-power-test.true)), width-within 20 x (omega arith) (omega arith))
-
-pub loop-power-smaller : goal.loop-power-smaller
-loop-power-smaller c = omega (arith, c.loop-power.invariant.2)
-
-pub loop-power-preserved : goal.loop-power-preserved
-loop-power-preserved c =
-    let l = c.loop-power in
-    let x = c.args.x in
-    ((next_power l.n l.invariant.0 (omega (arith, l.invariant.2))).0, omega arith, omega (arith, l.invariant.2), omega (arith, width-past l.n x (omega (arith, l.invariant.0, c.loop-power-test.true))))
+counted : (x : ℕ) (o : Option ℕ) → IfNone o (x ≡ 0) → IfSome o (λ k. 10 ^ k ≤ x) → IfSome o (λ k. x < 10 * 10 ^ k) → unwrap_or o 0 + 1 ≡ width x
+counted x None e h l = omega (arith, width_one x (omega arith))
+counted x (Some k) e h l = omega (arith, width-past k x h, width_short k x (omega (arith, pow-succ' 10 k)))
 
 pub returns : goal.returns
-returns c =
-    let l = c.loop-power in
-    let x = c.args.x in
-    omega (arith, l.invariant.3, width-within l.n x l.invariant.1 (omega (arith, l.invariant.0)))
-
-pub overflow_mul-power : goal.overflow_mul-power
-overflow_mul-power c =
-    let l = c.loop-power in
-    record { fits = omega (arith, (next_power l.n l.invariant.0 (omega (arith, l.invariant.2))).1) }
+returns c = let e = c.checked_ilog10.ensures in ap (λ (n : ℕ). n + 1) c.unwrap_or.ensures ∙ counted c.args.x c.checked_ilog10.result e.none e.power_le e.next_power_gt

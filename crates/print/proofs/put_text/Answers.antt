@@ -1,17 +1,14 @@
--- `print::put_text`: a copy, byte by byte.
+-- `print::put_text`: the text takes the place of as many bytes.
 -- Assumes nothing.
 use native.Mathlib.Omega.{arith}
-use mathlib.Core.Path.{refl}
-use lib.ListN.{length-set}
-use lib.Seq.{paste-zero}
-use Rattle.print.proofs.Laws.{copy_more, copy_all}
+use mathlib.Core.Path.{refl, ap, ◌∙◌}
+use lib.ListN.{length}
+use Rattle.wire.specs.Wire.{splice}
+use Rattle.wire.proofs.Laws.{mid_splice}
 use Rattle.print.proofs.put_text.Goals as goal
 
-pub loop-i-init : goal.loop-i-init
-loop-i-init c = (omega arith, refl, paste-zero c.args.out.now c.args.at c.args.text.now)
-
-pub loop-i-preserved : goal.loop-i-preserved
-loop-i-preserved c = let a = c.args in let l = c.loop-i in (omega arith, simp length-set l.invariant.1, copy_more a.out.now a.at a.text.now l.i (omega arith) (omega arith) l.invariant.2)
-
 pub returns : goal.returns
-returns c = let a = c.args in let l = c.loop-i in record { end = refl; bytes = copy_all a.out.now a.at a.text.now l.i (omega arith) l.invariant.2 }
+returns c =
+    let a = c.args in
+    let e = c.copy_from_slice.ensures.after in
+    record { end = refl; bytes = mid_splice a.at _ a.out.now c.copy_from_slice.new.self (omega (arith, ap length e)) ∙ ap (splice a.out.now a.at) e }
