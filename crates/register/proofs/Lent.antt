@@ -7,13 +7,13 @@ use mathlib.Core.List.{List, ◌++◌, append-nil}
 use Prim.Native.Nat.{ℕ, zero, suc, ◌+◌, ◌*◌, ◌^◌, ◌≤◌, ◌<◌}
 use native.Mathlib.Decide.{dec_lt}
 use native.Mathlib.Omega.{arith}
-use borrow.Author.Tests.{le-leb, lt-leb, ltb-true, ltb-false, lt-ltb, le-ltb, eqb-true, eqb-false, eq-eqb, ne_eqb}
+use borrow.Author.Tests.{ltb-true, ltb-false, lt-ltb, le-ltb, eqb-true, eqb-false, eq-eqb, ne_eqb}
 use lib.Dec.{leb, ltb, eqb, lit<, lit≤}
 use lib.IntN.{ℤ}
 use lib.ListN.{length, take, drop, get_or, length-append, take-append-drop}
 use lib.Seq.{drop-drop, take-add}
 use Rattle.theory.specs.Sets.{pick, all}
-use Rattle.theory.specs.Counting.{last_or_below, all_more, all-not}
+use Rattle.theory.specs.Counting.{last_or_below, all_ext}
 use Rattle.wire.specs.Wire.{bytes, read_le, splice}
 use Rattle.wire.proofs.Laws.{length-bytes, length-splice, read_same, read-before, read-after, read_lt, splice_two, part_before, drop-after, read-bytes}
 use Rattle.register.specs.declared.Bike.{Bike}
@@ -250,17 +250,7 @@ view-within b at h = record { reading = λ k. in_test k (ltb k bikes) refl }
     in_test k true e = test_within (register_of b at) h k (ltb-true k bikes e)
     in_test k false e = subst (λ (t : Bool). (pick t (bike_in b (at + bike_size * k)) (bike 0 0)).reading ≤ max_reading) (sym e) (lit≤ tt)
 
--- The readings of the first n bikes are in range.
-abbrev pub within : List ℕ → ℕ → ℕ → Bool
-within b at n = all n (λ k. leb (register_of b at k).reading max_reading)
-
--- One turn of the loop that judges the readings, where the reading x is in range and where it is not.
-pub judged_more : (b : List ℕ) (at n : ℕ) {x : ℕ} → n < bikes → within b at n ≡ true → x ≡ read_le 4 b (at + bike_size * n) → x ≤ max_reading → within b at (n + 1) ≡ true
-judged_more b at n h w e l =
-    all_more n (λ k. leb (register_of b at k).reading max_reading) w
-    (ap (λ (y : Bike). leb y.reading max_reading) (sym (bike-read b at n {y = read_le 4 b (at + bike_size * n + 4)} h e refl)) ∙ le-leb _ max_reading l)
-
-pub judged_not : (b : List ℕ) (at n : ℕ) {x : ℕ} → n < bikes → x ≡ read_le 4 b (at + bike_size * n) → max_reading < x → false ≡ is_within (register_of b at)
-judged_not b at n h e l =
-    sym (all-not bikes (λ k. leb (register_of b at k).reading max_reading) n h
-    (ap (λ (y : Bike). leb y.reading max_reading) (sym (bike-read b at n {y = read_le 4 b (at + bike_size * n + 4)} h e refl)) ∙ lt-leb _ max_reading l))
+-- The readings are in range where each of them is, tested where it stands.
+pub within_read : (b : List ℕ) (at : ℕ) → all bikes (λ k. leb (read_le 4 b (at + bike_size * k)) max_reading) ≡ is_within (register_of b at)
+within_read b at =
+    all_ext bikes _ _ (λ k h. ap (λ (e : Bike). leb e.reading max_reading) (bike-read b at k {y = read_le 4 b (at + bike_size * k + 4)} h refl refl))

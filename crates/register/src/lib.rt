@@ -40,14 +40,10 @@ pub fn bike_of(command: Command) -> u8
     ensures { result ≡ bike_of command }
 {
     match command {
-        Command::Add { bike, km: _ } => bike,
-        Command::Fit {
-            bike,
-            dash: _,
-            start: _,
-        } => bike,
-        Command::Read { bike } => bike,
-        Command::Trim { bike, km: _ } => bike,
+        Command::Add { bike, .. }
+        | Command::Fit { bike, .. }
+        | Command::Read { bike }
+        | Command::Trim { bike, .. } => bike,
     }
 }
 
@@ -92,20 +88,16 @@ fn changed(command: Command, before: Bike) -> Bike
     ensures { result ≡ change command before }
 {
     match command {
-        Command::Add { bike: _, km } => Bike {
+        Command::Add { km, .. } => Bike {
             reading: added(before.reading, km),
             dash: before.dash,
         },
-        Command::Fit {
-            bike: _,
-            dash,
-            start,
-        } => Bike {
+        Command::Fit { dash, start, .. } => Bike {
             reading: start,
             dash,
         },
-        Command::Read { bike: _ } => before,
-        Command::Trim { bike: _, km } => Bike {
+        Command::Read { .. } => before,
+        Command::Trim { km, .. } => Bike {
             reading: trimmed(before.reading, km),
             dash: before.dash,
         },
@@ -118,14 +110,9 @@ fn reply_to(command: Command, before: Bike) -> i32
     ensures { result ≡ reply command before }
 {
     match command {
-        Command::Add { bike: _, km: _ } => 0,
-        Command::Fit {
-            bike: _,
-            dash: _,
-            start: _,
-        } => before.reading as i32,
-        Command::Read { bike: _ } => before.reading as i32,
-        Command::Trim { bike: _, km } => difference(trimmed(before.reading, km), before.reading),
+        Command::Add { .. } => 0,
+        Command::Fit { .. } | Command::Read { .. } => before.reading as i32,
+        Command::Trim { km, .. } => difference(trimmed(before.reading, km), before.reading),
     }
 }
 
@@ -135,8 +122,8 @@ pub fn bike_at(register: &[u8], at: usize, bike: usize) -> Bike
     ensures { result ≡ register_of register.now at bike }
 {
     let place = at + Bike::SIZE * bike;
-    let reading = wire::get4(register, place);
-    let dash = wire::get4(register, place + 4);
+    let reading = wire::get(register, place);
+    let dash = wire::get(register, place + 4);
     Bike { reading, dash }
 }
 
@@ -145,8 +132,8 @@ fn put_bike(register: &mut [u8], place: usize, bike: Bike)
     requires { place + bike_size ≤ length register.old }
     ensures { register.new ≡ splice register.old place (bike_bytes bike) }
 {
-    wire::put4(register, place, bike.reading);
-    wire::put4(register, place + 4, bike.dash);
+    wire::put(register, place, bike.reading);
+    wire::put(register, place + 4, bike.dash);
 }
 
 // Executes a command on the lent register that starts at a position, and answers.
@@ -166,13 +153,8 @@ pub fn judge(register: &[u8], at: usize) -> bool
     requires { at + register_size ≤ length register.now }
     ensures { result ≡ is_within (register_of register.now at) }
 {
-    let mut bike = 0;
-    while bike < Bike::COUNT {
-        let reading = wire::get4(register, at + Bike::SIZE * bike);
-        if reading > Bike::MAX_READING {
-            return false;
-        }
-        bike += 1;
-    }
-    true
+    (0..Bike::COUNT).all(|bike| {
+        let reading: u32 = wire::get(register, at + Bike::SIZE * bike);
+        reading <= Bike::MAX_READING
+    })
 }

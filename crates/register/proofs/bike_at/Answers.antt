@@ -7,4 +7,4 @@ use Rattle.register.proofs.bike_at.Goals as goal
 pub returns : goal.returns
 returns c =
     let a = c.args in
-    bike-read a.register.now a.at a.bike (omega arith) c.get4-reading.ensures c.get4-dash.ensures
+    bike-read a.register.now a.at a.bike (omega arith) c.get-reading.ensures c.get-dash.ensures

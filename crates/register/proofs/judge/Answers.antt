@@ -1,31 +1,36 @@
--- `register::judge`: the invariant is that the readings so far are in range.
+-- `register::judge`: each reading is tested as the definition tests it.
 -- Assumes nothing.
-use mathlib.Core.Path.{◌≡◌, sym, ap, ◌∙◌}
-use Prim.Native.Nat.{ℕ}
-use native.Mathlib.Omega.{arith}
-use borrow.Author.Rules.{rules}
-use Rattle.theory.specs.Counting.{all_none}
-use Rattle.register.specs.Register.{bikes}
-use Rattle.register.proofs.Lent.{within, judged_more, judged_not}
+use Rattle.std.proofs.Common.{◌≡◌, Bool, true, false, ℕ, ◌+◌, ◌*◌, ◌<◌, leb, length, get_or, MatchBool, refl, sym, subst, ◌∙◌, arith, rules, tests}
+use Rattle.std.specs.List.{AllWithin, HoldsAt, range_with_len}
+use Rattle.std.proofs.lemmas.Iterator.{cases_from_all, YieldsList-from_range}
+use Rattle.std.proofs.lemmas.List.FromFn.{length-range_with_len, get_or-range_with_len}
+use Rattle.theory.specs.Sets.{all}
+use Rattle.theory.specs.Counting.{all_of, all-not}
+use Rattle.wire.specs.Wire.{read_le}
+use Rattle.register.specs.Lent.{bike_size}
+use Rattle.register.specs.Register.{bikes, max_reading}
+use Rattle.register.proofs.Lent.{within_read}
 use Rattle.register.proofs.judge.Goals as goal
 
-pub loop-bike-init : goal.loop-bike-init
-loop-bike-init c = (search rules, all_none _)
+in_range : (n k : ℕ) → k < n → get_or (range_with_len 0 n) k 0 ≡ k
+in_range n k h = let q : 0 + k ≡ k = omega arith in get_or-range_with_len 0 n k 0 h ∙ q
 
-pub returns-then-reading-gt-MAX_READING : goal.returns-then-reading-gt-MAX_READING
-returns-then-reading-gt-MAX_READING c =
-    let a = c.args in
-    let l = c.loop-bike in
-    judged_not a.register.now a.at l.bike (omega arith) c.get4-reading.ensures (omega arith)
-
-pub loop-bike-preserved : goal.loop-bike-preserved
-loop-bike-preserved c =
-    let a = c.args in
-    let l = c.loop-bike in
-    (omega arith, judged_more a.register.now a.at l.bike (omega arith) l.invariant.1 c.get4-reading.ensures (omega arith))
+-- What the library answers of all numbers below n.
+all_below : (n : ℕ) (p : ℕ → Bool) (r : Bool)
+    → MatchBool r (AllWithin (λ k. p k ≡ true) (range_with_len 0 n) 0 (length (range_with_len 0 n))) ((k : ℕ) × (k < length (range_with_len 0 n)) × HoldsAt (λ m. p m ≡ false) (range_with_len 0 n) k)
+    → r ≡ all n p
+all_below n p true h =
+    let l = length-range_with_len 0 n in
+    sym (all_of n p (λ k m. subst (λ (i : ℕ). p i ≡ true) (in_range n k m) (h k 0 (omega arith) (omega arith))))
+all_below n p false h =
+    let l = length-range_with_len 0 n in
+    let m : h.0 < n = omega arith in
+    sym (all-not n p h.0 m (subst (λ (i : ℕ). p i ≡ false) (in_range n h.0 m) (h.2 0)))
 
 pub returns : goal.returns
 returns c =
     let a = c.args in
-    let e : c.loop-bike.bike ≡ bikes = omega arith in
-    sym (ap (λ (n : ℕ). within a.register.now a.at n) (sym e) ∙ c.loop-bike.invariant.1)
+    let p = λ (k : ℕ). leb (read_le 4 a.register.now (a.at + bike_size * k)) max_reading in
+    all_below bikes p c.all.result (cases_from_all _ _ _ (λ k. p k ≡ true) (λ k. p k ≡ false)
+    c.all.ensures.ran (YieldsList-from_range 0 bikes bikes refl refl) (λ x q k. search (rules, tests)) (λ x q k. search (rules, tests)))
+    ∙ within_read a.register.now a.at

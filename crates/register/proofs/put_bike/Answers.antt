@@ -7,4 +7,4 @@ use Rattle.register.proofs.put_bike.Goals as goal
 pub returns : goal.returns
 returns c =
     let a = c.args in
-    bike-written a.register.now a.place a.bike (omega arith) c.put4.ensures c.put4-2.ensures
+    bike-written a.register.now a.place a.bike (omega arith) c.put.ensures c.put-2.ensures

@@ -1,6 +1,7 @@
 -- `register::reply_to`: each arm is the definition's row.
 -- Assumes nothing.
 use mathlib.Core.Path.{refl, ap, ◌∙◌}
+use mathlib.Core.Logic.{inl, inr}
 use native.Mathlib.Omega.{arith}
 use Prim.Native.Nat.{ℕ}
 use lib.IntN.{ℤ, pos, ◌+ℤ◌, ◌-ℤ◌}
@@ -16,10 +17,10 @@ pub returns-in-Add : goal.returns-in-Add
 returns-in-Add c = reply_of c.args.before c.in-Add.is refl
 
 pub returns-in-Fit : goal.returns-in-Fit
-returns-in-Fit c = reply_of c.args.before c.in-Fit.is (to_z_pos w32 {n = c.args.before.reading} (omega arith))
-
-pub returns-in-Read : goal.returns-in-Read
-returns-in-Read c = reply_of c.args.before c.in-Read.is (to_z_pos w32 {n = c.args.before.reading} (omega arith))
+returns-in-Fit c =
+    let e = c.args.before in
+    let q = to_z_pos w32 {n = e.reading} (omega arith) in
+    elim c.in-Fit.is [ inl w ↦ reply_of e w.3 q | inr w ↦ reply_of e w.1 q ]
 
 pub returns-in-Trim : goal.returns-in-Trim
 returns-in-Trim c =
