@@ -138,8 +138,9 @@ impl Set {
         requires { at + set_bytes ≤ length bytes.now }
         ensures { result ≡ read_set bytes.now at }
     {
-        let bits = wire::get8(bytes, at);
-        Set { bits: bits }
+        Set {
+            bits: wire::get(bytes, at),
+        }
     }
 
     // The set is written to 8 bytes at a position.
@@ -147,7 +148,7 @@ impl Set {
         requires { at + set_bytes ≤ length bytes.old }
         ensures { bytes.new ≡ write_set bytes.old at self }
     {
-        wire::put8(bytes, at, self.bits);
+        wire::put(bytes, at, self.bits);
     }
 
     // The k-th set of a slice of words.

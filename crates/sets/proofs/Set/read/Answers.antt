@@ -1,4 +1,4 @@
--- `Set::read` meets its contract, by that of `get8`.
+-- `Set::read` meets its contract, by that of `wire::get`.
 -- Assumes nothing.
 use Rattle.sets.specs.Sets.{read_set}
 use Rattle.sets.proofs.Set.read.Goals as goal

@@ -1,4 +1,4 @@
--- `Set::write` meets its contract, by that of `put8`.
+-- `Set::write` meets its contract, by that of `wire::put`.
 -- Assumes nothing.
 use borrow.Author.Rules.{rules}
 use Rattle.sets.specs.Sets.{write_set}
