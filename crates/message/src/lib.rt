@@ -43,7 +43,7 @@ impl Message {
         if bytes.len() != Message::BYTES {
             return false;
         }
-        let number = wire::get1(bytes, Message::KIND);
+        let number: u8 = wire::get(bytes, Message::KIND);
         (number == Message::ACKNOWLEDGMENT) | (number == Message::CHECK)
     }
 
@@ -52,9 +52,9 @@ impl Message {
         requires { is_message bytes.now ≡ true }
         ensures { result ≡ message_of bytes.now }
     {
-        let number = wire::get1(bytes, Message::KIND);
+        let number: u8 = wire::get(bytes, Message::KIND);
         let kind = kind_from(number);
-        let round = wire::get1(bytes, Message::ROUND);
+        let round: u8 = wire::get(bytes, Message::ROUND);
         let set = Set::read(bytes, Message::SET);
         Message { kind, round, set }
     }
@@ -66,8 +66,8 @@ impl Message {
     {
         let kind = self.kind;
         let set = self.set;
-        wire::put1(out, Message::KIND, kind_number(kind));
-        wire::put1(out, Message::ROUND, self.round);
+        wire::put(out, Message::KIND, kind_number(kind));
+        wire::put(out, Message::ROUND, self.round);
         set.write(out, Message::SET);
     }
 }

@@ -7,4 +7,4 @@ pub returns-then-bytes-ne-BYTES : goal.returns-then-bytes-ne-BYTES
 returns-then-bytes-ne-BYTES c = other_length c.args.bytes.now c.if-bytes-ne-BYTES.true
 
 pub returns : goal.returns
-returns c = by_kind c.args.bytes.now c.if-bytes-ne-BYTES.false c.get1-number.ensures
+returns c = by_kind c.args.bytes.now c.if-bytes-ne-BYTES.false c.get-number.ensures
