@@ -34,7 +34,7 @@ pub fn site_of(log: &[u8], k: usize) -> usize
     requires { k * entry_size + entry_size ≤ length log.now }
     ensures { result ≡ (entry_of log.now k).site }
 {
-    wire::get1(log, k * Entry::BYTES) as usize
+    wire::get::<u8>(log, k * Entry::BYTES) as usize
 }
 
 // The round of the k-th entry.
@@ -42,7 +42,7 @@ pub fn round_of(log: &[u8], k: usize) -> usize
     requires { k * entry_size + entry_size ≤ length log.now }
     ensures { result ≡ (entry_of log.now k).round }
 {
-    wire::get1(log, k * Entry::BYTES + 1) as usize
+    wire::get::<u8>(log, k * Entry::BYTES + 1) as usize
 }
 
 // NC of the k-th entry.
@@ -84,8 +84,8 @@ pub fn write_entry(log: &mut [u8], k: usize, entry: Entry)
     ensures { log.new ≡ write_entry log.old k entry }
 {
     let at = k * Entry::BYTES;
-    wire::put1(log, at, entry.site as u8);
-    wire::put1(log, at + 1, entry.round as u8);
+    wire::put(log, at, entry.site as u8);
+    wire::put(log, at + 1, entry.round as u8);
     let nc = entry.nc;
     nc.write(log, at + 2);
     let c = entry.c;
