@@ -20,13 +20,13 @@ use Rattle.wire.proofs.Agree.{agree_before}
 use Rattle.layout.proofs.Agree.{deliveries_agree}
 
 -- What the code of record_delivery does, in one step.
-pub delivery_written : (b : List ℕ) (at m : ℕ) (z : ℤ) {word : ℕ} {l l' : List ℕ} → at ≤ length b → SFits w32 z → word ≡ word32 (signed32 (word32 z))
+pub delivery_written : (b : List ℕ) (at m : ℕ) (z : ℤ) {l l' : List ℕ} → at ≤ length b → SFits w32 z
     → l ≡ splice b at (bytes 1 m)
-    → l' ≡ splice l (at + 1) (bytes 4 word) → l' ≡ splice b at (delivery_bytes m z)
+    → l' ≡ splice l (at + 1) (bytes 4 (word32 (signed32 (word32 z)))) → l' ≡ splice b at (delivery_bytes m z)
 unfolding bytes
-delivery_written b at m z {l = l} h f w p q =
+delivery_written b at m z {l = l} h f p q =
     next b at (bytes 1 m) (bytes 4 (word32 z)) (at + 1) refl h p
-    (q ∙ ap (λ (x : ℕ). splice l (at + 1) (bytes 4 x)) (w ∙ ap word32 (signed_word f)))
+    (q ∙ ap (λ (x : ℤ). splice l (at + 1) (bytes 4 (word32 x))) (signed_word f))
 
 pub length_delivery : (m : ℕ) (z : ℤ) → length (delivery_bytes m z) ≡ delivery_size
 unfolding bytes

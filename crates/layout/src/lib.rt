@@ -117,14 +117,14 @@ impl Site {
         requires { length site.now ≡ site_size }
         ensures { result ≡ head_of site.now }
     {
-        let tag = wire::get1(site, Site::PHASE);
+        let tag: u8 = wire::get(site, Site::PHASE);
         let nc = Set::read(site, Site::NC);
         let c = Set::read(site, Site::C);
         let phase = phase_of(tag, nc, c);
-        let round = wire::get1(site, Site::ROUND);
-        let position = wire::get2(site, Site::POSITION);
-        let deliveries = wire::get2(site, Site::COUNT);
-        let span = wire::get2(site, Site::SPAN);
+        let round: u8 = wire::get(site, Site::ROUND);
+        let position: u16 = wire::get(site, Site::POSITION);
+        let deliveries: u16 = wire::get(site, Site::COUNT);
+        let span: u16 = wire::get(site, Site::SPAN);
         let received = Set::read(site, Site::RECEIVED);
         let delivered = Set::read(site, Site::DELIVERED);
         let pending = Set::read(site, Site::PENDING);
@@ -156,21 +156,21 @@ pub fn set_round(site: &mut [u8], round: u8)
     requires { length site.old ≡ site_size }
     ensures { site.new ≡ splice site.old round_place (bytes 1 round) }
 {
-    wire::put1(site, Site::ROUND, round);
+    wire::put(site, Site::ROUND, round);
 }
 
 pub fn set_count(site: &mut [u8], count: u16)
     requires { length site.old ≡ site_size }
     ensures { site.new ≡ splice site.old count_place (bytes 2 count) }
 {
-    wire::put2(site, Site::COUNT, count);
+    wire::put(site, Site::COUNT, count);
 }
 
 pub fn set_position(site: &mut [u8], position: u16)
     requires { length site.old ≡ site_size }
     ensures { site.new ≡ splice site.old position_place (bytes 2 position) }
 {
-    wire::put2(site, Site::POSITION, position);
+    wire::put(site, Site::POSITION, position);
 }
 
 pub fn set_received(site: &mut [u8], set: Set)
@@ -209,7 +209,7 @@ pub fn set_phase(site: &mut [u8], phase: Phase)
     let proposal = phase.proposal();
     let nc = proposal.nc;
     let c = proposal.c;
-    wire::put1(site, Site::PHASE, phase.number());
+    wire::put(site, Site::PHASE, phase.number());
     nc.write(site, Site::NC);
     c.write(site, Site::C);
 }
@@ -219,9 +219,9 @@ pub fn judge_phase(site: &[u8]) -> bool
     requires { length site.now ≡ site_size }
     ensures { result ≡ good_phase site.now }
 {
-    let tag = wire::get1(site, Site::PHASE);
-    let nc = wire::get8(site, Site::NC);
-    let c = wire::get8(site, Site::C);
+    let tag: u8 = wire::get(site, Site::PHASE);
+    let nc: u64 = wire::get(site, Site::NC);
+    let c: u64 = wire::get(site, Site::C);
     (tag == 1) | (tag == 0) & (nc == 0) & (c == 0)
 }
 
@@ -256,12 +256,12 @@ fn reach(site: &mut [u8], round: usize)
     requires { (length site.old ≡ site_size) × (round ≤ site_rounds) }
     ensures { site.new ≡ reached site.old round }
 {
-    let rows = wire::get2(&site[..], Site::SPAN) as usize;
+    let rows = wire::get::<u16>(&site[..], Site::SPAN) as usize;
     if round <= rows {
         return;
     }
     clear_rows(site, rows, round);
-    wire::put2(site, Site::SPAN, round as u16);
+    wire::put(site, Site::SPAN, round as u16);
 }
 
 // An acknowledgment is united with what its sender acknowledged in its round.
@@ -281,9 +281,8 @@ pub fn delivery_at(site: &[u8], k: usize) -> Delivery
     ensures { delivery_seen result ≡ delivery_of site.now k }
 {
     let place = Site::DELIVERIES + Site::DELIVERY * k;
-    let command = wire::get1(site, place);
-    let word = wire::get4(site, place + 1);
-    let answer = signed::i32_of(word);
+    let command: u8 = wire::get(site, place);
+    let answer: i32 = wire::get(site, place + 1);
     Delivery { command, answer }
 }
 
@@ -293,7 +292,6 @@ pub fn record_delivery(site: &mut [u8], k: usize, command: u8, answer: i32)
     ensures { site.new ≡ splice site.old (slot k) (delivery_bytes command answer) }
 {
     let place = Site::DELIVERIES + Site::DELIVERY * k;
-    let word = signed::u32_of(answer);
-    wire::put1(site, place, command);
-    wire::put4(site, place + 1, word);
+    wire::put(site, place, command);
+    wire::put(site, place + 1, answer);
 }

@@ -5,4 +5,4 @@ use lib.Dec.{eqb}
 use Rattle.layout.proofs.judge_phase.Goals as goal
 
 pub returns : goal.returns
-returns c = λ i. eqb (c.get1-tag.ensures i) 1 || eqb (c.get1-tag.ensures i) 0 && eqb (c.get8-nc.ensures i) 0 && eqb (c.get8-c.ensures i) 0
+returns c = λ i. eqb (c.get-tag.ensures i) 1 || eqb (c.get-tag.ensures i) 0 && eqb (c.get-nc.ensures i) 0 && eqb (c.get-c.ensures i) 0

@@ -5,8 +5,4 @@ use Rattle.layout.proofs.Deliveries.{delivery_written}
 use Rattle.layout.proofs.record_delivery.Goals as goal
 
 pub returns : goal.returns
-returns c =
-    let s = c in
-    delivery_written _ _ _ s.args.answer (omega (arith, s.requires)) s.ranges.answer
-    c.u32_of-word.ensures c.put1.ensures
-    c.put4.ensures
+returns c = delivery_written _ _ _ c.args.answer (omega (arith, c.requires)) c.ranges.answer c.put.ensures c.put-2.ensures
