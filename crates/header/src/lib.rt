@@ -36,7 +36,7 @@ fn book_end(run: &[u8]) -> usize
     requires { header_size ≤ length run.now }
     ensures { result ≡ header_size + book_size run.now }
 {
-    let size = wire::get2(run, BOOK_SIZE);
+    let size: u16 = wire::get(run, BOOK_SIZE);
     HEADER + size as usize
 }
 
