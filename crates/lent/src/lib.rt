@@ -59,7 +59,7 @@ fn judge_heard(site: &[u8], sites: usize, commands: usize) -> bool
     requires { (length site.now ≡ site_size) × (read_le 2 site.now span_place ≤ site_rounds) }
     ensures { result ≡ good_heard sites commands site.now }
 {
-    let rounds = wire::get2(site, Site::SPAN) as usize;
+    let rounds = wire::get::<u16>(site, Site::SPAN) as usize;
     for sender in 0..SiteTable::MAX_SITES {
         for k in 0..rounds {
             if !judge_cell(site, sites, commands, sender, k + 1) {
@@ -76,8 +76,8 @@ fn judge_slot(site: &[u8], commands: usize, recorded: usize, k: usize) -> bool
     ensures { result ≡ good_slot commands recorded site.now k }
 {
     let place = Site::DELIVERIES + Site::DELIVERY * k;
-    let command = wire::get1(site, place) as usize;
-    let answer = wire::get4(site, place + 1);
+    let command = wire::get::<u8>(site, place) as usize;
+    let answer: u32 = wire::get(site, place + 1);
     (k < recorded) & (command < commands) | (recorded <= k) & (command == 0) & (answer == 0)
 }
 

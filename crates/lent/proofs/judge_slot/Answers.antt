@@ -7,4 +7,4 @@ use Rattle.lent.proofs.judge_slot.Goals as goal
 pub returns : goal.returns
 returns c =
     let a = c.args in
-    λ i. ltb a.k a.recorded && ltb (c.get1-command.ensures i) a.commands || leb a.recorded a.k && eqb (c.get1-command.ensures i) 0 && eqb (c.get4-answer.ensures i) 0
+    λ i. ltb a.k a.recorded && ltb (c.get-command.ensures i) a.commands || leb a.recorded a.k && eqb (c.get-command.ensures i) 0 && eqb (c.get-answer.ensures i) 0
