@@ -59,15 +59,15 @@ fn read_command(bytes: &[u8]) -> Reading
             if n < 4 {
                 return Reading::Bad;
             }
-            let km = wire::get2(bytes, 2);
+            let km: u16 = wire::get(bytes, 2);
             Reading::Whole(Command::Add { bike, km })
         }
         2 => {
             if n < 10 {
                 return Reading::Bad;
             }
-            let dash = wire::get4(bytes, 2);
-            let start = wire::get4(bytes, 6);
+            let dash: u32 = wire::get(bytes, 2);
+            let start: u32 = wire::get(bytes, 6);
             if start > Bike::MAX_READING {
                 return Reading::Bad;
             }
@@ -78,8 +78,7 @@ fn read_command(bytes: &[u8]) -> Reading
             if n < 4 {
                 return Reading::Bad;
             }
-            let word = wire::get2(bytes, 2);
-            let km = signed::i16_of(word);
+            let km: i16 = wire::get(bytes, 2);
             Reading::Whole(Command::Trim { bike, km })
         }
         _ => Reading::Bad,
@@ -151,13 +150,13 @@ pub fn write_command(out: &mut [u8], at: usize, command: Command) -> usize
     match command {
         Command::Add { bike, km } => {
             put_head(out, at, 1, bike);
-            wire::put2(out, at + 2, km);
+            wire::put(out, at + 2, km);
             at + 4
         }
         Command::Fit { bike, dash, start } => {
             put_head(out, at, 2, bike);
-            wire::put4(out, at + 2, dash);
-            wire::put4(out, at + 6, start);
+            wire::put(out, at + 2, dash);
+            wire::put(out, at + 6, start);
             at + 10
         }
         Command::Read { bike } => {
@@ -165,9 +164,8 @@ pub fn write_command(out: &mut [u8], at: usize, command: Command) -> usize
             at + 2
         }
         Command::Trim { bike, km } => {
-            let word = signed::u16_of(km);
             put_head(out, at, 4, bike);
-            wire::put2(out, at + 2, word);
+            wire::put(out, at + 2, km);
             at + 4
         }
     }

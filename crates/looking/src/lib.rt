@@ -25,10 +25,10 @@ fn write_status(site: &[u8], out: &mut [u8])
 {
     let header = Site::read(site);
     let phase = header.phase;
-    wire::put1(out, 0, header.round);
-    wire::put1(out, 1, phase.number());
-    wire::put1(out, 2, header.deliveries as u8);
-    wire::put2(out, 3, header.position);
+    wire::put(out, 0, header.round);
+    wire::put(out, 1, phase.number());
+    wire::put(out, 2, header.deliveries as u8);
+    wire::put(out, 3, header.position);
 }
 
 // A site's status is written: round (1), phase (1: 0 acknowledging, 1 waiting), number of deliveries (1), log position (2).
@@ -51,8 +51,8 @@ fn write_bike(site: &[u8], bike: usize, out: &mut [u8])
     ensures { out.new ≡ splice out.old 0 (bike_bytes (register_of site.now register_place bike)) }
 {
     let found = register::bike_at(site, Site::REGISTER, bike);
-    wire::put4(out, 0, found.reading);
-    wire::put4(out, 4, found.dash);
+    wire::put(out, 0, found.reading);
+    wire::put(out, 4, found.dash);
 }
 
 // A bike's reading (4) and dash (4) are written.
@@ -87,10 +87,10 @@ fn write_delivery(site: &[u8], k: usize, out: &mut [u8])
     ensures { out.new ≡ splice out.old 0 (delivery_bytes (delivery_of site.now k).command (delivery_of site.now k).answer) }
 {
     let place = Site::DELIVERIES + Site::DELIVERY * k;
-    let command = wire::get1(site, place);
-    let answer = wire::get4(site, place + 1);
-    wire::put1(out, 0, command);
-    wire::put4(out, 1, answer);
+    let command: u8 = wire::get(site, place);
+    let answer: u32 = wire::get(site, place + 1);
+    wire::put(out, 0, command);
+    wire::put(out, 1, answer);
 }
 
 // The k-th delivery, from 0, is written: command (1) and answer (4).

@@ -92,7 +92,7 @@ pub fn acknowledgment(sent: &[u8], j: usize, r: usize, a: u8) -> SentMessage
     ensures { Read result (acknowledgment_of sent.now j r a) (numbered (acks_of sent.now j r) a) }
 {
     let cell = cell_of(j, r);
-    let count = wire::get1(sent, count_at(cell));
+    let count: u8 = wire::get(sent, count_at(cell));
     if (a == 0) | (a > count) {
         return SentMessage::Never;
     }
@@ -106,7 +106,7 @@ pub fn check(sent: &[u8], j: usize, r: usize) -> SentMessage
     ensures { Read result (check_of sent.now j r) (checks_of sent.now j r) }
 {
     let cell = cell_of(j, r);
-    let flag = wire::get1(sent, flag_at(cell));
+    let flag: u8 = wire::get(sent, flag_at(cell));
     if flag != 1 {
         return SentMessage::Never;
     }
@@ -122,10 +122,10 @@ pub fn add_acknowledgment(sent: &mut [u8], j: usize, r: usize, set: Set)
 {
     let cell = cell_of(j, r);
     let counted = count_at(cell);
-    let count = wire::get1(&sent[..], counted);
+    let count: u8 = wire::get(&sent[..], counted);
     let at = set_at(cell, count as usize);
     set.write(sent, at);
-    wire::put1(sent, counted, count + 1);
+    wire::put(sent, counted, count + 1);
 }
 
 // A site sends its check message of a round.
@@ -136,5 +136,5 @@ pub fn put_check(sent: &mut [u8], j: usize, r: usize, set: Set)
 {
     let cell = cell_of(j, r);
     set.write(sent, check_at(cell));
-    wire::put1(sent, flag_at(cell), 1);
+    wire::put(sent, flag_at(cell), 1u8);
 }

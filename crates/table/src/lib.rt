@@ -56,7 +56,7 @@ impl SiteTable {
         if bytes.len() < SiteTable::MARKED_BYTES {
             return Judged::Refused(refusals::Refusal::Table);
         }
-        let mask = wire::get2(bytes, SiteTable::BYTES);
+        let mask: u16 = wire::get(bytes, SiteTable::BYTES);
         SiteTable::read_with(bytes, mask)
     }
 
@@ -65,8 +65,8 @@ impl SiteTable {
         requires { table_size ≤ length bytes.now }
         ensures { result ≡ table_as (is_good (table_with bytes.now mask)) (table_with bytes.now mask) }
     {
-        let sites = wire::get1(bytes, 0) as usize;
-        let faults = wire::get1(bytes, 1) as usize;
+        let sites = wire::get::<u8>(bytes, 0) as usize;
+        let faults = wire::get::<u8>(bytes, 1) as usize;
         if SiteTable::is_within_limits(sites, faults, mask) {
             Judged::Good(SiteTable {
                 sites,

@@ -1,6 +1,4 @@
 use mir.Syntax.{w16}
-use mathlib.Core.Path.{ap, ◌∙◌}
-use Rattle.signed.specs.Signed.{signed16}
 use Rattle.signed.proofs.Laws.{returned}
 use native.Mathlib.Omega.{arith}
 use mathlib.Core.Path.{refl}
@@ -26,10 +24,10 @@ pub returns-then-n-lt4-2 : goal.returns-then-n-lt4-2
 returns-then-n-lt4-2 c = of_kind _ 4 (omega arith) (omega arith) c.in-4.is (trim_cut _ (omega arith))
 
 pub returns-else-n-lt4 : goal.returns-else-n-lt4
-returns-else-n-lt4 c = of_kind _ 1 (omega arith) (omega arith) c.in-1.is (add_whole _ (omega arith) c.get2-km.ensures)
+returns-else-n-lt4 c = of_kind _ 1 (omega arith) (omega arith) c.in-1.is (add_whole _ (omega arith) c.get-km.ensures)
 
 pub returns-else-start-gt-MAX_READING : goal.returns-else-start-gt-MAX_READING
-returns-else-start-gt-MAX_READING c = of_kind _ 2 (omega arith) (omega arith) c.in-2.is (fit_whole _ (omega arith) (omega arith) c.get4-dash.ensures c.get4-start.ensures)
+returns-else-start-gt-MAX_READING c = of_kind _ 2 (omega arith) (omega arith) c.in-2.is (fit_whole _ (omega arith) (omega arith) c.get-dash.ensures c.get-start.ensures)
 
 pub returns-in-3 : goal.returns-in-3
 returns-in-3 c = of_kind _ 3 (omega arith) (omega arith) c.in-3.is (read_whole _)
@@ -37,7 +35,7 @@ returns-in-3 c = of_kind _ 3 (omega arith) (omega arith) c.in-3.is (read_whole _
 pub returns-else-n-lt4-2 : goal.returns-else-n-lt4-2
 returns-else-n-lt4-2 c =
     of_kind _ 4 (omega arith) (omega arith) c.in-4.is
-    (trim_whole _ (omega arith) (returned w16 c.i16_of-km.type_inv (c.i16_of-km.ensures ∙ ap signed16 c.get2-word.ensures)))
+    (trim_whole _ (omega arith) (returned w16 c.get-km-in-4.type_inv c.get-km-in-4.ensures))
 
 pub returns-in_default : goal.returns-in_default
 returns-in_default c = let r = c.in_default.in_default-own.rest in of_kind _ _ (omega arith) (omega arith) refl (no_kind _ _ r.0.0.0.1 r.0.0.1 r.0.1 r.1)

@@ -4,4 +4,4 @@ use Rattle.looking.proofs.Laws.{bike-written}
 use Rattle.looking.proofs.write_bike.Goals as goal
 
 pub returns : goal.returns
-returns c = bike-written _ _ c.bike_at-found.ensures c.put4.ensures c.put4-2.ensures
+returns c = bike-written _ _ c.bike_at-found.ensures c.put.ensures c.put-2.ensures

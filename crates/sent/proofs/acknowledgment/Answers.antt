@@ -22,20 +22,20 @@ within count a h =
 pub returns-then-a-count : goal.returns-then-a-count
 returns-then-a-count c =
     let a = c.args in
-    no_acknowledgment a.sent.now a.j a.r (in_table_lem a.j a.r c.requires.1 c.requires.2 c.requires.3) a.a (c.count_at.ensures ∙ ap count_place c.cell_of-cell.ensures.0) c.get1-count.ensures
-    (λ h. ltb-true c.get1-count.result a.a (second (eqb a.a 0) (ltb c.get1-count.result a.a) c.if-a-count.true (ne_eqb a.a 0 (λ z. omega arith))))
+    no_acknowledgment a.sent.now a.j a.r (in_table_lem a.j a.r c.requires.1 c.requires.2 c.requires.3) a.a (c.count_at.ensures ∙ ap count_place c.cell_of-cell.ensures.0) c.get-count.ensures
+    (λ h. ltb-true c.get-count.result a.a (second (eqb a.a 0) (ltb c.get-count.result a.a) c.if-a-count.true (ne_eqb a.a 0 (λ z. omega arith))))
 
 pub set_at-requires : goal.set_at-requires
 set_at-requires c =
-    let w = within c.get1-count.result c.args.a c.if-a-count.false in
+    let w = within c.get-count.result c.args.a c.if-a-count.false in
     let k = c.cell_of-cell.ensures in
-    let e : c.get1-count.result ≡ count_in c.args.sent.now (cell_of c.args.j c.args.r) =
-    c.get1-count.ensures ∙ ap (read_le 1 c.args.sent.now) (c.count_at.ensures ∙ ap count_place k.0) in
+    let e : c.get-count.result ≡ count_in c.args.sent.now (cell_of c.args.j c.args.r) =
+    c.get-count.ensures ∙ ap (read_le 1 c.args.sent.now) (c.count_at.ensures ∙ ap count_place k.0) in
     (k.1, omega (arith, e, w, c.requires.0.counts (cell_of c.args.j c.args.r) (omega arith)))
 
 pub returns : goal.returns
 returns c =
     let a = c.args in
-    let w = within c.get1-count.result c.args.a c.if-a-count.false in
-    some_acknowledgment a.sent.now a.j a.r (in_table_lem a.j a.r c.requires.1 c.requires.2 c.requires.3) a.a (c.count_at.ensures ∙ ap count_place c.cell_of-cell.ensures.0) c.get1-count.ensures w.0 w.1
+    let w = within c.get-count.result c.args.a c.if-a-count.false in
+    some_acknowledgment a.sent.now a.j a.r (in_table_lem a.j a.r c.requires.1 c.requires.2 c.requires.3) a.a (c.count_at.ensures ∙ ap count_place c.cell_of-cell.ensures.0) c.get-count.ensures w.0 w.1
     (c.set_at.ensures ∙ (λ i. set_place (c.cell_of-cell.ensures.0 i) (a.a - 1))) c.read-set.ensures

@@ -6,10 +6,10 @@ use Rattle.sent.proofs.Laws.{in_table_lem, no_check, some_check}
 use Rattle.sent.proofs.check.Goals as goal
 
 pub returns-then-flag-ne1 : goal.returns-then-flag-ne1
-returns-then-flag-ne1 c = let a = c.args in no_check a.sent.now a.j a.r (in_table_lem a.j a.r c.requires.1 c.requires.2 c.requires.3) (c.flag_at.ensures ∙ ap flag_place c.cell_of-cell.ensures.0) c.get1-flag.ensures c.if-flag-ne1.true
+returns-then-flag-ne1 c = let a = c.args in no_check a.sent.now a.j a.r (in_table_lem a.j a.r c.requires.1 c.requires.2 c.requires.3) (c.flag_at.ensures ∙ ap flag_place c.cell_of-cell.ensures.0) c.get-flag.ensures c.if-flag-ne1.true
 
 pub returns : goal.returns
 returns c =
     let a = c.args in
-    some_check a.sent.now a.j a.r (in_table_lem a.j a.r c.requires.1 c.requires.2 c.requires.3) (c.flag_at.ensures ∙ ap flag_place c.cell_of-cell.ensures.0) c.get1-flag.ensures c.if-flag-ne1.false
+    some_check a.sent.now a.j a.r (in_table_lem a.j a.r c.requires.1 c.requires.2 c.requires.3) (c.flag_at.ensures ∙ ap flag_place c.cell_of-cell.ensures.0) c.get-flag.ensures c.if-flag-ne1.false
     (c.check_at.ensures ∙ ap check_place c.cell_of-cell.ensures.0) c.read-set.ensures

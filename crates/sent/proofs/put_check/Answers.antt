@@ -11,4 +11,4 @@ returns c =
     let a = c.args in
     let e = c.cell_of-cell.ensures.0 in
     check_sent a.sent.now a.j a.r a.set c.requires.0 (in_table_lem a.j a.r c.requires.1 c.requires.2 c.requires.3) c.well_formed.1.1.1.0.1.1.0.1
-    (checked-bytes a.sent.now (cell_of a.j a.r) a.set (c.flag_at.ensures ∙ ap flag_place e) (c.check_at.ensures ∙ ap check_place e) c.write.ensures c.put1.ensures)
+    (checked-bytes a.sent.now (cell_of a.j a.r) a.set (c.flag_at.ensures ∙ ap flag_place e) (c.check_at.ensures ∙ ap check_place e) c.write.ensures c.put.ensures)

@@ -16,4 +16,4 @@ read_with-requires c = let h = c.if-bytes-lt-MARKED_BYTES.false in omega arith
 pub returns : goal.returns
 returns c =
     let b = c.args.bytes.now in
-    c.read_with.ensures ∙ ap (λ (mask : ℕ). table_as (is_good (table_with b mask)) (table_with b mask)) c.get2-mask.ensures ∙ table_whole marked_size b (marked_in b) c.if-bytes-lt-MARKED_BYTES.false
+    c.read_with.ensures ∙ ap (λ (mask : ℕ). table_as (is_good (table_with b mask)) (table_with b mask)) c.get-mask.ensures ∙ table_whole marked_size b (marked_in b) c.if-bytes-lt-MARKED_BYTES.false
