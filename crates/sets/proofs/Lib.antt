@@ -1,3 +1,4 @@
 pub mod Laws
 pub mod Beyond
 pub mod Rest
+pub mod Order

@@ -5,6 +5,10 @@ ghost use Rattle.std.specs.Prelude.{false, ◌≡◌, ◌+◌, ◌≤◌, ◌<�
 ghost use Rattle.sets.specs.Sets.{capacity, in_set, empty_of, with_of, union_of, without_of, common_of};
 ghost use Rattle.sets.specs.Sets.{beyond_of, is_empty_of, within_of, size_of, first_of, rest_of, set_bytes, read_set, write_set, load_set, store_set};
 
+mod members;
+
+pub use members::Members;
+
 // A set of command numbers below 64.
 #[derive(Clone, Copy)]
 pub struct Set {
