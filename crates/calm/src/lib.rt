@@ -12,15 +12,12 @@ fn is_free_between(rows: &[u64], new: Set, set: Set) -> bool
     requires { length rows.now ≡ capacity }
     ensures { result ≡ free_between rows.now (in_set new) (in_set set) }
 {
-    let mut left = new;
-    while !left.is_empty() {
-        let member = left.first();
+    for member in new {
         let row = Set::load(rows, member);
         let conflicting = row.common(set);
         if !conflicting.is_empty() {
             return false;
         }
-        left = left.rest();
     }
     true
 }

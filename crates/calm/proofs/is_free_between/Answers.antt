@@ -1,41 +1,26 @@
--- `is_free_between` meets its contract: the members that are no longer left have none of the other set in their rows; one fewer is left at each turn.
+-- `is_free_between` meets its contract: the members that are no longer left have none of the other set in their rows.
 -- Assumes nothing.
 use mathlib.Core.Path.{sym, ◌∙◌}
 use native.Mathlib.Omega.{arith}
-use Rattle.calm.proofs.Laws.{looked_none, member_in, looked_found, looked_less, looked_turn, looked_end}
-use mathlib.Core.Path.{ap}
-use mathlib.Core.Bool.{not}
+use Rattle.calm.proofs.Laws.{looked_none, member_in, looked_turn, looked_all, looked_bad}
 use Rattle.calm.proofs.is_free_between.Goals as goal
 
-pub loop-set-init : goal.loop-set-init
-loop-set-init c = looked_none _ _ _
+pub loop-member-init : goal.loop-member-init
+loop-member-init c = rw c.into_iter-member-iterator.ensures.into_iter_gives (looked_none c.args.rows.now c.args.new c.args.set)
 
 pub load-row-requires : goal.load-row-requires
-load-row-requires c = omega (arith, member_in c.args.rows.now c.args.new c.args.set c.loop-set.left c.is_empty.ensures (ap not c.loop-set-test.true) c.first-member.ensures)
+load-row-requires c = omega (arith, member_in c.args.rows.now c.args.new c.args.set c.in-Some.ensures.steps c.loop-member.invariant)
 
 pub returns-then-not-is_empty : goal.returns-then-not-is_empty
 returns-then-not-is_empty c =
     let a = c.args in
-    let s = c.loop-set in
-    looked_found a.rows.now a.new a.set s.left c.load-row.ensures c.common-conflicting.ensures c.is_empty-in-loop-set.ensures (ap not c.if-not-is_empty.true)
-    (member_in a.rows.now a.new a.set s.left c.is_empty.ensures (ap not c.loop-set-test.true) c.first-member.ensures) s.invariant
+    looked_bad a.rows.now a.new a.set (member_in a.rows.now a.new a.set c.in-Some.ensures.steps c.loop-member.invariant)
+    c.load-row.ensures c.common-conflicting.ensures (sym c.if-not-is_empty.true ∙ c.is_empty.ensures)
 
-pub rest-left-requires : goal.rest-left-requires
-rest-left-requires c = sym c.is_empty.ensures ∙ c.loop-set-test.true
-
-pub loop-set-smaller : goal.loop-set-smaller
-loop-set-smaller c =
+pub loop-member-preserved : goal.loop-member-preserved
+loop-member-preserved c =
     let a = c.args in
-    let s = c.loop-set in
-    looked_less a.rows.now a.new a.set s.left c.first-member.ensures c.rest-left.ensures
-    (member_in a.rows.now a.new a.set s.left c.is_empty.ensures (ap not c.loop-set-test.true) c.first-member.ensures)
-
-pub loop-set-preserved : goal.loop-set-preserved
-loop-set-preserved c =
-    let a = c.args in
-    let s = c.loop-set in
-    looked_turn a.rows.now a.new a.set s.left c.first-member.result c.first-member.ensures c.load-row.ensures c.common-conflicting.ensures c.is_empty-in-loop-set.ensures (ap not c.if-not-is_empty.false)
-    c.rest-left.ensures s.invariant
+    looked_turn a.rows.now a.new a.set c.in-Some.ensures.steps c.load-row.ensures c.common-conflicting.ensures (sym c.if-not-is_empty.false ∙ c.is_empty.ensures) c.loop-member.invariant
 
 pub returns : goal.returns
-returns c = let a = c.args in let s = c.loop-set in looked_end a.rows.now a.new a.set s.left c.is_empty.ensures (ap not c.loop-set-test.false) s.invariant
+returns c = let a = c.args in looked_all a.rows.now a.new a.set c.in-None.ensures.steps.0 c.loop-member.invariant
