@@ -1,19 +1,25 @@
 -- Delivering: one command, none, and one after another.
 -- Assumes nothing.
 use mathlib.Core.Path.{◌≡◌, refl, sym, ap, subst, ◌∙◌}
-use mathlib.Core.Bool.{true, false}
+use mathlib.Core.Bool.{true}
 use mathlib.Core.List.{List, [], ◌∷◌, ◌++◌, foldl, foldl-append}
-use Prim.Native.Nat.{ℕ, suc, ◌+◌, ◌<◌}
+use Prim.Native.Nat.{ℕ, suc, ◌+◌, ◌≤◌, ◌<◌}
 use native.Mathlib.Numerals.{add-one}
 use native.Mathlib.Omega.{arith}
+use lib.Dec.{eqb}
 use lib.IntN.{ℤ}
 use lib.ListN.{length, length-append}
+use borrow.Author.Tests.{eq-eqb}
 use mir.Syntax.{w32}
 use mir.Val.{SFits}
+use Rattle.theory.specs.Lists.{contents}
+use Rattle.theory.specs.Counting.{true_or, or_true}
+use Rattle.theory.specs.Members.{members_in}
 use Rattle.wire.specs.Wire.{splice}
 use Rattle.wire.proofs.Laws.{length-splice, part_before, drop-after}
 use Rattle.sets.specs.declared.Set.{Set}
-use Rattle.sets.specs.Sets.{capacity, is_empty_of, first_of, rest_of}
+use Rattle.sets.specs.Sets.{capacity, in_set, within_of}
+use Rattle.sets.proofs.Laws.{within_at}
 use Rattle.register.specs.declared.Command.{Command}
 use Rattle.register.specs.Register.{Within, Valid, answer, execute}
 use Rattle.register.specs.Lent.{register_of, Executed}
@@ -29,7 +35,6 @@ use Rattle.layout.proofs.Agree.{register_agree, deliveries_agree}
 use Rattle.layout.proofs.Deliveries.{length_delivery, deliveries_more}
 use Rattle.layout.proofs.Tables.{executed_apart, tables_executed, tables_recorded}
 use Rattle.deliver.specs.Delivering.{Delivered, in_order}
-use Rattle.deliver.proofs.Order.{order_none, order_first}
 
 -- What the code of deliver does, in one step.
 pub delivered_one : (book : List Command) (k m : ℕ) (b : List ℕ) {b₁ b₂ : List ℕ} {z y : ℤ} {c : Command} → length b ≡ site_size → Within (register_of b register_place)
@@ -111,15 +116,52 @@ delivered_append book k l l' {a} {b} {c} p q =
       readings = q.readings;
     }
 
--- The turns of the loop over a set, and its end.
-pub all_more : (book : List Command) (k : ℕ) (x : Set) {y : Set} {m : ℕ} {a b c : List ℕ} → is_empty_of x ≡ false → m ≡ first_of x → y ≡ rest_of x
-    → Delivered book k (m ∷ []) a b → Delivered book (k + 1) (in_order y) b c → Delivered book k (in_order x) a c
-all_more book k x {y} {m} {a} {b} {c} e em ey p q =
-    subst (λ (l : List ℕ). Delivered book k l a c) ((λ i. em i ∷ in_order (ey i)) ∙ sym (order_first x e)) (delivered_more book k m (in_order y) p q)
+-- On the way to the commands l after k others: so many are delivered, and the rest is still to be.
+pub record Underway (book : List Command) (k : ℕ) (l a : List ℕ) (n : ℕ) (rest b : List ℕ) : Type 0 where
+  pub size : length b ≡ site_size
+  pub readings : Within (register_of b register_place)
+  pub below : (m : ℕ) → contents rest m ≡ true → m < length book
+  pub total : n + length rest ≡ k + length l
+  pub leads : (c : List ℕ) → Delivered book n rest b c → Delivered book k l a c
 
-pub all_done : (book : List Command) (k : ℕ) (x : Set) {b : List ℕ} → is_empty_of x ≡ true → length b ≡ site_size → Within (register_of b register_place)
-    → Delivered book k (in_order x) b b
-all_done book k x {b} e size w = subst (λ (l : List ℕ). Delivered book k l b b) (sym (order_none x e)) (delivered_none book k b size w)
+module _ (book : List Command) (k : ℕ) where
+  pub underway_none : {a : List ℕ} (x : Set) {y : Set} → length a ≡ site_size → Within (register_of a register_place) → within_of x (length book) ≡ true → y ≡ x
+      → Underway book k (in_order x) a k (in_order y) a
+  underway_none x size w h e =
+      rw e
+      (record {
+        size = size;
+        readings = w;
+        below = λ m i. let q = members_in capacity (in_set x) m i in within_at x (length book) h m q.0 q.1;
+        total = refl;
+        leads = λ c d. d;
+      })
+
+  module _ {l a : List ℕ} {n : ℕ} {left b : List ℕ} (u : Underway book k l a n left b) where
+    module _ {m : ℕ} {rest : List ℕ} (e : left ≡ m ∷ rest) where
+      pub underway_next : k + length l ≤ capacity → (n < capacity) × (m < length book)
+      underway_next room =
+          let q = ap length e in
+          let t = u.total in
+          (omega arith, u.below m (ap (λ (x : List ℕ). contents x m) e ∙ true_or (eqb m m) (contents rest m) (eq-eqb m m refl)))
+
+      pub underway_turn : {c : List ℕ} → Delivered book n (m ∷ []) b c → Underway book k l a (n + 1) rest c
+      underway_turn d =
+          let q = ap length e in
+          let t = u.total in
+          record {
+            size = d.size;
+            readings = d.readings;
+            below = λ j i. u.below j (ap (λ (x : List ℕ). contents x j) e ∙ or_true (eqb j m) (contents rest j) i);
+            total = omega arith;
+            leads = λ c r. u.leads c (subst (λ (x : List ℕ). Delivered book n x b c) (sym e) (delivered_more book n m rest d r));
+          }
+
+    pub underway_done : left ≡ [] → (n ≡ k + length l) × Delivered book k l a b
+    underway_done e =
+        let q = ap length e in
+        let t = u.total in
+        (omega arith, u.leads b (subst (λ (x : List ℕ). Delivered book n x b b) (sym e) (delivered_none book n b u.size u.readings)))
 
 -- The command at a place of the book.
 pub command_at_lem : (s : List ℕ) (m : ℕ) → command_of s m ≡ command_at (commands_of s) m

@@ -29,12 +29,9 @@ pub fn deliver_all(site: &mut [u8], book: &[u8], places: &[u64], k: usize, set: 
         × (within_of set (length (commands_of book.now)) ≡ true) × (k + length (in_order set) ≤ capacity) }
     ensures { (result ≡ k + length (in_order set)) × Delivered (commands_of book.now) k (in_order set) site.old site.new }
 {
-    let mut left = set;
     let mut n = k;
-    while !left.is_empty() {
-        let m = left.first();
+    for m in set {
         deliver(site, book, places, n, m);
-        left = left.rest();
         n += 1;
     }
     n
