@@ -1,8 +1,7 @@
 -- Commands that are acked: no two of a round conflict, and each is in NC if the round is decided.
 -- Rests on Promises, Heard and the quorum inequalities.
-use Rattle.std.specs.Prelude.{◌≡◌, refl, Bool, true, false, ◌&&◌, ◌||◌, not, ◌⊎◌, ℕ, ◌<◌}
+use Rattle.std.specs.Prelude.{◌≡◌, refl, Bool, true, false, ◌&&◌, ◌||◌, not, ◌⊎◌, ℕ, ◌<◌, Some}
 use Rattle.std.proofs.Common.{sym, ◌∙◌, ap, inl, inr, ⊎_elim, arith, le-leb}
-use Rattle.std.proofs.Math.Option.{some}
 use Rattle.theory.specs.Sets.{Set, count}
 use Rattle.theory.specs.Counting.{left, right, either, never, not-true, known, count_mono, count_minus, quorum, correct_common}
 use Rattle.protocol.specs.System.{System, correct}
@@ -51,7 +50,7 @@ module _ (S : System) where
         (promises c.0 (is_correct c.0 c.4)).calm r a b la lb (voucher c.0 _ c.4 c.2) (voucher c.0 _ c.4 c.3)
 
     -- An acked command of a decided round is in its NC: a majority of the valid sources are correct and said it.
-    pub acked_decided : (r m : ℕ) (d : Tally) → Acked S w.acks r m → decide S r w.log ≡ some d → nc_set S d m ≡ true
+    pub acked_decided : (r m : ℕ) (d : Tally) → Acked S w.acks r m → decide S r w.log ≡ Some d → nc_set S d m ≡ true
     acked_decided r m d h e =
         let p : ℕ → Bool = λ j. vouches S w.acks r m j && is_valid (d j) in
         let q = sizes.quorums.covers in

@@ -1,8 +1,7 @@
 -- The bound on rounds: each decided round brings at least two commands that were not settled before, so a site's round is at most
 -- capacity / 2 + 1. Rests on Brought and Invariant.
-use Rattle.std.specs.Prelude.{◌≡◌, refl, Bool, true, false, ◌&&◌, ◌||◌, not, List, ◌≢◌, ℕ, zero, suc, ◌+◌, ◌*◌, ◌≤◌, ◌<◌, eqb}
+use Rattle.std.specs.Prelude.{◌≡◌, refl, Bool, true, false, ◌&&◌, ◌||◌, not, List, ◌≢◌, ℕ, zero, suc, ◌+◌, ◌*◌, ◌≤◌, ◌<◌, eqb, Some}
 use Rattle.std.proofs.Common.{sym, ◌∙◌, ap, arith, eqb-true, eq-eqb}
-use Rattle.std.proofs.Math.Option.{some}
 use Rattle.theory.specs.Sets.{Set, ◌∪◌, count}
 use Rattle.theory.specs.Counting.{both, true_or, or_true, never, any_at, count_le, count_mono, count_split, count_at, correct_member}
 use Rattle.theory.specs.Machine.{Exchange}
@@ -52,7 +51,7 @@ module _ (S : System) (f : ℕ) (sizes : Sizes S f) (law : Exchange S.machine) w
   apart a b h e = never (machine.conflict a b) h (ap (machine.conflict a) (sym e) ∙ law.irreflexive a)
 
   -- A decided round has a correct valid source, whose entry brings two commands that were not settled before.
-  pub round_brings : (w : World S) → Brought S w → (k : ℕ) (g : History) (t : Tally) → history S k w.log ≡ some g → decide S k w.log ≡ some t
+  pub round_brings : (w : World S) → Brought S w → (k : ℕ) (g : History) (t : Tally) → history S k w.log ≡ Some g → decide S k w.log ≡ Some t
       → count commands g.settled + 2 ≤ count commands (extend S g t).settled
   round_brings w v k g t eg et =
       let z = correct_member sites f (λ j. is_valid (t j)) faulty sizes.few (omega (arith, sizes.quorums.correct, decided_count S k w.log t et)) in
@@ -80,7 +79,7 @@ module _ (S : System) (f : ℕ) (sizes : Sizes S f) (law : Exchange S.machine) w
               (any_at sites (λ j. nc_of (t j) m || c_of (t j) m) j l
               (ap (λ (s : Standing). nc_of s m || c_of s m) e ∙ (λ i. sym k.same_nc i m || sym k.same_c i m) ∙ h)))
 
-  settled-count : (w : World S) → Brought S w → (k : ℕ) (h : History) → history S (suc k) w.log ≡ some h → 2 * k ≤ count commands h.settled
+  settled-count : (w : World S) → Brought S w → (k : ℕ) (h : History) → history S (suc k) w.log ≡ Some h → 2 * k ≤ count commands h.settled
   settled-count w v zero h e = omega arith
   settled-count w v (suc k) h e =
       let z = history_last S k w.log h e in
@@ -101,7 +100,7 @@ module _ (S : System) (f : ℕ) (sizes : Sizes S f) (law : Exchange S.machine) w
   pub round_delivered : (w : World S) → AllSettled S w → Brought S w → (i : ℕ) → 2 * (w.site i).round ≤ count commands (w.site i).delivered + 2
   round_delivered w g v i = go (w.site i).round (g i).past (g i).at (g i).same
     where
-      go : (k : ℕ) (h : History) → history S k w.log ≡ some h → h.settled ≡ (w.site i).delivered → 2 * k ≤ count commands (w.site i).delivered + 2
+      go : (k : ℕ) (h : History) → history S k w.log ≡ Some h → h.settled ≡ (w.site i).delivered → 2 * k ≤ count commands (w.site i).delivered + 2
       go zero h e q = omega arith
       go (suc k) h e q = omega (arith, settled-count w v k h e, ap (count commands) q)
 

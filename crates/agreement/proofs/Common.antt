@@ -1,12 +1,11 @@
 -- The common sequence of a world: what the log settles below the greatest round of a correct site, then what correct sites delivered fast in that round.
 -- Every correct site's list, followed by what it has not delivered, is alike to it. Rests on Invariant and HistoryLaws.
-use Rattle.std.specs.Prelude.{◌≡◌, Bool, false, ◌&&◌, not, ◌⊎◌, ℕ, zero, suc, ◌+◌, ◌-◌, ◌≤◌, ◌<◌, eqb}
+use Rattle.std.specs.Prelude.{◌≡◌, Bool, false, ◌&&◌, not, ◌⊎◌, ℕ, zero, suc, ◌+◌, ◌-◌, ◌≤◌, ◌<◌, eqb, Some}
 use Rattle.std.proofs.Math.Path.{refl, sym, ap}
 use Rattle.std.proofs.Common.{◌∙◌, subst, inl, inr, arith, eqb-true, eq-eqb}
 use Rattle.std.proofs.Math.Bool.{true}
 use mathlib.Core.List.{List, [], ◌++◌, append_assoc}
 use Rattle.std.proofs.Math.Logic.{⊎_elim}
-use Rattle.std.proofs.Math.Option.{some}
 use Rattle.theory.specs.Sets.{Set, ∅, ◌∪◌, ◌∖◌, any, members}
 use Rattle.theory.specs.Counting.{both, left, right, either, never, not-true, known, lt_or_le, last_or_below, any_at, any_some, same_test}
 use Rattle.theory.specs.Lists.{contents, distinct}
@@ -99,12 +98,12 @@ module _ (S : System) where
     K = (top w sites).round
 
     -- What the log settles below the greatest round.
-    last_history : (past : History) × (history S K w.log ≡ some past)
+    last_history : (past : History) × (history S K w.log ≡ Some past)
     unfolding K history
     last_history = go (top w sites).from
       where
         go : ((top w sites).round ≡ 1) ⊎ ((i : ℕ) × (i < sites) × (correct S i ≡ true) × ((w.site i).round ≡ (top w sites).round))
-            → (past : History) × (history S (top w sites).round w.log ≡ some past)
+            → (past : History) × (history S (top w sites).round w.log ≡ Some past)
         go (inl e) = (record { settled = ∅; sequence = [] }, ap (λ (k : ℕ). history S k w.log) e)
         go (inr z) = ((good.settled z.0).past, ap (λ (k : ℕ). history S k w.log) (sym z.3) ∙ (good.settled z.0).at)
 
@@ -186,10 +185,10 @@ module _ (S : System) where
         gap : ℕ
         gap = K - suc (w.site i).round
 
-        late : history S (suc gap + (w.site i).round) w.log ≡ some past
-        late = subst (λ (k : ℕ). history S k w.log ≡ some past) (omega arith) last_history.1
+        late : history S (suc gap + (w.site i).round) w.log ≡ Some past
+        late = subst (λ (k : ℕ). history S k w.log ≡ Some past) (omega arith) last_history.1
 
-        decided : (t : Tally) × (decide S (w.site i).round w.log ≡ some t)
+        decided : (t : Tally) × (decide S (w.site i).round w.log ≡ Some t)
         decided = history_decided S gap (w.site i).round w.log v.past past v.at late
 
         t : Tally
@@ -210,7 +209,7 @@ module _ (S : System) where
         tail : (tail : List ℕ) × (past.sequence ≡ (v.past.sequence ++ segment S v.past.settled t) ++ tail)
         tail =
             history_part S gap (suc (w.site i).round) w.log (extend S v.past t) past
-            (history-next S (w.site i).round w.log v.past t v.at decided.1) (subst (λ (k : ℕ). history S k w.log ≡ some past) (omega arith) late)
+            (history-next S (w.site i).round w.log v.past t v.at decided.1) (subst (λ (k : ℕ). history S k w.log ≡ Some past) (omega arith) late)
 
         fast_in_lem : (m : ℕ) → m < commands → (w.site i).fast m ≡ true → (nc_set S t m ≡ true) × (v.past.settled m ≡ false)
         fast_in_lem m l h = (

@@ -1,10 +1,9 @@
 -- No run meets refusal 8 or 9, and no correct site's append is a third entry.
 -- Rests on Bound and Sequence.
-use Rattle.std.specs.Prelude.{◌≡◌, refl, Bool, true, false, ◌&&◌, ◌||◌, not, List, [], ◌∷◌, ◌++◌, ℕ, suc, ◌+◌, ◌≤◌, ◌<◌, eqb, leb, ltb, length}
+use Rattle.std.specs.Prelude.{◌≡◌, refl, Bool, true, false, ◌&&◌, ◌||◌, not, List, [], ◌∷◌, ◌++◌, ℕ, suc, ◌+◌, ◌≤◌, ◌<◌, eqb, leb, ltb, length, Err, None, Some}
 use Rattle.std.proofs.Common.{sym, ◌∙◌, ap, inl, inr, ⊎_elim, arith, length-append, eqb-true, eq-eqb, ltb-true, lt-ltb, le-leb}
-use Rattle.std.proofs.Math.Option.{some}
 use Rattle.refusals.specs.declared.Refusal.{Refusal}
-use Rattle.refusals.specs.declared.Verdict.TheVariants.{Refused}
+use Rattle.refusals.specs.Refusals.{Verdict}
 use Rattle.theory.specs.Sets.{Set, ∅, only, ◌∪◌, one, any, count, members}
 use Rattle.theory.specs.Counting.{both, left, right, true_or, or_true, either, neither, never, not-true, any_some, count_le, count_mono, count_split, count_at, count-all}
 use Rattle.theory.specs.Lists.{contents, distinct}
@@ -37,10 +36,10 @@ abbrev Spared : (Refusal → Bool) → Demands → Type 0
 Spared p granted = Unit {0}
 Spared p (b else q ⨾ ds) = (p q ≡ true → b ≡ true) × (b ≡ true → Spared p ds)
 
-same_refusal : {q r : Refusal} → Refused q ≡ Refused r → q ≡ r
+same_refusal : {q r : Refusal} → ◌≡◌ {A = Verdict} (Err q) (Err r) → q ≡ r
 same_refusal e = cc
 
-spared : (p : Refusal → Bool) (ds : Demands) → Spared p ds → (r : Refusal) → verdict ds ≡ Refused r → p r ≡ false
+spared : (p : Refusal → Bool) (ds : Demands) → Spared p ds → (r : Refusal) → verdict ds ≡ Err r → p r ≡ false
 spared p granted h r e = refused_taken (sym e)
 spared p (true else q ⨾ ds) h r e = spared p ds (h.1 refl) r e
 spared p (false else q ⨾ ds) h r e = ap p (sym (same_refusal e)) ∙ go (p q) h.0
@@ -88,19 +87,19 @@ length-commands (d ∷ l) = ap suc (length-commands l)
 no_entries : (j r : ℕ) (l : Log) → ((e : Entry) → Logged e l → e.site ≡ j → e.round ≡ r → ⊥) → entries j r l ≡ 0
 unfolding entries
 no_entries j r [] h = refl
-no_entries j r (x ∷ l) h = omega (arith, ap one (none (eqb x.site j && eqb x.round r) refl), no_entries j r l (λ e k. h e (inr k)))
+no_entries j r (x ∷ l) h = omega (arith, ap one (absent (eqb x.site j && eqb x.round r) refl), no_entries j r l (λ e k. h e (inr k)))
   where
-    none : (b : Bool) → (eqb x.site j && eqb x.round r) ≡ b → b ≡ false
-    none true e =
+    absent : (b : Bool) → (eqb x.site j && eqb x.round r) ≡ b → b ≡ false
+    absent true e =
         absurd (h x (inl refl) (eqb-true x.site j (left (eqb x.site j) (eqb x.round r) e)) (eqb-true x.round r (right (eqb x.site j) (eqb x.round r) e)))
-    none false e = refl
+    absent false e = refl
 
 module _ (S : System) (f : ℕ) (sizes : Sizes S f) where
   open S use {machine, commands, rounds}
 
   -- A site has recorded at most as many deliveries as there are commands.
   list_room : (log : Log) (k : ℕ) (fast : Set) (list : List ℕ) (v : Traced S log k fast list)
-      → ((h : History) → history S k log ≡ some h → (m : ℕ) → fast m ≡ true → h.settled m ≡ false) → length list ≤ commands
+      → ((h : History) → history S k log ≡ Some h → (m : ℕ) → fast m ≡ true → h.settled m ≡ false) → length list ≤ commands
   list_room log k fast list v h =
       omega (arith, alike-length machine v.alike, distinct-count commands l once below, count_le commands (contents l))
     where
@@ -124,7 +123,7 @@ module _ (S : System) (f : ℕ) (sizes : Sizes S f) where
 
   module _ (w : World S) (good : Good S w) where
     -- What is pending at a site is not settled below its round.
-    pending_new : (i : ℕ) (h : History) → history S (w.site i).round w.log ≡ some h → (m : ℕ) → (w.site i).pending m ≡ true → h.settled m ≡ false
+    pending_new : (i : ℕ) (h : History) → history S (w.site i).round w.log ≡ Some h → (m : ℕ) → (w.site i).pending m ≡ true → h.settled m ≡ false
     pending_new i h e m p =
         ap (λ (x : History). x.settled m) (same_some (sym e ∙ (good.settled i).at)) ∙ ap (λ (x : Set). x m) (good.settled i).same
         ∙ not-true ((w.site i).delivered m) (right ((w.site i).received m) (not ((w.site i).delivered m)) ((good.pending i).inside m p))
@@ -165,7 +164,7 @@ module _ (S : System) (f : ℕ) (sizes : Sizes S f) where
         v = finish_traced S f sizes w i (decision S (w.site i) w.log) refl h good.settled good.pending good.promises good.heard (good.traced i)
 
     -- Refusal 9 is never met.
-    pub no_full : (t : Step) (r : Refusal) → judge S w t ≡ Refused r → is_full r ≡ false
+    pub no_full : (t : Step) (r : Refusal) → judge S w t ≡ Err r → is_full r ≡ false
     no_full t r e = spared is_full (demands S w t) (full_spared t) r e
       where
         full_spared : (t : Step) → Spared is_full (demands S w t)
@@ -188,7 +187,7 @@ module _ (S : System) (f : ℕ) (sizes : Sizes S f) where
         (λ x l ex er. ⊎_elim (λ z. omega arith) (λ z. not-waiting (w.site i).phase c z.1) ((good.promises i b).spoke x l ex))
 
     -- So its append is never a third entry.
-    pub no_third : (i : ℕ) (r : Refusal) → judge S w (turn i) ≡ Refused r → is_third r ≡ false
+    pub no_third : (i : ℕ) (r : Refusal) → judge S w (turn i) ≡ Err r → is_third r ≡ false
     no_third i r e =
         spared is_third (demands S w (turn i))
         (quiet, λ a. (quiet, λ b. (quiet, λ c. (quiet, λ d. ((λ z. or_true (acknowledges S (w.site i)) (ltb (entries i (w.site i).round w.log) 2) (first b c)), λ z. (quiet, λ y. tt))))))
@@ -198,7 +197,7 @@ module _ (S : System) (f : ℕ) (sizes : Sizes S f) where
         first b c = lt-ltb (entries i (w.site i).round w.log) 2 (omega (arith, unspoken i b c))
 
     -- In the round after the last that the log takes everything is delivered, so no turn is enabled there: refusal 8 is never met.
-    pub no_last_round : Exchange machine → Limits S → Brought S w → (t : Step) (r : Refusal) → judge S w t ≡ Refused r → is_last_round r ≡ false
+    pub no_last_round : Exchange machine → Limits S → Brought S w → (t : Step) (r : Refusal) → judge S w t ≡ Err r → is_last_round r ≡ false
     no_last_round law limits brought t r e = spared is_last_round (demands S w t) (rounds_spared t) r e
       where
         early : (i : ℕ) → any commands (unacknowledged S (w.site i)) ≡ true → leb (w.site i).round rounds ≡ true

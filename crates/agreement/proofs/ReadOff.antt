@@ -1,12 +1,10 @@
 -- What is read off the list of steps, its refusals and the decided rounds is what the sites hold.
 -- Rests on Invariant and HistoryLaws.
-use Rattle.std.specs.Prelude.{◌≡◌, refl, Bool, true, false, ◌&&◌, ◌||◌, not, ℕ, suc, ◌<◌, eqb}
+use Rattle.std.specs.Prelude.{◌≡◌, refl, Bool, true, false, ◌&&◌, ◌||◌, not, ℕ, suc, ◌<◌, eqb, Err, None, Ok, Option, Some}
 use Rattle.std.proofs.Common.{sym, ◌∙◌, ap, subst, eqb-true}
 use mathlib.Core.List.{List, [], ◌∷◌, ◌++◌, foldl, append_assoc, append-nil}
-use Rattle.std.proofs.Math.Option.{Option, none, some}
 use Rattle.refusals.specs.Refusals.{is_taken, settled}
-use Rattle.refusals.specs.declared.Verdict.{Verdict}
-use Rattle.refusals.specs.declared.Verdict.TheVariants.{Taken, Refused}
+use Rattle.refusals.specs.Refusals.{Verdict}
 use Rattle.theory.specs.Sets.{Set, ◌∪◌, ◌∖◌, pick, members}
 use Rattle.theory.specs.Counting.{left, never, same_test}
 use Rattle.theory.specs.Lists.{contents}
@@ -75,8 +73,8 @@ module _ (S : System) where
   step_longer w t = go (judge S w t)
     where
       go : (d : Verdict) → Longer w.log (settled d (change S w t) w).log
-      go Taken = change_longer w t
-      go (Refused r) = same_log w.log
+      go (Ok _) = change_longer w t
+      go (Err r) = same_log w.log
 
   play_longer : (w : World S) (l : List Step) → Longer w.log (play S w l).log
   play_longer w [] = same_log w.log
@@ -148,14 +146,14 @@ module _ (S : System) where
 
   ended : (w : World S) → Good S w → (i : ℕ) (o : Option Tally) → decision S (w.site i) w.log ≡ o → is_some o ≡ true → (log : Log) → Longer w.log log
       → end_round S (tally_or (decide S (w.site i).round log)) (reading (w.site i)) ≡ reading (finish S (tally_or o) (w.site i))
-  ended w g i none e h log more = absurd (never false h refl)
-  ended w g i (some t) e h log more =
+  ended w g i None e h log more = absurd (never false h refl)
+  ended w g i (Some t) e h log more =
       ap (λ (o : Option Tally). end_round S (tally_or o) (reading (w.site i))) decided
       ∙ (λ k. record { round = suc (w.site i).round; list = (due-new w g i t ∙ sym (fold_commands S (w.site i).ledger (due S t (w.site i)))) k })
     where
-      decided : decide S (w.site i).round log ≡ some t
+      decided : decide S (w.site i).round log ≡ Some t
       decided =
-          subst (λ (l : Log). decide S (w.site i).round l ≡ some t) more.whole
+          subst (λ (l : Log). decide S (w.site i).round l ≡ Some t) more.whole
           (decide_grows S (w.site i).round w.log more.more t (decision_log S (w.site i) w.log t e))
 
   change_reads : (w : World S) → Good S w → (i : ℕ) (t : Step) → Met (demands S w t) → (log : Log) → Longer w.log log
@@ -192,9 +190,9 @@ module _ (S : System) where
             → foldl (read_step S i log) (reading ((settled d (change S w t) w).site i)) (taken S (settled d (change S w t) w) l) ≡ reading ((play S (settled d (change S w t) w) l).site i)
             → foldl (read_step S i log) (reading (w.site i)) (pick (is_taken d) (t ∷ taken S (settled d (change S w t) w) l) (taken S (settled d (change S w t) w) l))
             ≡ reading ((play S (settled d (change S w t) w) l).site i)
-        go Taken e ih =
+        go (Ok _) e ih =
             ap (λ (x : Reading). foldl (read_step S i log) x (taken S (change S w t) l)) (change_reads w g i t (met (demands S w t) e) log here) ∙ ih
-        go (Refused r) e ih = ih
+        go (Err r) e ih = ih
 
     -- What site i delivers is what it holds.
     pub read_off : (i : ℕ) (l : List Step) → delivers S i (play S (start S) l).log (taken S (start S) l) ≡ commands_of ((play S (start S) l).site i).ledger.deliveries

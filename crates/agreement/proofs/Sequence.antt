@@ -1,9 +1,8 @@
 -- A site has delivered a list alike to what its log settles below its round, followed by what it delivered fast.
 -- Rests on History, Pending, Acked and the laws of alike sequences.
-use Rattle.std.specs.Prelude.{◌≡◌, refl, Bool, true, false, ◌&&◌, ◌||◌, not, ℕ, ◌<◌, eqb}
+use Rattle.std.specs.Prelude.{◌≡◌, refl, Bool, true, false, ◌&&◌, ◌||◌, not, ℕ, ◌<◌, eqb, None, Option, Some}
 use Rattle.std.proofs.Common.{sym, ◌∙◌, ap, ⊎_elim, arith, eqb-true, ltb-true}
 use mathlib.Core.List.{List, [], ◌∷◌, ◌++◌, append_assoc, append-nil}
-use Rattle.std.proofs.Math.Option.{Option, none, some}
 use Rattle.theory.specs.Sets.{Set, ∅, only, ◌∪◌, ◌∖◌, pick, members}
 use Rattle.theory.specs.Counting.{both, left, right, either, never, not-true, true_or}
 use Rattle.theory.specs.Members.{members_ext, members-none, members-one}
@@ -71,7 +70,7 @@ module _ (S : System) where
 
   pub record Traced (log : Log) (round : ℕ) (fast : Set) (list : List ℕ) : Type 0 where
     pub past : History
-    pub at : history S round log ≡ some past
+    pub at : history S round log ≡ Some past
     pub alike : Alike machine list (past.sequence ++ members commands fast)
 
   abbrev pub TracedAt : Log → Site S → Type 0
@@ -116,8 +115,8 @@ module _ (S : System) where
   module _ (f : ℕ) (sizes : Sizes S f) where
     pub finish_traced : (w : World S) (i : ℕ) (o : Option Tally) → decision S (w.site i) w.log ≡ o → is_some o ≡ true
         → AllSettled S w → AllPending S w → Promises S w → AllHeard S w → TracedAt w.log (w.site i) → TracedAt w.log (finish S (tally_or o) (w.site i))
-    finish_traced w i none e h settled pending promises heard v = absurd (never false h refl)
-    finish_traced w i (some t) e h settled pending promises heard v =
+    finish_traced w i None e h settled pending promises heard v = absurd (never false h refl)
+    finish_traced w i (Some t) e h settled pending promises heard v =
         record {
           past = extend S v.past t;
           at = history-next S s.round w.log v.past t v.at decided;
@@ -134,7 +133,7 @@ module _ (S : System) where
         s : Site S
         s = w.site i
 
-        decided : decide S s.round w.log ≡ some t
+        decided : decide S s.round w.log ≡ Some t
         decided = decision_log S s w.log t e
 
         same_set : s.delivered ≡ v.past.settled

@@ -1,8 +1,7 @@
 -- A correct site proposes only where two commands conflict: its entry brings two conflicting commands that the log has not settled.
 -- Rests on History.
-use Rattle.std.specs.Prelude.{◌≡◌, refl, Bool, true, false, ◌&&◌, ◌||◌, not, [], ◌∷◌, ◌++◌, ◌⊎◌, ℕ, zero, suc, ◌<◌}
+use Rattle.std.specs.Prelude.{◌≡◌, refl, Bool, true, false, ◌&&◌, ◌||◌, not, [], ◌∷◌, ◌++◌, ◌⊎◌, ℕ, zero, suc, ◌<◌, Some}
 use Rattle.std.proofs.Common.{sym, ◌∙◌, ap, subst, inl, inr, ⊎_elim, arith}
-use Rattle.std.proofs.Math.Option.{some}
 use Rattle.theory.specs.Sets.{Set, ◌∪◌, all}
 use Rattle.theory.specs.Counting.{left, right, never, not-true, not-false, known}
 use Rattle.protocol.specs.System.{System, correct, free}
@@ -33,7 +32,7 @@ module _ (S : System) where
   -- Two conflicting commands of an entry that are not settled below its round.
   pub record Brings (log : Log) (e : Entry) : Type 0 where
     pub past : History
-    pub at : history S e.round log ≡ some past
+    pub at : history S e.round log ≡ Some past
     pub one : ℕ
     pub two : ℕ
     pub below : (one < commands) × (two < commands)

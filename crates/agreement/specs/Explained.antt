@@ -1,8 +1,7 @@
 -- A sequence that a site's list can be completed to explains what the site holds, answers and delivers.
 -- Rests on Answers and the laws of alike sequences.
-use Rattle.std.specs.Prelude.{◌≡◌, refl, Bool, true, false, not, List, [], ◌∷◌, ◌++◌, map, ℕ, eqb}
+use Rattle.std.specs.Prelude.{◌≡◌, refl, Bool, true, false, not, List, [], ◌∷◌, ◌++◌, map, ℕ, eqb, Some}
 use Rattle.std.proofs.Common.{sym, ◌∙◌, ap, append-nil, eqb-true, eq-eqb}
-use Rattle.std.proofs.Math.Option.{some}
 use Rattle.theory.specs.Sets.{pick}
 use Rattle.theory.specs.Counting.{left, right, true_or, or_true, never, not-true}
 use Rattle.theory.specs.Lists.{contents, distinct, sift}
@@ -26,14 +25,14 @@ module _ (M : Machine) where
 
   -- In a list without repetition each delivery's answer is the one that its command gets in the list, and in any longer one.
   answers_in : (s : State) (l rest : List ℕ) → distinct (l ++ rest) ≡ true
-      → map (λ (d : Delivery Answer). some d.answer) (answered M s l) ≡ map (λ m. answer_in M s (l ++ rest) m) l
+      → map (λ (d : Delivery Answer). Some d.answer) (answered M s l) ≡ map (λ m. answer_in M s (l ++ rest) m) l
   answers_in s [] rest h = refl
   answers_in s (x ∷ l) rest h =
       λ i. here i ∷ (answers_in (execute s x) l rest (right (not (contents (l ++ rest) x)) (distinct (l ++ rest)) h)
       ∙ map_same (λ m. answer_in M (execute s x) (l ++ rest) m) (λ m. answer_in M s (x ∷ (l ++ rest)) m) l later) i
     where
-      here : some (answer s x) ≡ pick (eqb x x) (some (answer s x)) (answer_in M (execute s x) (l ++ rest) x)
-      here = ap (λ (b : Bool). pick b (some (answer s x)) (answer_in M (execute s x) (l ++ rest) x)) (sym (eq-eqb x x refl))
+      here : Some (answer s x) ≡ pick (eqb x x) (Some (answer s x)) (answer_in M (execute s x) (l ++ rest) x)
+      here = ap (λ (b : Bool). pick b (Some (answer s x)) (answer_in M (execute s x) (l ++ rest) x)) (sym (eq-eqb x x refl))
 
       other : (m : ℕ) → contents l m ≡ true → (b : Bool) → eqb m x ≡ b → b ≡ false
       other m k true e =
@@ -41,8 +40,8 @@ module _ (M : Machine) where
           (not-true (contents (l ++ rest) x) (left (not (contents (l ++ rest) x)) (distinct (l ++ rest)) h)))
       other m k false e = refl
 
-      later : (m : ℕ) → contents l m ≡ true → answer_in M (execute s x) (l ++ rest) m ≡ pick (eqb m x) (some (answer s x)) (answer_in M (execute s x) (l ++ rest) m)
-      later m k = ap (λ (b : Bool). pick b (some (answer s x)) (answer_in M (execute s x) (l ++ rest) m)) (sym (other m k (eqb m x) refl))
+      later : (m : ℕ) → contents l m ≡ true → answer_in M (execute s x) (l ++ rest) m ≡ pick (eqb m x) (Some (answer s x)) (answer_in M (execute s x) (l ++ rest) m)
+      later m k = ap (λ (b : Bool). pick b (Some (answer s x)) (answer_in M (execute s x) (l ++ rest) m)) (sym (other m k (eqb m x) refl))
 
 module _ (S : System) (law : Exchange S.machine) where
   open S use {machine}
@@ -56,7 +55,7 @@ module _ (S : System) (law : Exchange S.machine) where
         once = distinct_left D rest whole;
         order = λ a b c h k. before_left a b D rest whole k (alike_order machine law alike a b c ∙ h);
         answers =
-            ap (map (λ d. some d.answer)) v.answers
+            ap (map (λ d. Some d.answer)) v.answers
             ∙ answers_in machine machine.initial D rest whole
             ∙ map_same (λ m. answer_in machine machine.initial (D ++ rest) m) (λ m. answer_in machine machine.initial sequence m) D
             (λ m k. alike-answer machine law machine.initial m alike);

@@ -1,10 +1,9 @@
 -- The sequence that a log settles has exactly the commands settled, each once.
 -- Rests on History and the laws of members.
-use Rattle.std.specs.Prelude.{◌≡◌, Bool, true, ◌&&◌, ◌||◌, not, List, ◌++◌, ◌⊎◌}
+use Rattle.std.specs.Prelude.{◌≡◌, Bool, true, ◌&&◌, ◌||◌, not, List, ◌++◌, ◌⊎◌, Some}
 use Rattle.std.proofs.Math.Path.{refl, subst}
 use Rattle.std.proofs.Common.{sym, ◌∙◌, ap, inl, inr, ⊎_elim}
 use Rattle.std.proofs.Math.Bool.{false}
-use Rattle.std.proofs.Math.Option.{some}
 use Prim.Native.Nat.{ℕ, zero, suc, ◌<◌}
 use Rattle.theory.specs.Sets.{Set, ◌∪◌, ◌∖◌, members}
 use Rattle.theory.specs.Counting.{both, left, right, true_or, or_true, either, never, not-true, known}
@@ -84,7 +83,7 @@ module _ (S : System) where
       apart m true e h = absurd (never (g.settled m) h (segment_in g.settled t m e).1)
       apart m false e h = refl
 
-  pub history_sound : (k : ℕ) (l : Log) (h : History) → history S k l ≡ some h → Sound h
+  pub history_sound : (k : ℕ) (l : Log) (h : History) → history S k l ≡ Some h → Sound h
   unfolding history
   history_sound zero l h e = none-some e
   history_sound (suc zero) l h e =

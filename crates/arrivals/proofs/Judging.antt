@@ -1,14 +1,14 @@
 -- The verdicts on steps 01 to 06, as the code finds them.
 -- Assumes nothing.
 use mathlib.Core.Path.{◌≡◌, refl, sym, ap, ◌∙◌}
+use Rattle.std.specs.Prelude.{Err, Ok}
 use mathlib.Core.Bool.{Bool, true, false, ◌&&◌, not}
 use mathlib.Core.List.{List}
 use Prim.Native.Nat.{ℕ, ◌≤◌, ◌<◌}
 use lib.Dec.{leb, ltb}
 use lib.ListN.{length}
 use borrow.Author.Tests.{lt-ltb, le-ltb, ltb-true, leb-true}
-use Rattle.refusals.specs.declared.Verdict.{Verdict}
-use Rattle.refusals.specs.declared.Verdict.TheVariants.{Taken, Refused}
+use Rattle.refusals.specs.Refusals.{Verdict, accepted}
 use Rattle.refusals.specs.declared.Refusal.TheVariants.{Range, Role, Disabled, ThirdEntry}
 use Rattle.theory.specs.Sets.{pick}
 use Rattle.theory.specs.Counting.{left, right, never, not-true}
@@ -30,8 +30,8 @@ use Rattle.arrivals.specs.Messages.{in_ranges, message_verdict}
 
 -- A message that passed, and whether there is one.
 abbrev pub and_sent : Verdict → Bool → Verdict
-and_sent Taken s = pick s Taken (Refused Disabled)
-and_sent (Refused r) s = Refused r
+and_sent (Ok _) s = pick s accepted (Err Disabled)
+and_sent (Err r) s = Err r
 
 -- What is known of a message that passed.
 pub record Passed (t : SiteTable) (i j r : ℕ) (other role : Bool) : Type 0 where
@@ -44,10 +44,10 @@ pub record Passed (t : SiteTable) (i j r : ℕ) (other role : Bool) : Type 0 whe
   pub has_role : role ≡ true
 
 module _ (t : SiteTable) (i j r : ℕ) (other role : Bool) where
-  pub passed : {v : Verdict} → v ≡ message_verdict t i j r other role → v ≡ Taken → Passed t i j r other role
+  pub passed : {v : Verdict} → v ≡ message_verdict t i j r other role → v ≡ accepted → Passed t i j r other role
   passed ev h = go (in_ranges t i j r && other) (not (faulty_of t i) && role) refl refl (sym ev ∙ h)
     where
-      go : (x y : Bool) → (in_ranges t i j r && other) ≡ x → (not (faulty_of t i) && role) ≡ y → pick x (pick y Taken (Refused Role)) (Refused Range) ≡ Taken
+      go : (x y : Bool) → (in_ranges t i j r && other) ≡ x → (not (faulty_of t i) && role) ≡ y → pick x (pick y accepted (Err Role)) (Err Range) ≡ accepted
           → Passed t i j r other role
       go true true ex ey k =
           let a = left (in_ranges t i j r) other ex in
@@ -66,31 +66,31 @@ module _ (t : SiteTable) (i j r : ℕ) (other role : Bool) where
       go false y ex ey k = absurd (never true refl (let z : true ≡ false = cc in z))
 
   -- The verdict as the code comes to it.
-  pub out_of_range : (in_ranges t i j r && other) ≡ false → Refused Range ≡ message_verdict t i j r other role
-  out_of_range e = sym (ap (λ (x : Bool). pick x (pick (not (faulty_of t i) && role) Taken (Refused Role)) (Refused Range)) e)
+  pub out_of_range : (in_ranges t i j r && other) ≡ false → Err Range ≡ message_verdict t i j r other role
+  out_of_range e = sym (ap (λ (x : Bool). pick x (pick (not (faulty_of t i) && role) accepted (Err Role)) (Err Range)) e)
 
   module _ (e : (in_ranges t i j r && other) ≡ true) where
-    in_range : pick (not (faulty_of t i) && role) Taken (Refused Role) ≡ message_verdict t i j r other role
-    in_range = sym (ap (λ (x : Bool). pick x (pick (not (faulty_of t i) && role) Taken (Refused Role)) (Refused Range)) e)
+    in_range : pick (not (faulty_of t i) && role) accepted (Err Role) ≡ message_verdict t i j r other role
+    in_range = sym (ap (λ (x : Bool). pick x (pick (not (faulty_of t i) && role) accepted (Err Role)) (Err Range)) e)
 
-    pub faulty_receiver : faulty_of t i ≡ true → Refused Role ≡ message_verdict t i j r other role
-    faulty_receiver f = sym (ap (λ (x : Bool). pick (not x && role) Taken (Refused Role)) f) ∙ in_range
+    pub faulty_receiver : faulty_of t i ≡ true → Err Role ≡ message_verdict t i j r other role
+    faulty_receiver f = sym (ap (λ (x : Bool). pick (not x && role) accepted (Err Role)) f) ∙ in_range
 
-    pub by_role : faulty_of t i ≡ false → pick role Taken (Refused Role) ≡ message_verdict t i j r other role
-    by_role f = sym (ap (λ (x : Bool). pick (not x && role) Taken (Refused Role)) f) ∙ in_range
+    pub by_role : faulty_of t i ≡ false → pick role accepted (Err Role) ≡ message_verdict t i j r other role
+    by_role f = sym (ap (λ (x : Bool). pick (not x && role) accepted (Err Role)) f) ∙ in_range
 
 module _ (t : SiteTable) (book : List Command) (w : World (dash t book)) where
   -- 01
-  pub command_site : (i m : ℕ) → t.sites ≤ i → judge (dash t book) w (command i m) ≡ Refused Range
+  pub command_site : (i m : ℕ) → t.sites ≤ i → judge (dash t book) w (command i m) ≡ Err Range
   command_site i m h = simp (le-ltb i t.sites h)
 
-  pub command_number : (i m : ℕ) → i < t.sites → length book ≤ m → judge (dash t book) w (command i m) ≡ Refused Range
+  pub command_number : (i m : ℕ) → i < t.sites → length book ≤ m → judge (dash t book) w (command i m) ≡ Err Range
   command_number i m a h = simp (lt-ltb i t.sites a, le-ltb m (length book) h)
 
-  pub command_role : (i m : ℕ) → i < t.sites → m < length book → faulty_of t i ≡ true → judge (dash t book) w (command i m) ≡ Refused Role
+  pub command_role : (i m : ℕ) → i < t.sites → m < length book → faulty_of t i ≡ true → judge (dash t book) w (command i m) ≡ Err Role
   command_role i m a b h = simp (lt-ltb i t.sites a, lt-ltb m (length book) b, h)
 
-  pub command_taken : (i m : ℕ) → i < t.sites → m < length book → faulty_of t i ≡ false → judge (dash t book) w (command i m) ≡ Taken
+  pub command_taken : (i m : ℕ) → i < t.sites → m < length book → faulty_of t i ≡ false → judge (dash t book) w (command i m) ≡ accepted
   command_taken i m a b h = simp (lt-ltb i t.sites a, lt-ltb m (length book) b, h)
 
   -- 02
@@ -103,7 +103,7 @@ module _ (t : SiteTable) (book : List Command) (w : World (dash t book)) where
     where
       go : (a b c d e f g h s : Bool)
           → verdict (a else Range ⨾ b else Range ⨾ c else Range ⨾ d else Range ⨾ e else Range ⨾ f else Range ⨾ g else Role ⨾ h else Role ⨾ s else Disabled ⨾ granted)
-          ≡ and_sent (pick (a && b && c && d && (e && f)) (pick (g && h) Taken (Refused Role)) (Refused Range)) s
+          ≡ and_sent (pick (a && b && c && d && (e && f)) (pick (g && h) accepted (Err Role)) (Err Range)) s
       go false b c d e f g h s = refl
       go true false c d e f g h s = refl
       go true true false d e f g h s = refl
@@ -123,7 +123,7 @@ module _ (t : SiteTable) (book : List Command) (w : World (dash t book)) where
     where
       go : (a b c d g h s : Bool)
           → verdict (a else Range ⨾ b else Range ⨾ c else Range ⨾ d else Range ⨾ g else Role ⨾ h else Role ⨾ s else Disabled ⨾ granted)
-          ≡ and_sent (pick (a && b && c && d && true) (pick (g && h) Taken (Refused Role)) (Refused Range)) s
+          ≡ and_sent (pick (a && b && c && d && true) (pick (g && h) accepted (Err Role)) (Err Range)) s
       go false b c d g h s = refl
       go true false c d g h s = refl
       go true true false d g h s = refl
@@ -136,7 +136,7 @@ module _ (t : SiteTable) (book : List Command) (w : World (dash t book)) where
   -- 04 and 05
   both_false : (a b c d e g h : Bool)
       → verdict (a else Range ⨾ b else Range ⨾ c else Range ⨾ d else Range ⨾ e else Range ⨾ g else Role ⨾ h else Role ⨾ granted)
-      ≡ pick (a && b && c && d && e) (pick (g && h) Taken (Refused Role)) (Refused Range)
+      ≡ pick (a && b && c && d && e) (pick (g && h) accepted (Err Role)) (Err Range)
   both_false false b c d e g h = refl
   both_false true false c d e g h = refl
   both_false true true false d e g h = refl
@@ -160,13 +160,13 @@ module _ (t : SiteTable) (book : List Command) (w : World (dash t book)) where
   pub entry_judged : (j r : ℕ) (nc c : Set)
       → judge (dash t book) w (false_entry j r (in_set nc) (in_set c))
       ≡ pick (in_range_of t.sites (length book) (record { site = j; round = r; nc = nc; c = c }))
-      (pick (faulty_of t j) (pick (ltb (entries j r w.log) 2) Taken (Refused ThirdEntry)) (Refused Role)) (Refused Range)
+      (pick (faulty_of t j) (pick (ltb (entries j r w.log) 2) accepted (Err ThirdEntry)) (Err Role)) (Err Range)
   entry_judged j r nc c =
       go (ltb j t.sites) (leb 1 r) (leb r last_round) (within_of nc (length book)) (within_of c (length book)) (faulty_of t j) (ltb (entries j r w.log) 2)
     where
       go : (a b c d e f g : Bool)
           → verdict (a else Range ⨾ b else Range ⨾ c else Range ⨾ d else Range ⨾ e else Range ⨾ f else Role ⨾ g else ThirdEntry ⨾ granted)
-          ≡ pick (a && b && c && d && e) (pick f (pick g Taken (Refused ThirdEntry)) (Refused Role)) (Refused Range)
+          ≡ pick (a && b && c && d && e) (pick f (pick g accepted (Err ThirdEntry)) (Err Role)) (Err Range)
       go false b c d e f g = refl
       go true false c d e f g = refl
       go true true false d e f g = refl

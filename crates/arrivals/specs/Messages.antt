@@ -1,8 +1,7 @@
 -- What is asked of every message, whoever sent it.
 -- Assumes nothing.
-use Rattle.std.specs.Prelude.{Bool, ◌&&◌, not, ℕ, leb, ltb}
-use Rattle.refusals.specs.declared.Verdict.{Verdict}
-use Rattle.refusals.specs.declared.Verdict.TheVariants.{Taken, Refused}
+use Rattle.std.specs.Prelude.{Bool, ◌&&◌, not, ℕ, leb, ltb, Err, Ok}
+use Rattle.refusals.specs.Refusals.{Verdict, accepted}
 use Rattle.refusals.specs.declared.Refusal.TheVariants.{Range, Role}
 use Rattle.theory.specs.Sets.{pick}
 use Rattle.table.specs.declared.SiteTable.{SiteTable}
@@ -16,4 +15,4 @@ in_ranges t i j r = ltb i t.sites && ltb j t.sites && leb 1 r && leb r site_roun
 -- The verdict on a message from j to i, by whether its other operands are in range and whether its sender has the role that it is to have.
 abbrev pub message_verdict : SiteTable → ℕ → ℕ → ℕ → Bool → Bool → Verdict
 message_verdict t i j r other role =
-    pick (in_ranges t i j r && other) (pick (not (faulty_of t i) && role) Taken (Refused Role)) (Refused Range)
+    pick (in_ranges t i j r && other) (pick (not (faulty_of t i) && role) accepted (Err Role)) (Err Range)

@@ -16,7 +16,6 @@ ghost use Rattle.arrivals.specs.Messages.{message_verdict};
 use entries::Entry;
 use layout::Site;
 use refusals::{Refusal, Verdict};
-use sent::SentMessage;
 use sets::Set;
 use table::{Rules, SiteTable};
 
@@ -46,15 +45,15 @@ fn judge_message(table: SiteTable, i: usize, j: usize, r: usize, other: bool, ro
 {
     let in_range = (i < table.sites) & (j < table.sites) & (1 <= r) & (r <= Site::ROUNDS) & other;
     if !in_range {
-        return Verdict::Refused(Refusal::Range);
+        return Err(Refusal::Range);
     }
     if table.is_faulty(i) {
-        return Verdict::Refused(Refusal::Role);
+        return Err(Refusal::Role);
     }
     if !role {
-        return Verdict::Refused(Refusal::Role);
+        return Err(Refusal::Role);
     }
-    Verdict::Taken
+    Ok(())
 }
 
 // The verdict on a message with a set from a faulty site j.
@@ -76,18 +75,18 @@ pub fn command(sites: &mut [u8], rules: Rules, site: u8, command: u8) -> Verdict
     let i = site as usize;
     let m = command as usize;
     if i >= table.sites {
-        return Verdict::Refused(Refusal::Range);
+        return Err(Refusal::Range);
     }
     if m >= rules.commands {
-        return Verdict::Refused(Refusal::Range);
+        return Err(Refusal::Range);
     }
     if table.is_faulty(i) {
-        return Verdict::Refused(Refusal::Role);
+        return Err(Refusal::Role);
     }
     let from = i * Site::SIZE;
     let to = from + Site::SIZE;
     site::receive_command(&mut sites[from..to], m);
-    Verdict::Taken
+    Ok(())
 }
 
 // 02: the acknowledgment of that number, from 1, that a correct site sent in a round reaches a site.
@@ -110,16 +109,12 @@ pub fn acknowledgment(
     let a = number as usize;
     let counted = (1 <= a) & (a <= Set::CAPACITY);
     let faulty = table.is_faulty(j);
-    let verdict = judge_message(table, i, j, r, counted, !faulty);
-    if let Verdict::Refused(refusal) = verdict {
-        return Verdict::Refused(refusal);
-    }
-    let message = sent::acknowledgment(sent, j, r, number);
-    let SentMessage::Sent(set) = message else {
-        return Verdict::Refused(Refusal::Disabled);
+    judge_message(table, i, j, r, counted, !faulty)?;
+    let Some(set) = sent::acknowledgment(sent, j, r, number) else {
+        return Err(Refusal::Disabled);
     };
     hear(sites, i, j, r, set);
-    Verdict::Taken
+    Ok(())
 }
 
 // 03: the check message that a correct site sent in a round reaches a site.
@@ -132,16 +127,12 @@ pub fn check(sites: &mut [u8], sent: &[u8], rules: Rules, site: u8, from: u8, ro
     let j = from as usize;
     let r = round as usize;
     let faulty = table.is_faulty(j);
-    let verdict = judge_message(table, i, j, r, true, !faulty);
-    if let Verdict::Refused(refusal) = verdict {
-        return Verdict::Refused(refusal);
-    }
-    let message = sent::check(sent, j, r);
-    let SentMessage::Sent(set) = message else {
-        return Verdict::Refused(Refusal::Disabled);
+    judge_message(table, i, j, r, true, !faulty)?;
+    let Some(set) = sent::check(sent, j, r) else {
+        return Err(Refusal::Disabled);
     };
     receive(sites, i, set);
-    Verdict::Taken
+    Ok(())
 }
 
 // 04: an acknowledgment of a faulty site reaches a site.
@@ -159,12 +150,9 @@ pub fn false_acknowledgment(
     let i = site as usize;
     let j = from as usize;
     let r = round as usize;
-    let verdict = judge_false(rules, i, j, r, set);
-    if let Verdict::Refused(refusal) = verdict {
-        return Verdict::Refused(refusal);
-    }
+    judge_false(rules, i, j, r, set)?;
     hear(sites, i, j, r, set);
-    Verdict::Taken
+    Ok(())
 }
 
 // 05: a check message of a faulty site reaches a site.
@@ -182,12 +170,9 @@ pub fn false_check(
     let i = site as usize;
     let j = from as usize;
     let r = round as usize;
-    let verdict = judge_false(rules, i, j, r, set);
-    if let Verdict::Refused(refusal) = verdict {
-        return Verdict::Refused(refusal);
-    }
+    judge_false(rules, i, j, r, set)?;
     receive(sites, i, set);
-    Verdict::Taken
+    Ok(())
 }
 
 // 06: an entry of a faulty site reaches the log.
@@ -216,14 +201,14 @@ pub fn false_entry(
         c: c,
     };
     if !entries::in_range(entry, table.sites, rules.commands) {
-        return Verdict::Refused(Refusal::Range);
+        return Err(Refusal::Range);
     }
     if !table.is_faulty(j) {
-        return Verdict::Refused(Refusal::Role);
+        return Err(Refusal::Role);
     }
     if rounds::third(&kept[..], j, r) {
-        return Verdict::Refused(Refusal::ThirdEntry);
+        return Err(Refusal::ThirdEntry);
     }
     rounds::append(log, kept, entry, table, rows);
-    Verdict::Taken
+    Ok(())
 }

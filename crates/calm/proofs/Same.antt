@@ -1,9 +1,9 @@
 -- The system that goes by the rows of a book decides as the dash register's does.
 -- Assumes nothing.
+use Rattle.std.specs.Prelude.{Some}
 use mathlib.Core.Path.{◌≡◌, refl, sym, ap, ◌∙◌}
 use mathlib.Core.Bool.{Bool, true, false, ◌&&◌}
 use mathlib.Core.List.{List, [], ◌∷◌}
-use mathlib.Core.Option.{some}
 use mathlib.Core.Logic.{◌⊎◌, inl, inr}
 use Prim.Native.Nat.{ℕ, ◌≤◌, ◌<◌}
 use native.Mathlib.Omega.{arith}
@@ -83,9 +83,9 @@ module _ (s : List ℕ) where
     unfolding decide_from
     decide_from-rows r k [] = refl
     decide_from-rows r k (e ∷ l) =
-        (λ i. pick (eqb (valid_count (dash t (commands_of s)) (add-rows r k e i)) (n_chk_of t)) (some (add-rows r k e i))
+        (λ i. pick (eqb (valid_count (dash t (commands_of s)) (add-rows r k e i)) (n_chk_of t)) (Some (add-rows r k e i))
         (decide_from (rows_system t (conflict_rows s)) r (add-rows r k e i) l))
-        ∙ ap (pick (eqb (valid_count (dash t (commands_of s)) (add (dash t (commands_of s)) r k e)) (n_chk_of t)) (some (add (dash t (commands_of s)) r k e)))
+        ∙ ap (pick (eqb (valid_count (dash t (commands_of s)) (add (dash t (commands_of s)) r k e)) (n_chk_of t)) (Some (add (dash t (commands_of s)) r k e)))
         (decide_from-rows r (add (dash t (commands_of s)) r k e) l)
 
     pub decide-rows : (r : ℕ) (l : Log) → decide (rows_system t (conflict_rows s)) r l ≡ decide (dash t (commands_of s)) r l

@@ -1,17 +1,14 @@
 -- Document 01's proved cases (its rows marked P) as one table: a row is an input and its result, and one proposition holds of every row.
 -- Rests on the definitions alone.
-use Rattle.std.specs.Prelude.{◌≡◌, refl, Bool, true, false, List, [], ◌∷◌, ◌++◌, map, ℕ, zero, suc, ℤ, pos, negsuc}
-use Rattle.std.proofs.Math.Option.{Option, none, some}
+use Rattle.std.specs.Prelude.{◌≡◌, refl, Bool, true, false, List, [], ◌∷◌, ◌++◌, map, ℕ, zero, suc, ℤ, pos, negsuc, Err, None, Ok, Option, Result as Judged, Some}
+use Rattle.refusals.specs.declared.Refusal.{Refusal}
 use Rattle.wire.specs.Wire.{read_le, value}
 use Rattle.refusals.specs.Refusals.{code_of}
-use Rattle.refusals.specs.declared.Verdict.TheVariants.{Refused}
 use Rattle.theory.specs.Sets.{all, any, count, members}
 use Rattle.theory.specs.Lists.{contents}
 use Rattle.theory.specs.Machine.{Delivery}
 use Rattle.sets.specs.Sets.{has}
 use Rattle.table.specs.declared.SiteTable.{SiteTable}
-use Rattle.table.specs.declared.Judged.{Judged}
-use Rattle.table.specs.declared.Judged.TheVariants.{Good, Refused as Rejected}
 use Rattle.table.specs.Table.{read_marked, good_table}
 use Rattle.register.specs.declared.Command.{Command}
 use Rattle.register.specs.declared.Command.TheVariants.{Add, Read, Trim}
@@ -54,9 +51,9 @@ pub data Result : Type 0 where
   -- the commands delivered with their answers
   delivered : List (Delivery ℤ) → Result
 
-abbrev table_code : Judged → ℕ
-table_code (Good t) = 0
-table_code (Rejected r) = code_of (Refused r)
+abbrev table_code : Judged SiteTable Refusal → ℕ
+table_code (Ok t) = 0
+table_code (Err r) = code_of (Err r)
 
 -- Six sites of which one may be faulty; none is.
 abbrev six : SiteTable
@@ -86,8 +83,8 @@ entries_of j (nc ∷ ncs) [] = []
 entries_of j (nc ∷ ncs) (c ∷ cs) = record { site = j; round = 1; nc = contents nc; c = contents c } ∷ entries_of (suc j) ncs cs
 
 abbrev decision : Option Tally → Result
-decision none = undecided
-decision (some t) = decided (members 2 (nc_set six_system t)) (members 2 (c_set six_system t))
+decision None = undecided
+decision (Some t) = decided (members 2 (nc_set six_system t)) (members 2 (c_set six_system t))
 
 abbrev pub result : Input → Result
 result (table b) = code (table_code (read_marked b))

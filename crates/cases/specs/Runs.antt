@@ -1,8 +1,7 @@
 -- The common sequence on concrete runs, by computation: the statement holds of three runs, and not of one that was doctored.
 -- Rests on the definitions alone.
-use Rattle.std.specs.Prelude.{◌≡◌, refl, Bool, true, false, ◌&&◌, ◌||◌, not, List, [], ◌∷◌, ◌++◌, map, ◌⊎◌, ℕ, zero, suc, ◌<◌, eqb, ltb, ℤ, pos, nat_abs}
+use Rattle.std.specs.Prelude.{◌≡◌, refl, Bool, true, false, ◌&&◌, ◌||◌, not, List, [], ◌∷◌, ◌++◌, map, ◌⊎◌, ℕ, zero, suc, ◌<◌, eqb, ltb, ℤ, pos, nat_abs, Some}
 use Rattle.std.proofs.Common.{sym, ◌∙◌, ap, subst, inl, inr, ⊎_elim, arith, eqb-true, ltb-true}
-use Rattle.std.proofs.Math.Option.{some}
 use Rattle.wire.specs.Wire.{read_le, value}
 use Rattle.theory.specs.Sets.{∅, pick, all, any, count, members}
 use Rattle.theory.specs.Counting.{left, right, either, never, last_or_below, all_at}
@@ -71,7 +70,7 @@ module _ (S : System) where
   explains_by : (sequence list read : List ℕ) (site : Site S) (held : List (Delivery machine.Answer))
       → read ≡ list → site.ledger.deliveries ≡ held → held ≡ answered machine machine.initial list → distinct list ≡ true
       → all_below commands sequence ≡ true → all commands (λ a. all commands (in_order sequence list a)) ≡ true
-      → map (λ d. some d.answer) held ≡ map (λ m. answer_in machine machine.initial sequence m) list
+      → map (λ d. Some d.answer) held ≡ map (λ m. answer_in machine machine.initial sequence m) list
       → site.ledger.state ≡ run machine machine.initial (sift (contents list) sequence)
       → Explains S sequence read site
   explains_by sequence list read site held er eh ans once small test eq state =
@@ -80,7 +79,7 @@ module _ (S : System) where
         held = eh ∙ ans;
         once = once;
         order = order_by_test sequence list small test;
-        answers = ap (map (λ (d : Delivery machine.Answer). some d.answer)) eh ∙ eq;
+        answers = ap (map (λ (d : Delivery machine.Answer). Some d.answer)) eh ∙ eq;
         state = state;
       })
 

@@ -1,14 +1,15 @@
 -- A fast delivery and a round end on lent buffers, from what the site's functions promise.
 -- Assumes nothing.
 use mathlib.Core.Path.{◌≡◌, refl, sym, ap, subst, ◌∙◌}
+use Rattle.std.specs.Prelude.{Err, Option}
+use Rattle.recovery.specs.declared.Sets.{Sets}
 use mathlib.Core.Bool.{Bool, true, false, not}
 use mathlib.Core.List.{List}
 use Prim.Native.Nat.{ℕ, ◌+◌, ◌*◌, ◌≤◌, ◌<◌}
 use native.Mathlib.Omega.{arith}
 use lib.ListN.{length, take, drop, get_or}
 use borrow.Author.Tests.{lt-ltb, le-ltb}
-use Rattle.refusals.specs.declared.Verdict.{Verdict}
-use Rattle.refusals.specs.declared.Verdict.TheVariants.{Refused}
+use Rattle.refusals.specs.Refusals.{Verdict}
 use Rattle.refusals.specs.declared.Refusal.TheVariants.{Range, Role}
 use Rattle.table.specs.declared.SiteTable.{SiteTable}
 use Rattle.table.specs.Table.{is_good, faulty_of}
@@ -25,7 +26,6 @@ use Rattle.layout.specs.Layout.{site_size, head_of, view, site_at}
 use Rattle.layout.specs.Good.{Good}
 use Rattle.entries.specs.Entries.{entry_size, entry_of, log_to, in_range_of}
 use Rattle.entries.proofs.Logs.{log_take}
-use Rattle.recovery.specs.declared.Decision.{Decision}
 use Rattle.recovery.specs.Decisions.{decision_of, DecisionWithin}
 use Rattle.recovery.proofs.Within.{decision-within}
 use Rattle.fast.specs.Fast.{FastDelivered}
@@ -41,18 +41,18 @@ use Rattle.closings.specs.Closings.{GoodSites, GoodLog, KeptLog, Closed}
 -- ---- 08
 
 module _ (t : SiteTable) (book : List Command) (sites : List ℕ) (small : (k : ℕ) → get_or sites k 0 < 256) (i m : ℕ) where
-  pub fast_no_site : t.sites ≤ i → (log : List ℕ) (entries : ℕ) → Closed t book (fast_delivery i m) log entries sites (Refused Range) sites
+  pub fast_no_site : t.sites ≤ i → (log : List ℕ) (entries : ℕ) → Closed t book (fast_delivery i m) log entries sites (Err Range) sites
   fast_no_site h log entries = λ sent g. refused t book (lent sites log entries sent) g (fast_delivery i m) Range (simp (le-ltb i t.sites h)) small
 
   module _ (a : i < t.sites) {commands : ℕ} (ec : length book ≡ commands) where
-    pub fast_no_command : commands ≤ m → (log : List ℕ) (entries : ℕ) → Closed t book (fast_delivery i m) log entries sites (Refused Range) sites
+    pub fast_no_command : commands ≤ m → (log : List ℕ) (entries : ℕ) → Closed t book (fast_delivery i m) log entries sites (Err Range) sites
     fast_no_command h log entries =
         λ sent g.
         let l : length book ≤ m = omega arith in
         refused t book (lent sites log entries sent) g (fast_delivery i m) Range (simp (lt-ltb i t.sites a, le-ltb m (length book) l)) small
 
     module _ (n : m < commands) {f : Bool} (ef : f ≡ faulty_of t i) where
-      pub fast_role : f ≡ true → (log : List ℕ) (entries : ℕ) → Closed t book (fast_delivery i m) log entries sites (Refused Role) sites
+      pub fast_role : f ≡ true → (log : List ℕ) (entries : ℕ) → Closed t book (fast_delivery i m) log entries sites (Err Role) sites
       fast_role h log entries =
           λ sent g.
           let l : m < length book = omega arith in
@@ -76,17 +76,17 @@ module _ (t : SiteTable) (book : List Command) (sites : List ℕ) (small : (k : 
 -- ---- 0A
 
 module _ (t : SiteTable) (book : List Command) (sites : List ℕ) (small : (k : ℕ) → get_or sites k 0 < 256) (i : ℕ) (log : List ℕ) (entries : ℕ) where
-  pub end_no_site : t.sites ≤ i → Closed t book (round_end i) log entries sites (Refused Range) sites
+  pub end_no_site : t.sites ≤ i → Closed t book (round_end i) log entries sites (Err Range) sites
   end_no_site h = λ sent g. refused t book (lent sites log entries sent) g (round_end i) Range (simp (le-ltb i t.sites h)) small
 
   module _ (a : i < t.sites) {f : Bool} (ef : f ≡ faulty_of t i) where
-    pub end_role : f ≡ true → Closed t book (round_end i) log entries sites (Refused Role) sites
+    pub end_role : f ≡ true → Closed t book (round_end i) log entries sites (Err Role) sites
     end_role h =
         λ sent g.
         let e : faulty_of t i ≡ true = sym ef ∙ h in
         refused t book (lent sites log entries sent) g (round_end i) Role (simp (lt-ltb i t.sites a, e)) small
 
-    pub end_carried : f ≡ false → (d : Decision) → Told t book d (decision (dash t book) (view t book (site_at sites i)) (log_to log entries)) (view t book (site_at sites i)).round
+    pub end_carried : f ≡ false → (d : Option Sets) → Told t book d (decision (dash t book) (view t book (site_at sites i)) (log_to log entries)) (view t book (site_at sites i)).round
         → {v : Verdict} {after : List ℕ} → AtSite i (λ b new. RoundEnded book d b v new) sites after → Closed t book (round_end i) log entries sites v after
     end_carried h d told p =
         λ sent g.
@@ -116,7 +116,7 @@ read-room t commands sites log entries i g a e = let p = g.position i a in let l
 -- What the decision kept of the log tells site i.
 module _ (t : SiteTable) (table : is_good t ≡ true) (bytes sites log : List ℕ) {kept : List ℕ} (good : KeptLog t bytes sites log kept) (i : ℕ) (a : i < t.sites)
     {k r : ℕ} (ek : k ≡ (head_of (site_at sites i)).position) (round : r ≡ (head_of (site_at sites i)).round)
-    {d : Decision} (looked_up : (t : SiteTable) (rows log : List ℕ) → Kept t rows log kept → k ≤ kept_entries kept → d ≡ decision_of (rows_system t rows) (decide (rows_system t rows) r (log_to log k))) where
+    {d : Option Sets} (looked_up : (t : SiteTable) (rows log : List ℕ) → Kept t rows log kept → k ≤ kept_entries kept → d ≡ decision_of (rows_system t rows) (decide (rows_system t rows) r (log_to log k))) where
   abbrev commands : ℕ
   commands = length (commands_of bytes)
 

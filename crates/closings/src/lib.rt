@@ -28,13 +28,13 @@ pub fn fast_delivery(
     let i = site as usize;
     let m = command as usize;
     if i >= table.sites {
-        return Verdict::Refused(Refusal::Range);
+        return Err(Refusal::Range);
     }
     if m >= rules.commands {
-        return Verdict::Refused(Refusal::Range);
+        return Err(Refusal::Range);
     }
     if table.is_faulty(i) {
-        return Verdict::Refused(Refusal::Role);
+        return Err(Refusal::Role);
     }
     let from = i * Site::SIZE;
     let to = from + Site::SIZE;
@@ -59,10 +59,10 @@ pub fn round_end(
     let commands = rules.commands;
     let i = site as usize;
     if i >= table.sites {
-        return Verdict::Refused(Refusal::Range);
+        return Err(Refusal::Range);
     }
     if table.is_faulty(i) {
-        return Verdict::Refused(Refusal::Role);
+        return Err(Refusal::Role);
     }
     let from = i * Site::SIZE;
     let to = from + Site::SIZE;

@@ -1,6 +1,7 @@
 -- Laws of reading a command at the front of some bytes: which reading each test gives, and what a whole reading tells.
 -- Assumes nothing.
 use mathlib.Core.Bool.{Bool, true, false}
+use Rattle.std.specs.Prelude.{None, Option, Some}
 use mathlib.Core.Path.{◌≡◌, refl, sym, ap, subst, ◌∙◌}
 use mathlib.Core.List.{List, [], ◌∷◌, ◌++◌, append_assoc}
 use Prim.Native.Nat.{ℕ, zero, suc, ◌≤◌, ◌<◌}
@@ -18,56 +19,54 @@ use Rattle.signed.proofs.Laws.{word_signed}
 use Rattle.register.specs.Register.{bikes, max_reading, Valid}
 use Rattle.register.specs.declared.Command.{Command}
 use Rattle.register.specs.declared.Command.TheVariants.{Add, Fit, Read, Trim}
-use Rattle.commands.specs.declared.Reading.{Reading}
-use Rattle.commands.specs.declared.Reading.TheVariants.{Whole, Bad}
 use Rattle.commands.specs.Book.{size_of, given, read_kind, read_command, encode_command, InRange}
 
 module _ (s : List ℕ) where
-  pub too_short : length s < 2 → Bad ≡ read_command s
+  pub too_short : length s < 2 → None ≡ read_command s
   unfolding read_command
   too_short h = rw (lt-leb 2 (length s) h) refl
 
-  pub no_bike : 2 ≤ length s → bikes ≤ get_or s 1 0 → Bad ≡ read_command s
+  pub no_bike : 2 ≤ length s → bikes ≤ get_or s 1 0 → None ≡ read_command s
   unfolding read_command
   no_bike h b = rw (le-leb 2 (length s) h, le-ltb (get_or s 1 0) bikes b) refl
 
-  pub of_kind : (k : ℕ) {r : Reading} → 2 ≤ length s → get_or s 1 0 < bikes → get_or s 0 0 ≡ k → r ≡ read_kind k s → r ≡ read_command s
+  pub of_kind : (k : ℕ) {r : Option Command} → 2 ≤ length s → get_or s 1 0 < bikes → get_or s 0 0 ≡ k → r ≡ read_kind k s → r ≡ read_command s
   unfolding read_command
   of_kind k h b e q = rw (le-leb 2 (length s) h, lt-ltb (get_or s 1 0) bikes b, e) q
 
-  pub add_whole : {km : ℕ} → 4 ≤ length s → km ≡ read_le 2 s 2 → Whole (Add (get_or s 1 0) km) ≡ read_kind 1 s
+  pub add_whole : {km : ℕ} → 4 ≤ length s → km ≡ read_le 2 s 2 → Some (Add (get_or s 1 0) km) ≡ read_kind 1 s
   unfolding read_kind
   add_whole h e = rw (le-leb 4 (length s) h, e) refl
 
-  pub add_cut : length s < 4 → Bad ≡ read_kind 1 s
+  pub add_cut : length s < 4 → None ≡ read_kind 1 s
   unfolding read_kind
   add_cut h = rw (lt-leb 4 (length s) h) refl
 
-  pub fit_cut : length s < 10 → Bad ≡ read_kind 2 s
+  pub fit_cut : length s < 10 → None ≡ read_kind 2 s
   unfolding read_kind
   fit_cut h = rw (lt-leb 10 (length s) h) refl
 
-  pub fit_far : 10 ≤ length s → max_reading < read_le 4 s 6 → Bad ≡ read_kind 2 s
+  pub fit_far : 10 ≤ length s → max_reading < read_le 4 s 6 → None ≡ read_kind 2 s
   unfolding read_kind
   fit_far h b = rw (le-leb 10 (length s) h, lt-leb (read_le 4 s 6) max_reading b) refl
 
-  pub fit_whole : {dash start : ℕ} → 10 ≤ length s → read_le 4 s 6 ≤ max_reading → dash ≡ read_le 4 s 2 → start ≡ read_le 4 s 6 → Whole (Fit (get_or s 1 0) dash start) ≡ read_kind 2 s
+  pub fit_whole : {dash start : ℕ} → 10 ≤ length s → read_le 4 s 6 ≤ max_reading → dash ≡ read_le 4 s 2 → start ≡ read_le 4 s 6 → Some (Fit (get_or s 1 0) dash start) ≡ read_kind 2 s
   unfolding read_kind
   fit_whole h b d e = rw (le-leb 10 (length s) h, le-leb (read_le 4 s 6) max_reading b, d, e) refl
 
-  pub read_whole : Whole (Read (get_or s 1 0)) ≡ read_kind 3 s
+  pub read_whole : Some (Read (get_or s 1 0)) ≡ read_kind 3 s
   unfolding read_kind
   read_whole = refl
 
-  pub trim_cut : length s < 4 → Bad ≡ read_kind 4 s
+  pub trim_cut : length s < 4 → None ≡ read_kind 4 s
   unfolding read_kind
   trim_cut h = rw (lt-leb 4 (length s) h) refl
 
-  pub trim_whole : {km : ℤ} → 4 ≤ length s → km ≡ signed16 (read_le 2 s 2) → Whole (Trim (get_or s 1 0) km) ≡ read_kind 4 s
+  pub trim_whole : {km : ℤ} → 4 ≤ length s → km ≡ signed16 (read_le 2 s 2) → Some (Trim (get_or s 1 0) km) ≡ read_kind 4 s
   unfolding read_kind
   trim_whole h e = rw (le-leb 4 (length s) h, e) refl
 
-  pub no_kind : (k : ℕ) → (k ≡ 1 → ⊥) → (k ≡ 2 → ⊥) → (k ≡ 3 → ⊥) → (k ≡ 4 → ⊥) → Bad ≡ read_kind k s
+  pub no_kind : (k : ℕ) → (k ≡ 1 → ⊥) → (k ≡ 2 → ⊥) → (k ≡ 3 → ⊥) → (k ≡ 4 → ⊥) → None ≡ read_kind k s
   unfolding read_kind
   no_kind zero a b c d = refl
   no_kind (suc zero) a b c d = absurd (a refl)
@@ -141,11 +140,11 @@ module _ (s : List ℕ) (b : get_or s 1 0 < bikes) where
             ∙ two_front s (omega arith);
       }
 
-pub given-true : (t : Bool) (r : Reading) {c : Command} → given t r ≡ Whole c → (t ≡ true) × (r ≡ Whole c)
+pub given-true : (t : Bool) (r : Option Command) {c : Command} → given t r ≡ Some c → (t ≡ true) × (r ≡ Some c)
 given-true true r h = (refl, h)
 given-true false r h = absurd (let z : ◌≡◌ {A = ℕ} 0 1 = cc in omega arith)
 
-by_kind : (k : ℕ) (s : List ℕ) {c : Command} → get_or s 0 0 ≡ k → 2 ≤ length s → get_or s 1 0 < bikes → read_kind k s ≡ Whole c → Front s c
+by_kind : (k : ℕ) (s : List ℕ) {c : Command} → get_or s 0 0 ≡ k → 2 ≤ length s → get_or s 1 0 < bikes → read_kind k s ≡ Some c → Front s c
 unfolding read_kind
 by_kind zero s e h b q = absurd (let z : ◌≡◌ {A = ℕ} 0 1 = cc in omega arith)
 by_kind (suc zero) s {c} e h b q =
@@ -166,7 +165,7 @@ by_kind (suc (suc (suc (suc zero)))) s {c} e h b q =
     subst (λ (d : Command). Front s d) w (trim_front s b e (leb-true 4 (length s) g.0))
 by_kind (suc (suc (suc (suc (suc n))))) s e h b q = absurd (let z : ◌≡◌ {A = ℕ} 0 1 = cc in omega arith)
 
-pub front : (s : List ℕ) {c : Command} → read_command s ≡ Whole c → Front s c
+pub front : (s : List ℕ) {c : Command} → read_command s ≡ Some c → Front s c
 unfolding read_command
 front s q =
     let g = given-true (leb 2 (length s)) _ q in

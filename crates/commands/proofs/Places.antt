@@ -1,6 +1,7 @@
 -- Laws of finding a command by its number, from the noted places.
 -- Assumes nothing.
 use mathlib.Core.Path.{◌≡◌, refl, sym, ap, subst, ◌∙◌}
+use Rattle.std.specs.Prelude.{Some}
 use mathlib.Core.List.{List, [], ◌∷◌}
 use Prim.Native.Nat.{ℕ, zero, suc, ◌+◌, ◌≤◌, ◌<◌}
 use native.Mathlib.Decide.{dec_le}
@@ -10,13 +11,12 @@ use lib.Seq.{sets, sets-eq, take_at, get_or-take}
 use Rattle.register.specs.Register.{Valid}
 use Rattle.register.specs.declared.Command.{Command}
 use Rattle.register.specs.declared.Command.TheVariants.{Read}
-use Rattle.commands.specs.declared.Reading.TheVariants.{Whole}
 use Rattle.commands.specs.Book.{size_of, read_command, commands_of, command_of, places_from, places_of, Placed}
 use Rattle.commands.proofs.Laws.{front}
 use Rattle.commands.proofs.Walk.{rest, rest_all, next, size_small}
 
 placed : (k : ℕ) (s : List ℕ) (j at : ℕ) → at ≤ length s → k < length (rest s j at)
-    → read_command (drop (get_or (places_from at (rest s j at)) k 0) s) ≡ Whole (get_or (rest s j at) k (Read 0))
+    → read_command (drop (get_or (places_from at (rest s j at)) k 0) s) ≡ Some (get_or (rest s j at) k (Read 0))
 placed zero s j at g h = let n = next s j at g h in rw n.left n.read
 placed (suc k) s j at g h =
     let n = next s j at g (omega arith) in
@@ -54,13 +54,13 @@ module _ (s p : List ℕ) (k : ℕ) (h : k < length (commands_of s)) (e : Placed
   place_is =
       sym (get_or-take (length (commands_of s)) p k 0 h) ∙ ap (λ (l : List ℕ). get_or l k 0) e ∙ ap (λ (cs : List Command). get_or (places_from 0 cs) k 0) (sym (rest_all s))
 
-  there : read_command (drop (get_or (places_from 0 (rest s 0 0)) k 0) s) ≡ Whole (get_or (rest s 0 0) k (Read 0))
+  there : read_command (drop (get_or (places_from 0 (rest s 0 0)) k 0) s) ≡ Some (get_or (rest s 0 0) k (Read 0))
   there = placed k s 0 0 (omega arith) (omega (arith, ap length (rest_all s)))
 
-  pub place_read : read_command (drop (get_or p k 0) s) ≡ Whole (command_of s k)
+  pub place_read : read_command (drop (get_or p k 0) s) ≡ Some (command_of s k)
   unfolding command_of
   place_read =
-      ap (λ (n : ℕ). read_command (drop n s)) place_is ∙ there ∙ ap (λ (cs : List Command). Whole (get_or cs k (Read 0))) (rest_all s)
+      ap (λ (n : ℕ). read_command (drop n s)) place_is ∙ there ∙ ap (λ (cs : List Command). Some (get_or cs k (Read 0))) (rest_all s)
 
   -- A noted place is inside the book.
   pub place_inside : get_or p k 0 ≤ length s

@@ -1,8 +1,9 @@
 -- Both round trips: commands in range that are written read back as themselves, and bytes that were read are written back as they were.
 -- Assumes nothing.
 use mathlib.Core.Path.{◌≡◌, refl, sym, ap, subst, ◌∙◌}
+use Rattle.refusals.specs.Refusals.{accepted}
+use Rattle.std.specs.Prelude.{None, Ok, Some, Option}
 use mathlib.Core.List.{List, [], ◌∷◌, ◌++◌}
-use mathlib.Core.Option.{Option, none, some}
 use Prim.Native.Nat.{ℕ, zero, suc, ◌+◌, ◌≤◌, ◌<◌}
 use native.Mathlib.Omega.{arith}
 use lib.ListN.{length, get_or, drop}
@@ -12,18 +13,15 @@ use mir.Facts.{Fits-of_z, to_z-of_z}
 use Rattle.wire.specs.Wire.{bytes, read_le}
 use Rattle.wire.proofs.Laws.{value-bytes}
 use Rattle.signed.specs.Signed.{signed16, word16}
-use Rattle.refusals.specs.declared.Verdict.TheVariants.{Taken}
 use Rattle.register.specs.declared.Command.{Command}
 use Rattle.register.specs.declared.Command.TheVariants.{Add, Fit, Read, Trim}
-use Rattle.commands.specs.declared.Reading.{Reading}
-use Rattle.commands.specs.declared.Reading.TheVariants.{Whole, Bad}
 use Rattle.commands.specs.Book.{max_commands, size_of, read_command, also, and_then, read_up_to, or_none, commands_of, verdict_of, judge_book, encode_command, encode_book, InRange, AllInRange}
 use Rattle.commands.proofs.Laws.{of_kind, add_whole, fit_whole, read_whole, trim_whole, front}
 use Rattle.commands.proofs.Walk.{whole_at}
 use Rattle.commands.proofs.Writing.{length_command}
 
 -- A written command reads back, whatever stands after it.
-pub read-written : (c : Command) (s : List ℕ) → InRange c → read_command (encode_command c ++ s) ≡ Whole c
+pub read-written : (c : Command) (s : List ℕ) → InRange c → read_command (encode_command c ++ s) ≡ Some c
 unfolding bytes read_le
 read-written (Add b km) s (f, g) =
     sym (of_kind (encode_command (Add b km) ++ s) 1 (omega arith) f refl (add_whole (encode_command (Add b km) ++ s) (omega arith) (sym (value-bytes 2 km g))))
@@ -42,7 +40,7 @@ not_empty (Fit b d t) s = omega arith
 not_empty (Read b) s = omega arith
 not_empty (Trim b km) s = omega arith
 
-up_to-written : (n : ℕ) (cs : List Command) → length cs ≤ n → AllInRange cs → read_up_to n (encode_book cs) ≡ some cs
+up_to-written : (n : ℕ) (cs : List Command) → length cs ≤ n → AllInRange cs → read_up_to n (encode_book cs) ≡ Some cs
 up_to-written zero [] h r = refl
 up_to-written (suc n) [] h r = refl
 up_to-written zero (c ∷ cs) h r = absurd (omega arith)
@@ -56,7 +54,7 @@ pub commands_back : (cs : List Command) → length cs ≤ max_commands → AllIn
 unfolding commands_of
 commands_back cs h r = ap or_none (up_to-written max_commands cs h r)
 
-pub judge_back : (cs : List Command) → length cs ≤ max_commands → AllInRange cs → judge_book (encode_book cs) ≡ Taken
+pub judge_back : (cs : List Command) → length cs ≤ max_commands → AllInRange cs → judge_book (encode_book cs) ≡ accepted
 unfolding judge_book
 judge_back cs h r = ap verdict_of (up_to-written max_commands cs h r)
 
@@ -71,41 +69,41 @@ Small s = (i : ℕ) → get_or s i 0 < 256
 small_drop : (k : ℕ) (s : List ℕ) → Small s → Small (drop k s)
 small_drop k s h i = rw (get_or-drop k s i 0) (h (k + i))
 
-wrote_none : (s : List ℕ) (cs : List Command) → length s ≡ 0 → some [] ≡ some cs → Wrote s cs
+wrote_none : (s : List ℕ) (cs : List Command) → length s ≡ 0 → Some [] ≡ Some cs → Wrote s cs
 wrote_none [] cs h e =
     let q : [] ≡ cs = cc in subst (λ (l : List Command). Wrote [] l) q (record { back = refl; range = tt })
 wrote_none (b ∷ s) cs h e = absurd (omega arith)
 
 module _ (s : List ℕ) (small : Small s) where
-  wrote_whole : (c : Command) (o : Option (List Command)) (cs : List Command) → read_command s ≡ Whole c → ((ds : List Command) → o ≡ some ds → Wrote (drop (size_of c) s) ds) → also c o ≡ some cs → Wrote s cs
-  wrote_whole c none cs r f e = absurd (let z : ◌≡◌ {A = ℕ} 0 1 = cc in omega arith)
-  wrote_whole c (some ds) cs r f e =
+  wrote_whole : (c : Command) (o : Option (List Command)) (cs : List Command) → read_command s ≡ Some c → ((ds : List Command) → o ≡ Some ds → Wrote (drop (size_of c) s) ds) → also c o ≡ Some cs → Wrote s cs
+  wrote_whole c None cs r f e = absurd (let z : ◌≡◌ {A = ℕ} 0 1 = cc in omega arith)
+  wrote_whole c (Some ds) cs r f e =
       let q : c ∷ ds ≡ cs = cc in
       let w = f ds refl in
       let t = front s r in
       subst (λ (l : List Command). Wrote s l) q
       (record { back = ap (λ (l : List ℕ). encode_command c ++ l) w.back ∙ t.back small; range = (t.range small, w.range) })
 
-  wrote_read : (n : ℕ) (r : Reading) (cs : List Command) → read_command s ≡ r → ((c : Command) (ds : List Command) → read_up_to n (drop (size_of c) s) ≡ some ds → Wrote (drop (size_of c) s) ds)
-      → and_then r (λ c. also c (read_up_to n (drop (size_of c) s))) ≡ some cs → Wrote s cs
-  wrote_read n Bad cs r f e = absurd (let z : ◌≡◌ {A = ℕ} 0 1 = cc in omega arith)
-  wrote_read n (Whole c) cs r f e = wrote_whole c (read_up_to n (drop (size_of c) s)) cs r (f c) e
+  wrote_read : (n : ℕ) (r : Option Command) (cs : List Command) → read_command s ≡ r → ((c : Command) (ds : List Command) → read_up_to n (drop (size_of c) s) ≡ Some ds → Wrote (drop (size_of c) s) ds)
+      → and_then r (λ c. also c (read_up_to n (drop (size_of c) s))) ≡ Some cs → Wrote s cs
+  wrote_read n None cs r f e = absurd (let z : ◌≡◌ {A = ℕ} 0 1 = cc in omega arith)
+  wrote_read n (Some c) cs r f e = wrote_whole c (read_up_to n (drop (size_of c) s)) cs r (f c) e
 
-wrote : (n : ℕ) (s : List ℕ) → Small s → (cs : List Command) → read_up_to n s ≡ some cs → Wrote s cs
+wrote : (n : ℕ) (s : List ℕ) → Small s → (cs : List Command) → read_up_to n s ≡ Some cs → Wrote s cs
 wrote zero [] h cs e = wrote_none [] cs refl e
 wrote zero (b ∷ s) h cs e = absurd (let z : ◌≡◌ {A = ℕ} 0 1 = cc in omega arith)
 wrote (suc n) s h cs e = by_end s h e (λ l g ds q. wrote n l g ds q)
   where
-    by_end : (l : List ℕ) → Small l → read_up_to (suc n) l ≡ some cs → ((m : List ℕ) → Small m → (ds : List Command) → read_up_to n m ≡ some ds → Wrote m ds) → Wrote l cs
+    by_end : (l : List ℕ) → Small l → read_up_to (suc n) l ≡ Some cs → ((m : List ℕ) → Small m → (ds : List Command) → read_up_to n m ≡ Some ds → Wrote m ds) → Wrote l cs
     by_end [] h e f = wrote_none [] cs refl e
     by_end (b ∷ l) h e f =
         wrote_read (b ∷ l) h n (read_command (b ∷ l)) cs refl (λ c ds q. f (drop (size_of c) (b ∷ l)) (small_drop (size_of c) (b ∷ l) h) ds q) e
 
-taken-some : (o : Option (List Command)) → verdict_of o ≡ Taken → o ≡ some (or_none o)
-taken-some none e = absurd (let z : ◌≡◌ {A = ℕ} 0 1 = cc in omega arith)
-taken-some (some cs) e = refl
+taken-some : (o : Option (List Command)) → verdict_of o ≡ accepted → o ≡ Some (or_none o)
+taken-some None e = absurd (let z : ◌≡◌ {A = ℕ} 0 1 = cc in omega arith)
+taken-some (Some cs) e = refl
 
-module _ (s : List ℕ) (small : (i : ℕ) → get_or s i 0 < 256) (taken : judge_book s ≡ Taken) where
+module _ (s : List ℕ) (small : (i : ℕ) → get_or s i 0 < 256) (taken : judge_book s ≡ accepted) where
   written : Wrote s (commands_of s)
   unfolding commands_of judge_book
   written = wrote max_commands s small (or_none (read_up_to max_commands s)) (taken-some (read_up_to max_commands s) taken)

@@ -1,21 +1,15 @@
 -- Commands in bytes: how they are read, judged and written. Document 01 calls this the book.
 -- Assumes nothing.
-use Rattle.std.specs.Prelude.{◌≡◌, Bool, true, false, List, [], ◌∷◌, ◌++◌, ℕ, zero, suc, ◌+◌, ◌^◌, ◌≤◌, ◌<◌, leb, ltb, length, get_or, take, drop}
-use Rattle.std.proofs.Math.Option.{Option, none, some}
+use Rattle.std.specs.Prelude.{◌≡◌, Bool, true, false, List, [], ◌∷◌, ◌++◌, ℕ, zero, suc, ◌+◌, ◌^◌, ◌≤◌, ◌<◌, leb, ltb, length, get_or, take, drop, Err, None, Ok, Option, Some}
 use Rattle.std.specs.Int.{w16}
 use Rattle.std.proofs.Common.{SFits}
 use Rattle.wire.specs.Wire.{read_le, bytes}
 use Rattle.signed.specs.Signed.{signed16, word16}
-use Rattle.refusals.specs.declared.Verdict.{Verdict}
-use Rattle.refusals.specs.declared.Verdict.TheVariants.{Taken, Refused}
+use Rattle.refusals.specs.Refusals.{Verdict, accepted}
 use Rattle.refusals.specs.declared.Refusal.TheVariants.{Book}
 use Rattle.register.specs.Register.{bikes, max_reading}
 use Rattle.register.specs.declared.Command.{Command}
 use Rattle.register.specs.declared.Command.TheVariants.{Add, Fit, Read, Trim}
-use Rattle.commands.specs.declared.Reading.{Reading}
-use Rattle.commands.specs.declared.Reading.TheVariants.{Whole, Bad}
-use Rattle.commands.specs.declared.Measured.{Measured}
-use Rattle.commands.specs.declared.Measured.TheVariants.{Commands, Unreadable}
 
 -- A book has at most 64 commands.
 abbrev pub max_commands : ℕ
@@ -29,48 +23,48 @@ size_of (Read bike) = 2
 size_of (Trim bike km) = 4
 
 -- A reading that is taken only where a test holds.
-abbrev pub given : Bool → Reading → Reading
+abbrev pub given : Bool → Option Command → Option Command
 given true r = r
-given false r = Bad
+given false r = None
 
 -- The command of a kind, from bytes that start with that kind and a bike.
-unfoldable pub read_kind : ℕ → List ℕ → Reading
-read_kind zero s = Bad
-read_kind (suc zero) s = given (leb 4 (length s)) (Whole (Add (get_or s 1 0) (read_le 2 s 2)))
+unfoldable pub read_kind : ℕ → List ℕ → Option Command
+read_kind zero s = None
+read_kind (suc zero) s = given (leb 4 (length s)) (Some (Add (get_or s 1 0) (read_le 2 s 2)))
 read_kind (suc (suc zero)) s =
-    given (leb 10 (length s)) (given (leb (read_le 4 s 6) max_reading) (Whole (Fit (get_or s 1 0) (read_le 4 s 2) (read_le 4 s 6))))
-read_kind (suc (suc (suc zero))) s = Whole (Read (get_or s 1 0))
-read_kind (suc (suc (suc (suc zero)))) s = given (leb 4 (length s)) (Whole (Trim (get_or s 1 0) (signed16 (read_le 2 s 2))))
-read_kind (suc (suc (suc (suc (suc n))))) s = Bad
+    given (leb 10 (length s)) (given (leb (read_le 4 s 6) max_reading) (Some (Fit (get_or s 1 0) (read_le 4 s 2) (read_le 4 s 6))))
+read_kind (suc (suc (suc zero))) s = Some (Read (get_or s 1 0))
+read_kind (suc (suc (suc (suc zero)))) s = given (leb 4 (length s)) (Some (Trim (get_or s 1 0) (signed16 (read_le 2 s 2))))
+read_kind (suc (suc (suc (suc (suc n))))) s = None
 
 -- The command at the front of some bytes.
-unfoldable pub read_command : List ℕ → Reading
+unfoldable pub read_command : List ℕ → Option Command
 read_command s = given (leb 2 (length s)) (given (ltb (get_or s 1 0) bikes) (read_kind (get_or s 0 0) s))
 
 -- No commands where no bytes are left, else what is given.
 abbrev pub unless_empty : List ℕ → Option (List Command) → Option (List Command)
-unless_empty [] r = some []
+unless_empty [] r = Some []
 unless_empty (b ∷ s) r = r
 
 -- A command and those after it, where they are readable.
 abbrev pub also : Command → Option (List Command) → Option (List Command)
-also c none = none
-also c (some cs) = some (c ∷ cs)
+also c None = None
+also c (Some cs) = Some (c ∷ cs)
 
 -- What follows a reading: nothing where it is bad.
-abbrev pub and_then : Reading → (Command → Option (List Command)) → Option (List Command)
-and_then (Whole c) f = f c
-and_then Bad f = none
+abbrev pub and_then : Option Command → (Command → Option (List Command)) → Option (List Command)
+and_then (Some c) f = f c
+and_then None f = None
 
 -- The commands of bytes that hold at most n of them, end to end.
 abbrev pub read_up_to : ℕ → List ℕ → Option (List Command)
-read_up_to zero s = unless_empty s none
+read_up_to zero s = unless_empty s None
 read_up_to (suc n) s = unless_empty s (and_then (read_command s) (λ c. also c (read_up_to n (drop (size_of c) s))))
 
 -- The commands of a reading of a whole book, none where it is refused.
 abbrev pub or_none : Option (List Command) → List Command
-or_none none = []
-or_none (some cs) = cs
+or_none None = []
+or_none (Some cs) = cs
 
 -- The commands of a book, none where it is refused.
 unfoldable pub commands_of : List ℕ → List Command
@@ -82,20 +76,20 @@ command_of s k = get_or (commands_of s) k (Read 0)
 
 -- The verdict on a reading of a whole book.
 abbrev pub verdict_of : Option (List Command) → Verdict
-verdict_of none = Refused Book
-verdict_of (some cs) = Taken
+verdict_of None = Err Book
+verdict_of (Some cs) = accepted
 
 -- Whether a book is taken: refusal 1 for an unknown kind, a cut operand, a bike or start out of range, a 65th command.
 unfoldable pub judge_book : List ℕ → Verdict
 judge_book s = verdict_of (read_up_to max_commands s)
 
 -- The number of commands, k of them passed before.
-abbrev pub count_from : ℕ → Option (List Command) → Measured
-count_from k none = Unreadable
-count_from k (some cs) = Commands (k + length cs)
+abbrev pub count_from : ℕ → Option (List Command) → Option ℕ
+count_from k None = None
+count_from k (Some cs) = Some (k + length cs)
 
 -- The number of commands of a book, Unreadable where it is refused.
-unfoldable pub measure_book : List ℕ → Measured
+unfoldable pub measure_book : List ℕ → Option ℕ
 measure_book s = count_from 0 (read_up_to max_commands s)
 
 -- The places of commands that stand end to end from a position on.
@@ -112,9 +106,9 @@ abbrev pub Placed : List ℕ → List ℕ → Type 0
 Placed book places = take (length (commands_of book)) places ≡ places_of book
 
 -- A command that was read and those after it; none where the reading is bad.
-abbrev pub read_on : Reading → (Command → List Command) → List Command
-read_on (Whole c) f = c ∷ f c
-read_on Bad f = []
+abbrev pub read_on : Option Command → (Command → List Command) → List Command
+read_on (Some c) f = c ∷ f c
+read_on None f = []
 
 -- The commands at the front of some bytes, at most n of them, up to the first that cannot be read.
 abbrev pub readable : ℕ → List ℕ → List Command

@@ -11,20 +11,6 @@ use register::{Bike, Command};
 // A book has at most 64 commands.
 pub const MAX_COMMANDS: usize = 64;
 
-// What stands at the front of some bytes.
-#[derive(Clone, Copy)]
-pub enum Reading {
-    Whole(Command),
-    Bad,
-}
-
-// How many commands a book has.
-#[derive(Clone, Copy)]
-pub enum Measured {
-    Commands(usize),
-    Unreadable,
-}
-
 // The bytes of a command.
 fn size(command: Command) -> usize
     ensures { result ≡ size_of command }
@@ -41,52 +27,52 @@ fn size(command: Command) -> usize
     }
 }
 
-// The command at the front of some bytes.
-fn read_command(bytes: &[u8]) -> Reading
+// The command at the front of some bytes, if there is one.
+fn read_command(bytes: &[u8]) -> Option<Command>
     ensures { result ≡ read_command bytes.now }
 {
     let n = bytes.len();
     if n < 2 {
-        return Reading::Bad;
+        return None;
     }
     let kind = bytes[0];
     let bike = bytes[1];
     if bike >= Bike::COUNT as u8 {
-        return Reading::Bad;
+        return None;
     }
     match kind {
         1 => {
             if n < 4 {
-                return Reading::Bad;
+                return None;
             }
             let km: u16 = wire::get(bytes, 2);
-            Reading::Whole(Command::Add { bike, km })
+            Some(Command::Add { bike, km })
         }
         2 => {
             if n < 10 {
-                return Reading::Bad;
+                return None;
             }
             let dash: u32 = wire::get(bytes, 2);
             let start: u32 = wire::get(bytes, 6);
             if start > Bike::MAX_READING {
-                return Reading::Bad;
+                return None;
             }
-            Reading::Whole(Command::Fit { bike, dash, start })
+            Some(Command::Fit { bike, dash, start })
         }
-        3 => Reading::Whole(Command::Read { bike }),
+        3 => Some(Command::Read { bike }),
         4 => {
             if n < 4 {
-                return Reading::Bad;
+                return None;
             }
             let km: i16 = wire::get(bytes, 2);
-            Reading::Whole(Command::Trim { bike, km })
+            Some(Command::Trim { bike, km })
         }
-        _ => Reading::Bad,
+        _ => None,
     }
 }
 
-// How many commands a book has, Unreadable where it is refused. The places of the commands that are read are noted.
-pub fn note(book: &[u8], places: &mut [u64]) -> Measured
+// How many commands a book has; none where it is refused. The places of the commands that are read are noted.
+pub fn note(book: &[u8], places: &mut [u64]) -> Option<usize>
     requires { max_commands ≤ length places.old }
     ensures { (result ≡ measure_book book.now) × (places.new ≡ sets places.old 0 (noted_places book.now)) }
 {
@@ -95,17 +81,14 @@ pub fn note(book: &[u8], places: &mut [u64]) -> Measured
     let mut k: usize = 0;
     while at < n {
         if k == MAX_COMMANDS {
-            return Measured::Unreadable;
+            return None;
         }
-        let reading = read_command(&book[at..]);
-        let Reading::Whole(command) = reading else {
-            return Measured::Unreadable;
-        };
+        let command = read_command(&book[at..])?;
         places[k] = at as u64;
         at += size(command);
         k += 1;
     }
-    Measured::Commands(k)
+    Some(k)
 }
 
 // The number of commands; 0 where the book is refused.
@@ -113,11 +96,7 @@ fn count(book: &[u8]) -> usize
     ensures { result ≡ length (commands_of book.now) }
 {
     let mut places = [0u64; MAX_COMMANDS];
-    let measured = note(book, &mut places);
-    match measured {
-        Measured::Commands(n) => n,
-        Measured::Unreadable => 0,
-    }
+    note(book, &mut places).unwrap_or(0)
 }
 
 // The k-th command, from the noted places.
@@ -126,8 +105,7 @@ pub fn indexed(book: &[u8], places: &[u64], k: usize) -> Command
     ensures { result ≡ command_of book.now k }
 {
     let at = places[k] as usize;
-    let reading = read_command(&book[at..]);
-    let Reading::Whole(command) = reading else {
+    let Some(command) = read_command(&book[at..]) else {
         return Command::Read { bike: 0 };
     };
     command
@@ -181,8 +159,7 @@ pub fn write_commands(out: &mut [u8], at: usize, book: &[u8]) -> usize
     let mut from: usize = 0;
     let mut to = at;
     for _ in 0..n {
-        let reading = read_command(&book[from..]);
-        let Reading::Whole(command) = reading else {
+        let Some(command) = read_command(&book[from..]) else {
             return to;
         };
         to = write_command(out, to, command);

@@ -19,21 +19,21 @@ ghost use Rattle.run.specs.Left.{Left};
 pub extern "C" fn dash_register_judge_table(table: &[u8]) -> u32
     ensures { result ≡ code_of (verdict (for_marked table.now)) }
 {
-    judging::judge_table(table)
+    refusals::code(judging::judge_table(table))
 }
 
 #[unsafe(no_mangle)]
 pub extern "C" fn dash_register_judge_book(book: &[u8]) -> u32
     ensures { result ≡ code_of (verdict (for_book book.now)) }
 {
-    judging::judge_book(book)
+    refusals::code(judging::judge_book(book))
 }
 
 #[unsafe(no_mangle)]
 pub extern "C" fn dash_register_fresh(site: &mut [u8]) -> u32
     ensures { (t : SiteTable) (book : List Command) → outcome result site.new ≡ fresh_call t book site.old }
 {
-    engine::fresh(site)
+    refusals::code(engine::fresh(site))
 }
 
 #[unsafe(no_mangle)]
@@ -45,7 +45,7 @@ pub extern "C" fn dash_register_receive_command(
 ) -> u32
     ensures { outcome result site.new ≡ receive_command_call table.now book.now site.old command }
 {
-    engine::receive_command(table, book, site, command)
+    refusals::code(engine::receive_command(table, book, site, command))
 }
 
 #[unsafe(no_mangle)]
@@ -58,7 +58,7 @@ pub extern "C" fn dash_register_receive(
 ) -> u32
     ensures { outcome result site.new ≡ receive_call table.now book.now site.old sender message.now }
 {
-    engine::receive(table, book, site, sender, message)
+    refusals::code(engine::receive(table, book, site, sender, message))
 }
 
 #[unsafe(no_mangle)]
@@ -74,7 +74,7 @@ pub extern "C" fn dash_register_turn(
     ensures { outcome result (buffers site.new message.new entry.new)
         ≡ turn_call table.now book.now site.old log.now own message.old entry.old }
 {
-    turning::turn(table, book, site, log, own, message, entry)
+    refusals::code(turning::turn(table, book, site, log, own, message, entry))
 }
 
 #[unsafe(no_mangle)]
@@ -86,7 +86,7 @@ pub extern "C" fn dash_register_fast_delivery(
 ) -> u32
     ensures { outcome result site.new ≡ fast_delivery_call table.now book.now site.old command }
 {
-    delivering::fast_delivery(table, book, site, command)
+    refusals::code(delivering::fast_delivery(table, book, site, command))
 }
 
 #[unsafe(no_mangle)]
@@ -98,7 +98,7 @@ pub extern "C" fn dash_register_log_read(
 ) -> u32
     ensures { outcome result site.new ≡ log_read_call table.now book.now site.old log.now }
 {
-    engine::log_read(table, book, site, log)
+    refusals::code(engine::log_read(table, book, site, log))
 }
 
 #[unsafe(no_mangle)]
@@ -110,7 +110,7 @@ pub extern "C" fn dash_register_round_end(
 ) -> u32
     ensures { outcome result site.new ≡ round_end_call table.now book.now site.old log.now }
 {
-    delivering::round_end(table, book, site, log)
+    refusals::code(delivering::round_end(table, book, site, log))
 }
 
 #[unsafe(no_mangle)]
@@ -122,7 +122,7 @@ pub extern "C" fn dash_register_status(
 ) -> u32
     ensures { outcome result status.new ≡ status_call table.now book.now site.now status.old }
 {
-    looking::status(table, book, site, status)
+    refusals::code(looking::status(table, book, site, status))
 }
 
 #[unsafe(no_mangle)]
@@ -135,7 +135,7 @@ pub extern "C" fn dash_register_bike(
 ) -> u32
     ensures { outcome result out.new ≡ bike_call table.now book.now site.now bike out.old }
 {
-    looking::bike(table, book, site, bike, out)
+    refusals::code(looking::bike(table, book, site, bike, out))
 }
 
 #[unsafe(no_mangle)]
@@ -148,7 +148,7 @@ pub extern "C" fn dash_register_delivery(
 ) -> u32
     ensures { outcome result out.new ≡ delivery_call table.now book.now site.now k out.old }
 {
-    looking::delivery(table, book, site, k, out)
+    refusals::code(looking::delivery(table, book, site, k, out))
 }
 
 // What a run prints is written at the start of out, and the number of bytes written is answered: 0, and nothing is changed, where a buffer is too short.

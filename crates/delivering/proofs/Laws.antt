@@ -1,6 +1,8 @@
 -- What the calls that deliver answer: one law an answer.
 -- Assumes nothing.
 use mathlib.Core.Path.{◌≡◌, refl, sym, ap, subst, ◌∙◌}
+use Rattle.std.specs.Prelude.{Err, Ok, Option, Result}
+use Rattle.recovery.specs.declared.Sets.{Sets}
 use mathlib.Core.Bool.{Bool, true, false}
 use mathlib.Core.List.{List, ◌++◌}
 use Prim.Native.Nat.{ℕ, ◌*◌, ◌/◌, ◌≤◌, ◌<◌}
@@ -11,7 +13,7 @@ use borrow.Author.Tests.{lt-ltb, le-ltb}
 use Rattle.theory.specs.Counting.{left, all_at}
 use Rattle.refusals.specs.declared.Refusal.{Refusal}
 use Rattle.refusals.specs.declared.Refusal.TheVariants.{Range}
-use Rattle.refusals.specs.declared.Verdict.{Verdict}
+use Rattle.refusals.specs.Refusals.{Verdict}
 use Rattle.refusals.specs.Refusals.{number_of, code_of}
 use Rattle.table.specs.declared.Rules.{Rules}
 use Rattle.table.specs.declared.SiteTable.{SiteTable}
@@ -27,7 +29,6 @@ use Rattle.calm.specs.Rows.{rows_system}
 use Rattle.entries.specs.Entries.{entry_size, entry_of, in_range_of, good_at, good_to, log_to, log_of}
 use Rattle.protocol.specs.Recovery.{entries}
 use Rattle.entries.proofs.Logs.{log_of-take}
-use Rattle.recovery.specs.declared.Decision.{Decision}
 use Rattle.recovery.specs.Decisions.{decision_of, DecisionWithin}
 use Rattle.recovery.proofs.Within.{decision-within}
 use Rattle.layout.specs.Layout.{site_size, head_of, view}
@@ -36,9 +37,7 @@ use Rattle.fast.specs.Fast.{FastDelivered}
 use Rattle.ending.specs.Ending.{EndedBy, RoundEnded}
 use Rattle.ending.proofs.Telling.{told}
 use Rattle.judging.specs.Outcomes.{outcome, answered, ◌then◌}
-use Rattle.judging.specs.declared.Judgement.{Judgement}
-use Rattle.judging.specs.declared.Judgement.TheVariants as judgement
-use Rattle.judging.specs.Judging.{system_of, span_in, site_in, with_site, rules_of, judged_as, number_in, for_site, for_site_and_log, places_after}
+use Rattle.judging.specs.Judging.{system_of, span_in, site_in, with_site, rules_of, judged_as, for_site, for_site_and_log, places_after}
 use Rattle.judging.proofs.Demands.{then_taken, then_refused, answered_refused}
 use Rattle.judging.proofs.Laws.{Judged, JudgedLog, site_judged, log_judged, site_noted, log_placed, good_taken, good_code, good_rules, refused_code}
 use Rattle.judging.proofs.Steps.{carried}
@@ -46,16 +45,16 @@ use Rattle.delivering.specs.Delivering.{fast_delivery_call, round_end_call}
 
 -- ---- a fast delivery
 
-module _ (table book site : List ℕ) (m : ℕ) {j : Judgement}
+module _ (table book site : List ℕ) (m : ℕ) {j : Result Rules Refusal}
     (e : j ≡ judged_as (verdict (for_site table book true site)) (rules_of table book)) where
-  pub fast_refused : {r : Refusal} {k : ℕ} → j ≡ judgement.Refused r → k ≡ number_in j → outcome k site ≡ fast_delivery_call table book site m
+  pub fast_refused : {r : Refusal} {k : ℕ} → j ≡ Err r → k ≡ number_of r → outcome k site ≡ fast_delivery_call table book site m
   unfolding fast_delivery_call
   fast_refused h ek =
       let w = refused_code (verdict (for_site table book true site)) (rules_of table book) e h ek in
       then_refused (for_site table book true site)
       (ltb m (length (commands_of book)) else Range ⨾ protocol.for_fast_delivery (system_of table book) m (site_in table book site)) _ site w.0 w.1
 
-  module _ {x : Rules} (h : j ≡ judgement.Good x) where
+  module _ {x : Rules} (h : j ≡ Ok x) where
     code : 0 ≡ code_of (verdict (for_site table book true site))
     code = good_code (verdict (for_site table book true site)) (rules_of table book) e h
 
@@ -106,7 +105,7 @@ module _ (table book site : List ℕ) (m : ℕ) {j : Judgement}
 -- ---- a round that ends
 
 -- The decision of the site's round at the site's position.
-pub decided_by : (t : SiteTable) (book log : List ℕ) {rows : List ℕ} {p r : ℕ} (b : List ℕ) {d : Decision} → rows ≡ conflict_rows book → p ≡ (head_of b).position → r ≡ (head_of b).round
+pub decided_by : (t : SiteTable) (book log : List ℕ) {rows : List ℕ} {p r : ℕ} (b : List ℕ) {d : Option Sets} → rows ≡ conflict_rows book → p ≡ (head_of b).position → r ≡ (head_of b).round
     → d ≡ decision_of (rows_system t rows) (recovery.decide (rows_system t rows) r (log_to log p))
     → d ≡ decision_of (rows_system t (conflict_rows book)) (recovery.decide (rows_system t (conflict_rows book)) (head_of b).round (log_to log (head_of b).position))
 decided_by t book log b ew ep er ed = ed ∙ (λ i. decision_of (rows_system t (ew i)) (recovery.decide (rows_system t (ew i)) (er i) (log_to log (ep i))))
@@ -122,7 +121,7 @@ module _ (t : SiteTable) (book log : List ℕ) {commands : ℕ} (count : length 
 module _ (t : SiteTable) (table : is_good t ≡ true) (book log b : List ℕ) {commands : ℕ} (count : length (commands_of book) ≡ commands)
     (small : (i : ℕ) → get_or log i 0 < 256)
     (position : (head_of b).position ≤ length log / entry_size) (before : good_to log t.sites commands (head_of b).position ≡ true)
-    {d : Decision}
+    {d : Option Sets}
     (ed : d ≡ decision_of (rows_system t (conflict_rows book)) (recovery.decide (rows_system t (conflict_rows book)) (head_of b).round (log_to log (head_of b).position))) where
   room : (head_of b).position * entry_size ≤ length log
   room = omega arith
@@ -143,15 +142,15 @@ module _ (t : SiteTable) (table : is_good t ≡ true) (book log b : List ℕ) {c
       o t (log_of log) (subst (λ (k : ℕ). Good t.sites k b) (sym count) good)
       (told t table book (conflict_rows book) log small (head_of b).position (head_of b).round room logged refl ed (view t (commands_of book) b) (log_of log) read refl)
 
-module _ (table book site log : List ℕ) {j : Judgement}
+module _ (table book site log : List ℕ) {j : Result Rules Refusal}
     (e : j ≡ judged_as (verdict (for_site_and_log table book true site log)) (rules_of table book)) where
-  pub end_refused : {r : Refusal} {k : ℕ} → j ≡ judgement.Refused r → k ≡ number_in j → outcome k site ≡ round_end_call table book site log
+  pub end_refused : {r : Refusal} {k : ℕ} → j ≡ Err r → k ≡ number_of r → outcome k site ≡ round_end_call table book site log
   unfolding round_end_call
   end_refused h ek =
       let w = refused_code (verdict (for_site_and_log table book true site log)) (rules_of table book) e h ek in
       then_refused (for_site_and_log table book true site log) (protocol.for_round_end (system_of table book) (site_in table book site) (log_of log)) _ site w.0 w.1
 
-  module _ {x : Rules} (h : j ≡ judgement.Good x) where
+  module _ {x : Rules} (h : j ≡ Ok x) where
     end_code : 0 ≡ code_of (verdict (for_site_and_log table book true site log))
     end_code = good_code (verdict (for_site_and_log table book true site log)) (rules_of table book) e h
 

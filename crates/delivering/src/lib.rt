@@ -9,35 +9,31 @@ ghost use Rattle.entries.specs.Entries.{entry_size, log_of, good_to};
 ghost use Rattle.layout.specs.Layout.{head_of};
 ghost use Rattle.layout.specs.Good.{Good};
 ghost use Rattle.ending.specs.Ending.{EndedBy};
+ghost use Rattle.refusals.specs.Refusals.{code_of};
 ghost use Rattle.judging.specs.Outcomes.{outcome};
 ghost use Rattle.delivering.specs.Delivering.{fast_delivery_call, round_end_call};
 
-use judging::Judgement;
 use layout::Site;
 use refusals::{Refusal, Verdict};
 use table::Rules;
 
 // Delivers a command fast.
-pub fn fast_delivery(table: &[u8], book: &[u8], site: &mut [u8], command: usize) -> u32
-    ensures { outcome result site.new ≡ fast_delivery_call table.now book.now site.old command }
+pub fn fast_delivery(table: &[u8], book: &[u8], site: &mut [u8], command: usize) -> Verdict
+    ensures { outcome (code_of result) site.new ≡ fast_delivery_call table.now book.now site.old command }
 {
     let mut places = [0u64; commands::MAX_COMMANDS];
-    let judged = judging::judge_site(true, table, book, &site[..], &mut places);
-    let Judgement::Good(rules) = judged else {
-        return judging::number(judged);
-    };
+    let rules = judging::judge_site(true, table, book, &site[..], &mut places)?;
     if command >= rules.commands {
-        return refusals::number(Refusal::Range);
+        return Err(Refusal::Range);
     }
-    let verdict = fast::fast_delivery(
+    fast::fast_delivery(
         &mut site[..Site::SIZE],
         rules.table,
         book,
         &places,
         rules.commands,
         command,
-    );
-    refusals::code(verdict)
+    )
 }
 
 // The round ends as the entries that the site has read decide it, or the step is refused.
@@ -58,15 +54,11 @@ fn end_round(site: &mut [u8], rules: Rules, book: &[u8], noted: &[u64], log: &[u
 }
 
 // Ends the round of a waiting site.
-pub fn round_end(table: &[u8], book: &[u8], site: &mut [u8], log: &[u8]) -> u32
-    ensures { outcome result site.new ≡ round_end_call table.now book.now site.old log.now }
+pub fn round_end(table: &[u8], book: &[u8], site: &mut [u8], log: &[u8]) -> Verdict
+    ensures { outcome (code_of result) site.new ≡ round_end_call table.now book.now site.old log.now }
 {
     let mut noted = [0u64; conflicts::NOTED];
-    let judged = judging::judge_site_and_log(true, table, book, &site[..], log, &mut noted);
-    let Judgement::Good(rules) = judged else {
-        return judging::number(judged);
-    };
+    let rules = judging::judge_site_and_log(true, table, book, &site[..], log, &mut noted)?;
     conflicts::conflict_rows(book, rules.commands, &mut noted);
-    let verdict = end_round(&mut site[..Site::SIZE], rules, book, &noted, log);
-    refusals::code(verdict)
+    end_round(&mut site[..Site::SIZE], rules, book, &noted, log)
 }

@@ -1,9 +1,9 @@
 -- The end of a round: what is due is what the protocol delivers, and the bytes are those of its site.
 -- Assumes nothing.
 use mathlib.Core.Path.{◌≡◌, refl, sym, ap, subst, ◌∙◌}
+use Rattle.std.specs.Prelude.{Err, None, Some, Option}
 use mathlib.Core.Bool.{Bool, true, false, ◌&&◌, ◌||◌, not}
 use mathlib.Core.List.{List, ◌++◌, foldl}
-use mathlib.Core.Option.{Option, none, some}
 use Prim.Native.Nat.{ℕ, ◌+◌, ◌^◌, ◌≤◌, ◌<◌}
 use native.Mathlib.Numerals.{add-one}
 use native.Mathlib.Omega.{arith}
@@ -11,8 +11,7 @@ use lib.Dec.{leb, lit<}
 use lib.ListN.{length, get_or, length-append}
 use Rattle.refusals.specs.declared.Refusal.{Refusal}
 use Rattle.refusals.specs.declared.Refusal.TheVariants.{Disabled, Full}
-use Rattle.refusals.specs.declared.Verdict.{Verdict}
-use Rattle.refusals.specs.declared.Verdict.TheVariants.{Taken, Refused}
+use Rattle.refusals.specs.Refusals.{Verdict, accepted}
 use Rattle.theory.specs.Sets.{◌∖◌, ◌∪◌, members}
 use Rattle.theory.specs.Counting.{count_le}
 use Rattle.theory.specs.Members.{members_ext, length-members}
@@ -28,8 +27,6 @@ use Rattle.protocol.specs.Site as protocol
 use Rattle.protocol.specs.Site.{acknowledging}
 use Rattle.system.specs.Dash.{dash}
 use Rattle.recovery.specs.declared.Sets.{Sets}
-use Rattle.recovery.specs.declared.Decision.{Decision}
-use Rattle.recovery.specs.declared.Decision.TheVariants.{Undecided, Decided}
 use Rattle.recovery.specs.Decisions.{DecisionWithin}
 use Rattle.layout.specs.declared.Site.{Site}
 use Rattle.layout.specs.Layout.{count_place, head_of, head_bytes, deliveries_of, ledger_of, view}
@@ -52,7 +49,7 @@ pub size_small : (x : Set) {n : ℕ} → n ≡ size_of x → n ≤ 64
 size_small x e = let l = count_le capacity (in_set x) in omega arith
 
 -- A round end that the code takes has room for what it delivers.
-pub ready : (h : Site) (commands : ℕ) (s : Sets) {x y : Set} {r : Verdict} → r ≡ judged_end h commands s → r ≡ Taken
+pub ready : (h : Site) (commands : ℕ) (s : Sets) {x y : Set} {r : Verdict} → r ≡ judged_end h commands s → r ≡ accepted
     → x ≡ due_of h s.nc → y ≡ due_of h s.c → h.deliveries + length (in_order x) + length (in_order y) ≤ commands
 ready h commands s {x} {y} er et ex ey =
     let a : length (in_order x) ≡ size_of (due_of h s.nc) = ap (λ (z : Set). length (in_order z)) ex ∙ sym (size_order (due_of h s.nc) refl) in
@@ -79,32 +76,32 @@ unfolding head_of
 counted b = length_deliveries (read_le 2 b count_place) b
 
 -- The sets of a decision are within the book.
-pub decided_within : (s : Sets) {d : Decision} {n commands : ℕ} → d ≡ Decided s → n ≡ commands → DecisionWithin commands d → DecisionWithin n (Decided s)
-decided_within s {commands = commands} ed en w = subst (λ (k : ℕ). DecisionWithin k (Decided s)) (sym en) (subst (DecisionWithin commands) ed w)
+pub decided_within : (s : Sets) {d : Option Sets} {n commands : ℕ} → d ≡ Some s → n ≡ commands → DecisionWithin commands d → DecisionWithin n (Some s)
+decided_within s {commands = commands} ed en w = subst (λ (k : ℕ). DecisionWithin k (Some s)) (sym en) (subst (DecisionWithin commands) ed w)
 
 -- What is told, at the protocol's decision.
 module _ (t : SiteTable) (book : List Command) where
-  told_none : (o : Option Tally) (round : ℕ) → Told t book Undecided o round → protocol.is_some o ≡ false
-  told_none none round h = refl
-  told_none (some d) round h = absurd h
+  told_none : (o : Option Tally) (round : ℕ) → Told t book None o round → protocol.is_some o ≡ false
+  told_none None round h = refl
+  told_none (Some d) round h = absurd h
 
-  told_some : (s : Sets) (o : Option Tally) (round : ℕ) → Told t book (Decided s) o round → (protocol.is_some o ≡ true) × ToldSets t book s (protocol.tally_or o) round
-  told_some s none round h = absurd h
-  told_some s (some d) round h = (refl, h)
+  told_some : (s : Sets) (o : Option Tally) (round : ℕ) → Told t book (Some s) o round → (protocol.is_some o ≡ true) × ToldSets t book s (protocol.tally_or o) round
+  told_some s None round h = absurd h
+  told_some s (Some d) round h = (refl, h)
 
 -- A round that is not decided does not end.
-pub round_undecided : (book : List Command) (b : List ℕ) → ((i : ℕ) → get_or b i 0 < 256) → {d : Decision} → d ≡ Undecided → RoundEnded book d b (Refused Disabled) b
+pub round_undecided : (book : List Command) (b : List ℕ) → ((i : ℕ) → get_or b i 0 < 256) → {d : Option Sets} → d ≡ None → RoundEnded book d b (Err Disabled) b
 round_undecided book b small ed =
     λ t log good told.
     let s = view t book b in
     let o = protocol.decision (dash t book) s log in
     refused t book (verdict (protocol.for_round_end (dash t book) s log)) Disabled
     (verdict_undecided (protocol.is_waiting s.phase) (protocol.is_some o) (protocol.room (dash t book) s (length (protocol.due (dash t book) (protocol.tally_or o) s)) else Full ⨾ granted)
-    (told_none t book o s.round (subst (λ (x : Decision). Told t book x o s.round) ed told))) good small
+    (told_none t book o s.round (subst (λ (x : Option Sets). Told t book x o s.round) ed told))) good small
 
 module _ (t : SiteTable) (book : List Command) (few : length book ≤ capacity) (b : List ℕ) (small : (i : ℕ) → get_or b i 0 < 256) (good : Good t.sites (length book) b)
     (s : Sets) (lnc : s.nc.bits < 2 ^ 64) (lc : s.c.bits < 2 ^ 64) (wnc : within_of s.nc (length book) ≡ true) (wc : within_of s.c (length book) ≡ true)
-    {d : Decision} (ed : d ≡ Decided s) (log : Log) (told : Told t book d (protocol.decision (dash t book) (view t book b) log) (view t book b).round) where
+    {d : Option Sets} (ed : d ≡ Some s) (log : Log) (told : Told t book d (protocol.decision (dash t book) (view t book b) log) (view t book b).round) where
   tally : Tally
   tally = protocol.tally_or (protocol.decision (dash t book) (view t book b) log)
 
@@ -113,7 +110,7 @@ module _ (t : SiteTable) (book : List Command) (few : length book ≤ capacity) 
   is_told =
       let o = protocol.decision (dash t book) (view t book b) log in
       let r = (view t book b).round in
-      told_some t book s o r (subst (λ (x : Decision). Told t book x o r) ed told)
+      told_some t book s o r (subst (λ (x : Option Sets). Told t book x o r) ed told)
 
   -- What the code delivers is what is due.
   all-due : in_order (due_of (head_of b) s.nc) ++ in_order (due_of (head_of b) s.c) ≡ protocol.due (dash t book) tally (view t book b)
@@ -161,7 +158,7 @@ module _ (t : SiteTable) (book : List Command) (few : length book ≤ capacity) 
     end_good =
         let g = good.head in
         let low = is_told.1.last in
-        let none = within_empty (length book) in
+        let None = within_empty (length book) in
         record {
           first = omega arith;
           last = omega arith;
@@ -170,10 +167,10 @@ module _ (t : SiteTable) (book : List Command) (few : length book ≤ capacity) 
           span = g.span;
           received = g.received;
           delivered = within_union (head_of b).delivered (union_of s.nc s.c) (length book) g.delivered (within_union s.nc s.c (length book) wnc wc);
-          pending = none;
-          fast = none;
-          nc = none;
-          c = none;
+          pending = None;
+          fast = None;
+          nc = None;
+          c = None;
         }
 
     pub end_holds : {h' : Site} {b₁ b₂ : List ℕ} → Delivered book (head_of b).deliveries (in_order (due_of (head_of b) s.nc) ++ in_order (due_of (head_of b) s.c)) b b₁
@@ -207,15 +204,13 @@ module _ (t : SiteTable) (book : List Command) (few : length book ≤ capacity) 
     verdict_is : r ≡ verdict (protocol.for_round_end (dash t book) (view t book b) log)
     verdict_is = er ∙ (λ i. judged_end (eh i) (sym en i) s) ∙ end_verdict
 
-    pub round_refused : (z : Refusal) → r ≡ Refused z → EndedBy t book log b r b
-    round_refused z ez =
-        subst (λ (y : Verdict). EndedBy t book log b y b) (sym ez)
-        (refused t book (verdict (protocol.for_round_end (dash t book) (view t book b) log)) z (sym verdict_is ∙ ez) good small)
+    pub round_refused : (z : Refusal) → r ≡ Err z → EndedBy t book log b (Err z) b
+    round_refused z ez = refused t book (verdict (protocol.for_round_end (dash t book) (view t book b) log)) z (sym verdict_is ∙ ez) good small
 
-    pub round-taken : {x y : Set} {k n : ℕ} {b₁ b₂ b₃ : List ℕ} → r ≡ Taken → x ≡ due_of h s.nc → y ≡ due_of h s.c
+    pub round-taken : {x y : Set} {k n : ℕ} {b₁ b₂ b₃ : List ℕ} → r ≡ accepted → x ≡ due_of h s.nc → y ≡ due_of h s.c
         → k ≡ h.deliveries + length (in_order x) → Delivered book h.deliveries (in_order x) b b₁
         → n ≡ k + length (in_order y) → Delivered book k (in_order y) b₁ b₂ → b₃ ≡ splice b₂ 0 (head_bytes (ended h s n)) → ((i : ℕ) → get_or b₃ i 0 < 256)
-        → EndedBy t book log b Taken b₃
+        → EndedBy t book log b accepted b₃
     round-taken {x} {y} {k} {n} {b₁} {b₂} {b₃} et ex ey ek d₁ em d₂ eb small' =
         let room = ready h commands s er et ex ey in
         let a = length-append (in_order x) (in_order y) in

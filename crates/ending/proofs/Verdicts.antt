@@ -1,13 +1,14 @@
 -- The verdict on a round end, by the code's tests and by the protocol's.
 -- Assumes nothing.
 use mathlib.Core.Path.{◌≡◌, refl, sym, ap, ◌∙◌}
+use Rattle.std.specs.Prelude.{Err}
 use mathlib.Core.Bool.{Bool, true, false}
 use Prim.Native.Nat.{ℕ, ◌+◌, ◌≤◌, ◌<◌}
 use native.Mathlib.Omega.{arith}
 use lib.Dec.{leb}
 use borrow.Author.Tests.{le-leb, lt-leb, leb-true}
 use Rattle.refusals.specs.declared.Refusal.TheVariants.{Disabled, Full}
-use Rattle.refusals.specs.declared.Verdict.TheVariants.{Taken, Refused}
+use Rattle.refusals.specs.Refusals.{accepted}
 use Rattle.sets.specs.declared.Set.{Set}
 use Rattle.sets.specs.Sets.{size_of}
 use Rattle.protocol.specs.System.{Demands, granted, ◌else◌⨾◌, verdict}
@@ -23,7 +24,7 @@ use Rattle.ending.specs.Ending.{due_of, more_of, judged_in, judged_end}
 -- ---- the paths of the code
 
 module _ (h : Site) (commands : ℕ) (s : Sets) where
-  pub end_acknowledging : h.phase ≡ Acknowledging → Refused Disabled ≡ judged_end h commands s
+  pub end_acknowledging : h.phase ≡ Acknowledging → Err Disabled ≡ judged_end h commands s
   unfolding judged_end
   end_acknowledging e = simp e
 
@@ -31,23 +32,23 @@ module _ (h : Site) (commands : ℕ) (s : Sets) where
     total : h.deliveries + k ≡ h.deliveries + more_of h s
     total = ap (λ (n : ℕ). h.deliveries + n) (ek ∙ (λ i. size_of (ex i) + size_of (ey i)))
 
-    pub end_full : commands < h.deliveries + k → Refused Full ≡ judged_end h commands s
+    pub end_full : commands < h.deliveries + k → Err Full ≡ judged_end h commands s
     unfolding judged_end
     end_full l = let t = total in simp (e, lt-leb (h.deliveries + more_of h s) commands (omega arith))
 
-    pub end_met : h.deliveries + k ≤ commands → Taken ≡ judged_end h commands s
+    pub end_met : h.deliveries + k ≤ commands → accepted ≡ judged_end h commands s
     unfolding judged_end
     end_met l = let t = total in simp (e, le-leb (h.deliveries + more_of h s) commands (omega arith))
 
 -- ---- the verdict by its tests
 
-met : (p : Phase) (r : Bool) → judged_in p r ≡ Taken → r ≡ true
+met : (p : Phase) (r : Bool) → judged_in p r ≡ accepted → r ≡ true
 met (Waiting p) true h = refl
 met (Waiting p) false h = absurd (let z : ◌≡◌ {A = ℕ} 0 1 = cc h in omega arith)
 met Acknowledging r h = absurd (let z : ◌≡◌ {A = ℕ} 0 1 = cc h in omega arith)
 
 -- A round end that is taken has room.
-pub end_taken : (h : Site) (commands : ℕ) (s : Sets) → judged_end h commands s ≡ Taken → h.deliveries + more_of h s ≤ commands
+pub end_taken : (h : Site) (commands : ℕ) (s : Sets) → judged_end h commands s ≡ accepted → h.deliveries + more_of h s ≤ commands
 unfolding judged_end
 end_taken h commands s e = leb-true (h.deliveries + more_of h s) commands (met h.phase (leb (h.deliveries + more_of h s) commands) e)
 
@@ -64,6 +65,6 @@ same_verdict h commands s decided room ed er =
     by_phase (Waiting p) = refl
 
 -- Where it is not, the step is refused, whatever the phase.
-pub verdict_undecided : (waits decided : Bool) (more : Demands) → decided ≡ false → verdict (waits else Disabled ⨾ decided else Disabled ⨾ more) ≡ Refused Disabled
+pub verdict_undecided : (waits decided : Bool) (more : Demands) → decided ≡ false → verdict (waits else Disabled ⨾ decided else Disabled ⨾ more) ≡ Err Disabled
 verdict_undecided true decided more e = ap (λ (d : Bool). verdict (d else Disabled ⨾ more)) e
 verdict_undecided false decided more e = refl

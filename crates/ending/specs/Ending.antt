@@ -1,10 +1,8 @@
 -- The end of a round: the header after it, the code's verdict, and what the step promises.
 -- Assumes nothing.
-use Rattle.std.specs.Prelude.{◌≡◌, Bool, List, ℕ, ◌+◌, ◌≤◌, leb, length}
-use Rattle.std.proofs.Math.Option.{Option, none, some}
+use Rattle.std.specs.Prelude.{◌≡◌, Bool, List, ℕ, ◌+◌, ◌≤◌, leb, length, Err, None, Option, Some}
 use Rattle.refusals.specs.declared.Refusal.TheVariants.{Disabled, Full}
-use Rattle.refusals.specs.declared.Verdict.{Verdict}
-use Rattle.refusals.specs.declared.Verdict.TheVariants.{Refused}
+use Rattle.refusals.specs.Refusals.{Verdict}
 use Rattle.sets.specs.declared.Set.{Set}
 use Rattle.sets.specs.Sets.{in_set, empty_of, union_of, without_of, size_of}
 use Rattle.table.specs.declared.SiteTable.{SiteTable}
@@ -14,8 +12,6 @@ use Rattle.protocol.specs.Recovery.{Log, Tally, nc_set, c_set}
 use Rattle.protocol.specs.Site as protocol
 use Rattle.system.specs.Dash.{dash, last_round}
 use Rattle.recovery.specs.declared.Sets.{Sets}
-use Rattle.recovery.specs.declared.Decision.{Decision}
-use Rattle.recovery.specs.declared.Decision.TheVariants.{Undecided, Decided}
 use Rattle.layout.specs.declared.Phase.{Phase}
 use Rattle.layout.specs.declared.Phase.TheVariants.{Acknowledging, Waiting}
 use Rattle.layout.specs.declared.Site.{Site}
@@ -48,7 +44,7 @@ ended h x n =
 
 -- The verdict in a phase, where the round is decided and the record has room for what is due or not.
 abbrev pub judged_in : Phase → Bool → Verdict
-judged_in Acknowledging room = Refused Disabled
+judged_in Acknowledging room = Err Disabled
 judged_in (Waiting p) room = verdict (room else Full ⨾ granted)
 
 -- The phase and the room are the header's.
@@ -63,11 +59,11 @@ module _ (t : SiteTable) (book : List Command) where
     pub last : round ≤ last_round
 
   -- What is told of the protocol's decision of a round.
-  abbrev pub Told : Decision → Option Tally → ℕ → Type 0
-  Told Undecided none round = Unit {0}
-  Told Undecided (some d) round = ⊥
-  Told (Decided x) none round = ⊥
-  Told (Decided x) (some d) round = ToldSets x d round
+  abbrev pub Told : Option Sets → Option Tally → ℕ → Type 0
+  Told None None round = Unit {0}
+  Told None (Some d) round = ⊥
+  Told (Some x) None round = ⊥
+  Told (Some x) (Some d) round = ToldSets x d round
 
 -- A round end by a log was carried out on the bytes of a site, or refused.
 abbrev pub EndedBy : SiteTable → List Command → Log → List ℕ → Verdict → List ℕ → Type 0
@@ -76,7 +72,7 @@ EndedBy t book log b r b' =
     (protocol.finish (dash t book) (protocol.tally_or (protocol.decision (dash t book) (view t book b) log)) (view t book b)) (view t book b) b r b'
 
 -- It was, at every site table and by every log of which the decision tells.
-abbrev pub RoundEnded : List Command → Decision → List ℕ → Verdict → List ℕ → Type 0
+abbrev pub RoundEnded : List Command → Option Sets → List ℕ → Verdict → List ℕ → Type 0
 RoundEnded book d b r b' =
     (t : SiteTable) (log : Log) → Good t.sites (length book) b
     → Told t book d (protocol.decision (dash t book) (view t book b) log) (view t book b).round → EndedBy t book log b r b'

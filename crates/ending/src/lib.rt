@@ -10,7 +10,7 @@ ghost use Rattle.layout.specs.Good.{Good};
 ghost use Rattle.ending.specs.Ending.{due_of, ended, judged_end, RoundEnded};
 
 use layout::{Phase, Site};
-use recovery::{Decision, Sets};
+use recovery::Sets;
 use refusals::{Refusal, Verdict};
 use sets::Set;
 
@@ -29,14 +29,14 @@ fn judge(header: Site, commands: usize, sets: Sets) -> Verdict
 {
     let phase = header.phase;
     match phase {
-        Phase::Acknowledging => Verdict::Refused(Refusal::Disabled),
+        Phase::Acknowledging => Err(Refusal::Disabled),
         Phase::Waiting(_) => {
             let more = due(header, sets.nc).size() + due(header, sets.c).size();
             let recorded = header.deliveries as usize;
             if recorded + more > commands {
-                return Verdict::Refused(Refusal::Full);
+                return Err(Refusal::Full);
             }
-            Verdict::Taken
+            Ok(())
         }
     }
 }
@@ -62,25 +62,22 @@ pub fn round_end(
     book: &[u8],
     places: &[u64],
     commands: usize,
-    decision: Decision,
+    decision: Option<Sets>,
 ) -> Verdict
     requires { ((sites : ℕ) × Good sites commands site.old) × Placed book.now places.now
         × (length (commands_of book.now) ≡ commands) × DecisionWithin commands decision }
     ensures { RoundEnded (commands_of book.now) decision site.old result site.new }
 {
-    let Decision::Decided(sets) = decision else {
-        return Verdict::Refused(Refusal::Disabled);
+    let Some(sets) = decision else {
+        return Err(Refusal::Disabled);
     };
     let header = Site::read(&site[..]);
-    let judged = judge(header, commands, sets);
-    if let Verdict::Refused(_) = judged {
-        return judged;
-    }
+    judge(header, commands, sets)?;
     let first = due(header, sets.nc);
     let second = due(header, sets.c);
     let recorded = header.deliveries as usize;
     let between = deliver::deliver_all(site, book, places, recorded, first);
     let total = deliver::deliver_all(site, book, places, between, second);
     next_round(site, header, sets, total as u16);
-    Verdict::Taken
+    Ok(())
 }

@@ -1,6 +1,7 @@
 -- What a fresh site and the calls that receive answer: one law an answer.
 -- Assumes nothing.
 use mathlib.Core.Path.{◌≡◌, refl, sym, ap, subst, ◌∙◌}
+use Rattle.std.specs.Prelude.{Err, Ok, Result}
 use mathlib.Core.Bool.{Bool, true, false, not, ◌&&◌}
 use mathlib.Core.List.{List, ◌++◌}
 use Prim.Native.Nat.{ℕ, ◌≤◌, ◌<◌}
@@ -31,9 +32,7 @@ use Rattle.message.specs.declared.Message.{Message}
 use Rattle.message.specs.Messages.{is_message, message_of}
 use Rattle.site.specs.Steps.{Commanded}
 use Rattle.judging.specs.Outcomes.{outcome, ◌then◌}
-use Rattle.judging.specs.declared.Judgement.{Judgement}
-use Rattle.judging.specs.declared.Judgement.TheVariants as judgement
-use Rattle.judging.specs.Judging.{rules_of, judged_as, number_in, for_site, for_site_and_message}
+use Rattle.judging.specs.Judging.{rules_of, judged_as, for_site, for_site_and_message}
 use Rattle.judging.proofs.Demands.{then_taken, then_refused, answered-taken, answered_refused, last_refused, last_taken}
 use Rattle.judging.proofs.Laws.{Judged, site_judged, good_code, good_rules, refused_code}
 use Rattle.judging.proofs.Steps.{written}
@@ -60,9 +59,9 @@ four r true true false d = refl
 four r true true true false = refl
 four r true true true true = refl
 
-module _ (table book site : List ℕ) {j : Judgement}
+module _ (table book site : List ℕ) {j : Result Rules Refusal}
     (e : j ≡ judged_as (verdict (for_site table book true site)) (rules_of table book)) where
-  module _ {x : Rules} (h : j ≡ judgement.Good x) where
+  module _ {x : Rules} (h : j ≡ Ok x) where
     code : 0 ≡ code_of (verdict (for_site table book true site))
     code = good_code (verdict (for_site table book true site)) (rules_of table book) e h
 
@@ -78,13 +77,13 @@ module _ (table book site : List ℕ) {j : Judgement}
   -- ---- a command
 
   module _ (m : ℕ) where
-    pub command_refused : {r : Refusal} {k : ℕ} → j ≡ judgement.Refused r → k ≡ number_in j → outcome k site ≡ receive_command_call table book site m
+    pub command_refused : {r : Refusal} {k : ℕ} → j ≡ Err r → k ≡ number_of r → outcome k site ≡ receive_command_call table book site m
     unfolding receive_command_call
     command_refused h ek =
         let w = refused_code (verdict (for_site table book true site)) (rules_of table book) e h ek in
         then_refused (for_site table book true site) (ltb m (length (commands_of book)) else Range ⨾ granted) _ site w.0 w.1
 
-    module _ {x : Rules} (good : j ≡ judgement.Good x) where
+    module _ {x : Rules} (good : j ≡ Ok x) where
       pub command_below : m < x.commands → m < capacity
       command_below h = let l = few_commands book in let c = counted good in omega arith
 
@@ -108,7 +107,7 @@ module _ (table book site : List ℕ) {j : Judgement}
 pub took_by : (k k' : Kind) (sender round : ℕ) (x : Set) (b b' : List ℕ) → k ≡ k' → TookMessage k' sender round x b b' → TookMessage k sender round x b b'
 took_by k k' sender round x b b' e o = subst (λ (y : Kind). TookMessage y sender round x b b') (sym e) o
 
-module _ (table book site message : List ℕ) (sender : ℕ) {formed : Bool} (ef : formed ≡ is_message message) {j : Judgement}
+module _ (table book site message : List ℕ) (sender : ℕ) {formed : Bool} (ef : formed ≡ is_message message) {j : Result Rules Refusal}
     (e : j ≡ judged_as (verdict (for_site_and_message table book formed site)) (rules_of table book)) where
   abbrev d : Demands
   d = for_site_and_message table book (is_message message) site
@@ -123,13 +122,13 @@ module _ (table book site message : List ℕ) (sender : ℕ) {formed : Bool} (ef
   abbrev set : Set
   set = (message_of message).set
 
-  pub message_refused : {r : Refusal} {k : ℕ} → j ≡ judgement.Refused r → k ≡ number_in j → outcome k site ≡ receive_call table book site sender message
+  pub message_refused : {r : Refusal} {k : ℕ} → j ≡ Err r → k ≡ number_of r → outcome k site ≡ receive_call table book site sender message
   unfolding receive_call
   message_refused h ek =
       let w = refused_code (verdict d) (rules_of table book) told h ek in
       then_refused d (for_receive table book sender round set) _ site w.0 w.1
 
-  module _ {x : Rules} (good : j ≡ judgement.Good x) where
+  module _ {x : Rules} (good : j ≡ Ok x) where
     message_judged : (true ≡ true) × (is_message message ≡ true) × Judged table book site
     message_judged = site_judged table book true (is_message message) site (good_code (verdict d) (rules_of table book) told good) refl
 

@@ -1,10 +1,10 @@
 -- What the call of a log read answers: one law an answer.
 -- Assumes nothing.
 use mathlib.Core.Path.{◌≡◌, refl, sym, ap, ◌∙◌}
+use Rattle.std.specs.Prelude.{Err, Ok, Result, None, Some}
 use mathlib.Core.Bool.{Bool, true, false, not}
 use mathlib.Core.List.{List, ◌++◌}
 use mathlib.Core.Logic.{◌⊎◌, inl, inr}
-use mathlib.Core.Option.{none, some}
 use Prim.Native.Nat.{ℕ, ◌/◌, ◌≤◌, ◌<◌}
 use native.Mathlib.Omega.{arith}
 use lib.Dec.{leb, ltb}
@@ -15,7 +15,7 @@ use Rattle.theory.specs.Lists.{nth}
 use Rattle.theory.specs.Counting.{not-true, not-false, lt_or_le}
 use Rattle.refusals.specs.declared.Refusal.{Refusal}
 use Rattle.refusals.specs.declared.Refusal.TheVariants.{Range}
-use Rattle.refusals.specs.declared.Verdict.{Verdict}
+use Rattle.refusals.specs.Refusals.{Verdict}
 use Rattle.refusals.specs.Refusals.{number_of, code_of}
 use Rattle.table.specs.declared.Rules.{Rules}
 use Rattle.commands.specs.Book.{commands_of}
@@ -29,10 +29,8 @@ use Rattle.layout.specs.Layout.{site_size, head_of}
 use Rattle.site.proofs.Turning.{third_entry}
 use Rattle.site.specs.Steps.{ReadEntry}
 use Rattle.judging.specs.Outcomes.{outcome, answered, ◌then◌}
-use Rattle.judging.specs.declared.Judgement.{Judgement}
-use Rattle.judging.specs.declared.Judgement.TheVariants as judgement
 use Rattle.table.specs.Table.{table_in}
-use Rattle.judging.specs.Judging.{system_of, span_in, site_in, with_site, entries_in, rules_of, judged_as, number_in, for_site_and_log}
+use Rattle.judging.specs.Judging.{system_of, span_in, site_in, with_site, entries_in, rules_of, judged_as, for_site_and_log}
 use Rattle.judging.proofs.Demands.{then_taken, then_refused, answered_refused}
 use Rattle.judging.proofs.Laws.{Judged, JudgedLog, log_judged, good_code, good_rules, refused_code}
 use Rattle.judging.proofs.Steps.{carried}
@@ -62,11 +60,11 @@ module _ (log : List ℕ) (p : ℕ) where
       ap (leb 2) (ek ∙ (λ i. entries (es i) (er i) (log_to log p)))
       ∙ (λ i. pick (sym (lt-ltb p (entries_in log) h) i) (leb 2 (entries (entry_of log p).site (entry_of log p).round (log_to log p))) false)
 
-  there : p < entries_in log → nth (log_of log) p ≡ some (view_entry (entry_of log p))
+  there : p < entries_in log → nth (log_of log) p ≡ Some (view_entry (entry_of log p))
   unfolding log_of
   there h = log_nth log (length log / entry_size) p h
 
-  past : entries_in log ≤ p → nth (log_of log) p ≡ none
+  past : entries_in log ≤ p → nth (log_of log) p ≡ None
   unfolding log_of
   past h = log_end log (length log / entry_size) p h
 
@@ -109,9 +107,9 @@ module _ (table book log : List ℕ) (p : ℕ) where
 
 -- ---- the call
 
-module _ (table book site log : List ℕ) {j : Judgement}
+module _ (table book site log : List ℕ) {j : Result Rules Refusal}
     (e : j ≡ judged_as (verdict (for_site_and_log table book true site log)) (rules_of table book)) where
-  pub read_refused : {r : Refusal} {k : ℕ} → j ≡ judgement.Refused r → k ≡ number_in j → outcome k site ≡ log_read_call table book site log
+  pub read_refused : {r : Refusal} {k : ℕ} → j ≡ Err r → k ≡ number_of r → outcome k site ≡ log_read_call table book site log
   unfolding log_read_call
   read_refused h ek =
       let w = refused_code (verdict (for_site_and_log table book true site log)) (rules_of table book) e h ek in
@@ -120,7 +118,7 @@ module _ (table book site log : List ℕ) {j : Judgement}
       ⨾ protocol.for_log_read (system_of table book) (site_in table book site) (log_of log))
       _ site w.0 w.1
 
-  module _ {x : Rules} (h : j ≡ judgement.Good x) where
+  module _ {x : Rules} (h : j ≡ Ok x) where
     code : 0 ≡ code_of (verdict (for_site_and_log table book true site log))
     code = good_code (verdict (for_site_and_log table book true site log)) (rules_of table book) e h
 

@@ -6,42 +6,39 @@ ghost use Rattle.table.specs.declared.SiteTable.{SiteTable};
 ghost use Rattle.table.specs.Table.{max_sites};
 ghost use Rattle.layout.specs.Layout.{site_size, site_rounds};
 ghost use Rattle.register.specs.declared.Command.{Command};
+ghost use Rattle.refusals.specs.Refusals.{code_of};
 ghost use Rattle.judging.specs.Outcomes.{outcome};
 ghost use Rattle.engine.specs.Calls.{fresh_call, receive_command_call, TookMessage, message_in_range, receive_call, log_read_call};
 ghost use Rattle.engine.specs.Next.{next_in_range_of, third_of};
 
 use entries::Entry;
-use judging::Judgement;
 use layout::Site;
 use message::{Kind, Message};
-use refusals::Refusal;
+use refusals::{Refusal, Verdict};
 use table::Rules;
 
-// A fresh site is written: 0 or 9.
-pub fn fresh(site: &mut [u8]) -> u32
-    ensures { (t : SiteTable) (book : List Command) → outcome result site.new ≡ fresh_call t book site.old }
+// A fresh site is written, or refusal 9.
+pub fn fresh(site: &mut [u8]) -> Verdict
+    ensures { (t : SiteTable) (book : List Command) → outcome (code_of result) site.new ≡ fresh_call t book site.old }
 {
     if site.len() < Site::SIZE {
-        return refusals::number(Refusal::Size);
+        return Err(Refusal::Size);
     }
     lent::fresh(&mut site[..Site::SIZE]);
-    0
+    Ok(())
 }
 
 // A command reached the site.
-pub fn receive_command(table: &[u8], book: &[u8], site: &mut [u8], command: usize) -> u32
-    ensures { outcome result site.new ≡ receive_command_call table.now book.now site.old command }
+pub fn receive_command(table: &[u8], book: &[u8], site: &mut [u8], command: usize) -> Verdict
+    ensures { outcome (code_of result) site.new ≡ receive_command_call table.now book.now site.old command }
 {
     let mut places = [0u64; commands::MAX_COMMANDS];
-    let judged = judging::judge_site(true, table, book, &site[..], &mut places);
-    let Judgement::Good(rules) = judged else {
-        return judging::number(judged);
-    };
+    let rules = judging::judge_site(true, table, book, &site[..], &mut places)?;
     if command >= rules.commands {
-        return refusals::number(Refusal::Range);
+        return Err(Refusal::Range);
     }
     site::receive_command(&mut site[..Site::SIZE], command);
-    0
+    Ok(())
 }
 
 // Whether sender, round and set of a message are in range.
@@ -68,21 +65,18 @@ fn take_message(site: &mut [u8], sender: usize, message: Message)
 }
 
 // A message reached the site, from a sender that the host vouches for and of a round past, present or to come.
-pub fn receive(table: &[u8], book: &[u8], site: &mut [u8], sender: usize, message: &[u8]) -> u32
-    ensures { outcome result site.new ≡ receive_call table.now book.now site.old sender message.now }
+pub fn receive(table: &[u8], book: &[u8], site: &mut [u8], sender: usize, message: &[u8]) -> Verdict
+    ensures { outcome (code_of result) site.new ≡ receive_call table.now book.now site.old sender message.now }
 {
     let mut places = [0u64; commands::MAX_COMMANDS];
     let formed = Message::is_message(message);
-    let judged = judging::judge_site_and_message(formed, table, book, &site[..], &mut places);
-    let Judgement::Good(rules) = judged else {
-        return judging::number(judged);
-    };
+    let rules = judging::judge_site_and_message(formed, table, book, &site[..], &mut places)?;
     let said = Message::read(message);
     if !in_range(said, sender, rules) {
-        return refusals::number(Refusal::Range);
+        return Err(Refusal::Range);
     }
     take_message(&mut site[..Site::SIZE], sender, said);
-    0
+    Ok(())
 }
 
 // Whether the entry at a position, where there is one, is in range.
@@ -109,20 +103,16 @@ fn next_is_third(log: &[u8], position: usize) -> bool
 }
 
 // The next log entry is read.
-pub fn log_read(table: &[u8], book: &[u8], site: &mut [u8], log: &[u8]) -> u32
-    ensures { outcome result site.new ≡ log_read_call table.now book.now site.old log.now }
+pub fn log_read(table: &[u8], book: &[u8], site: &mut [u8], log: &[u8]) -> Verdict
+    ensures { outcome (code_of result) site.new ≡ log_read_call table.now book.now site.old log.now }
 {
     let mut places = [0u64; commands::MAX_COMMANDS];
-    let judged = judging::judge_site_and_log(true, table, book, &site[..], log, &mut places);
-    let Judgement::Good(rules) = judged else {
-        return judging::number(judged);
-    };
+    let rules = judging::judge_site_and_log(true, table, book, &site[..], log, &mut places)?;
     let position = judging::position_of(&site[..Site::SIZE]);
     if !next_in_range(log, position, rules.table.sites, rules.commands) {
-        return refusals::number(Refusal::Range);
+        return Err(Refusal::Range);
     }
     let left = position < log.len() / Entry::BYTES;
     let third = next_is_third(log, position);
-    let verdict = site::read_entry(&mut site[..Site::SIZE], left, third);
-    refusals::code(verdict)
+    site::read_entry(&mut site[..Site::SIZE], left, third)
 }

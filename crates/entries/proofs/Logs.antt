@@ -1,9 +1,9 @@
 -- The log that bytes are: its length, its first entries, and how it grows.
 -- Assumes nothing.
+use Rattle.std.specs.Prelude.{None, Some}
 use mathlib.Core.Path.{◌≡◌, refl, sym, ap, ◌∙◌}
 use mathlib.Core.List.{List, [], ◌∷◌, ◌++◌, append-nil}
 use mathlib.Core.Logic.{◌⊎◌, inl, inr}
-use mathlib.Core.Option.{none, some}
 use Prim.Native.Nat.{ℕ, zero, suc, ◌+◌, ◌*◌, ◌/◌, ◌≤◌, ◌<◌}
 use native.Mathlib.Numerals.{add-one}
 use native.Mathlib.Omega.{arith}
@@ -54,21 +54,21 @@ log_take b j (suc k) h = go (last_or_below j (suc k) (omega arith)) (λ l. log_t
         take-append-le j (log_to b k) (view_entry (entry_of b k) ∷ []) (omega arith) ∙ r (omega arith)
 
 -- The entry at a position.
-pub log_nth : (b : List ℕ) (k i : ℕ) → i < k → nth (log_to b k) i ≡ some (view_entry (entry_of b i))
+pub log_nth : (b : List ℕ) (k i : ℕ) → i < k → nth (log_to b k) i ≡ Some (view_entry (entry_of b i))
 unfolding log_to
 log_nth b zero i h = absurd (omega arith)
 log_nth b (suc k) i h = go (last_or_below i k h) (λ l. log_nth b k i l)
   where
-    go : (i ≡ k) ⊎ (i < k) → (i < k → nth (log_to b k) i ≡ some (view_entry (entry_of b i)))
-        → nth (log_to b k ++ (view_entry (entry_of b k) ∷ [])) i ≡ some (view_entry (entry_of b i))
+    go : (i ≡ k) ⊎ (i < k) → (i < k → nth (log_to b k) i ≡ Some (view_entry (entry_of b i)))
+        → nth (log_to b k ++ (view_entry (entry_of b k) ∷ [])) i ≡ Some (view_entry (entry_of b i))
     go (inl e) r =
-        nth_last (log_to b k) (view_entry (entry_of b k)) i (e ∙ sym (log_length b k)) ∙ ap (λ (n : ℕ). some (view_entry (entry_of b n))) (sym e)
+        nth_last (log_to b k) (view_entry (entry_of b k)) i (e ∙ sym (log_length b k)) ∙ ap (λ (n : ℕ). Some (view_entry (entry_of b n))) (sym e)
     go (inr l) r =
         let z = log_length b k in
         nth-append (log_to b k) (view_entry (entry_of b k) ∷ []) i (omega arith) ∙ r l
 
 -- There is none at its end.
-pub log_end : (b : List ℕ) (k i : ℕ) → k ≤ i → nth (log_to b k) i ≡ none
+pub log_end : (b : List ℕ) (k i : ℕ) → k ≤ i → nth (log_to b k) i ≡ None
 log_end b k i h = nth_end (log_to b k) i (omega (arith, log_length b k))
 
 -- An entry written after the first k.

@@ -1,13 +1,13 @@
 -- The bytes after a fast delivery are those of the protocol's site.
 -- Assumes nothing.
 use mathlib.Core.Path.{◌≡◌, sym, ap, subst, ◌∙◌}
+use Rattle.std.specs.Prelude.{Err}
 use mathlib.Core.List.{List, [], ◌∷◌}
 use Prim.Native.Nat.{ℕ, ◌+◌, ◌≤◌, ◌<◌}
 use native.Mathlib.Omega.{arith}
 use lib.ListN.{length, get_or}
 use Rattle.refusals.specs.declared.Refusal.{Refusal}
-use Rattle.refusals.specs.declared.Verdict.{Verdict}
-use Rattle.refusals.specs.declared.Verdict.TheVariants.{Taken, Refused}
+use Rattle.refusals.specs.Refusals.{Verdict, accepted}
 use Rattle.wire.specs.Wire.{bytes, splice}
 use Rattle.sets.specs.declared.Set.{Set}
 use Rattle.sets.specs.Sets.{capacity, in_set, with_of, write_set}
@@ -28,23 +28,21 @@ use Rattle.deliver.specs.Delivering.{Delivered}
 use Rattle.fast.proofs.Judging.{taken-room}
 
 module _ (t : SiteTable) (book : List Command) (b : List ℕ) (small : (i : ℕ) → get_or b i 0 < 256) (good : Good t.sites (length book) b) (m : ℕ) where
-  pub fast_refused : {r : Verdict} (x : Refusal) → r ≡ verdict (protocol.for_fast_delivery (dash t book) m (view t book b)) → r ≡ Refused x
-      → Carried t book (verdict (protocol.for_fast_delivery (dash t book) m (view t book b))) (protocol.deliver_fast (dash t book) m (view t book b)) (view t book b) b r b
+  pub fast_refused : {r : Verdict} (x : Refusal) → r ≡ verdict (protocol.for_fast_delivery (dash t book) m (view t book b)) → r ≡ Err x
+      → Carried t book (verdict (protocol.for_fast_delivery (dash t book) m (view t book b))) (protocol.deliver_fast (dash t book) m (view t book b)) (view t book b) b (Err x) b
   fast_refused x e h =
-      subst
-      (λ (y : Verdict). Carried t book (verdict (protocol.for_fast_delivery (dash t book) m (view t book b))) (protocol.deliver_fast (dash t book) m (view t book b)) (view t book b) b y b)
-      (sym h) (refused t book (verdict (protocol.for_fast_delivery (dash t book) m (view t book b))) x (sym e ∙ h) good small)
+      refused t book (verdict (protocol.for_fast_delivery (dash t book) m (view t book b))) x (sym e ∙ h) good small
 
   -- There is a place for the delivery.
-  pub fast_space : {r : Verdict} {n : ℕ} → length book ≤ capacity → r ≡ verdict (protocol.for_fast_delivery (dash t book) m (view t book b)) → r ≡ Taken
+  pub fast_space : {r : Verdict} {n : ℕ} → length book ≤ capacity → r ≡ verdict (protocol.for_fast_delivery (dash t book) m (view t book b)) → r ≡ accepted
       → n ≡ (head_of b).deliveries → n < capacity
   fast_space few e et en = let l = taken-room t book b m (sym e ∙ et) in omega arith
 
   pub fast_taken : {r : Verdict} {n : ℕ} {x y : Set} {b₁ b₂ b₃ : List ℕ} → length book ≤ capacity → m < length book
-      → r ≡ verdict (protocol.for_fast_delivery (dash t book) m (view t book b)) → r ≡ Taken
+      → r ≡ verdict (protocol.for_fast_delivery (dash t book) m (view t book b)) → r ≡ accepted
       → n ≡ (head_of b).deliveries → x ≡ (head_of b).fast → Delivered book n (m ∷ []) b b₁ → y ≡ with_of x m
       → b₂ ≡ write_set b₁ fast_place y → b₃ ≡ splice b₂ count_place (bytes 2 (n + 1)) → ((i : ℕ) → get_or b₃ i 0 < 256)
-      → Carried t book (verdict (protocol.for_fast_delivery (dash t book) m (view t book b))) (protocol.deliver_fast (dash t book) m (view t book b)) (view t book b) b Taken b₃
+      → Carried t book (verdict (protocol.for_fast_delivery (dash t book) m (view t book b))) (protocol.deliver_fast (dash t book) m (view t book b)) (view t book b) b accepted b₃
   unfolding head_of
   fast_taken {b₁ = b₁} few lm e et en ex d' ey e₂ e₃ small' =
       let k = head_of b in

@@ -1,6 +1,7 @@
 -- The verdict on a fast delivery: the senders counted, and the code's tests in the protocol's order.
 -- Assumes nothing.
 use mathlib.Core.Path.{◌≡◌, refl, sym, ap, ◌∙◌}
+use Rattle.std.specs.Prelude.{Err}
 use mathlib.Core.Bool.{Bool, true, false, ◌&&◌, not}
 use mathlib.Core.List.{List}
 use Prim.Native.Nat.{ℕ, zero, suc, ◌+◌, ◌-◌, ◌≤◌, ◌<◌}
@@ -9,8 +10,7 @@ use lib.Dec.{leb}
 use lib.ListN.{length}
 use borrow.Author.Tests.{le-leb, lt-leb, leb-true}
 use Rattle.refusals.specs.declared.Refusal.TheVariants.{Disabled, Full}
-use Rattle.refusals.specs.declared.Verdict.{Verdict}
-use Rattle.refusals.specs.declared.Verdict.TheVariants.{Taken, Refused}
+use Rattle.refusals.specs.Refusals.{Verdict, accepted}
 use Rattle.theory.specs.Sets.{one, count}
 use Rattle.theory.specs.Counting.{left, right, not-true, never, count_none, count-more, count_no}
 use Rattle.wire.specs.Wire.{read_le}
@@ -97,17 +97,17 @@ silent_senders {sites} b r m good few =
 abbrev fast_verdict : Bool → Bool → Bool → Bool → Verdict
 fast_verdict pending fast enough room = verdict (pending else Disabled ⨾ not fast else Disabled ⨾ enough else Disabled ⨾ room else Full ⨾ granted)
 
-never_taken : {r : Verdict} → r ≡ Refused Full → r ≡ Taken → ⊥
+never_taken : {r : Verdict} → r ≡ Err Full → r ≡ accepted → ⊥
 never_taken e h = let z : ◌≡◌ {A = ℕ} 0 1 = cc (sym e ∙ h) in omega arith
 
 -- A command that is not pending, or that was delivered fast, is not delivered.
-closed : (p f n r : Bool) → (p && not f) ≡ false → Refused Disabled ≡ fast_verdict p f n r
+closed : (p f n r : Bool) → (p && not f) ≡ false → Err Disabled ≡ fast_verdict p f n r
 closed true true n r h = refl
 closed true false n r h = absurd (never true refl h)
 closed false f n r h = refl
 
 -- A delivery that is taken has room.
-has_room : (a f n r : Bool) → fast_verdict a f n r ≡ Taken → r ≡ true
+has_room : (a f n r : Bool) → fast_verdict a f n r ≡ accepted → r ≡ true
 has_room true true n r h = absurd (let z : ◌≡◌ {A = ℕ} 0 1 = cc h in omega arith)
 has_room true false true true h = refl
 has_room true false true false h = absurd (never_taken refl h)
@@ -139,7 +139,7 @@ module _ (t : SiteTable) (book : List Command) (b : List ℕ) (m : ℕ) where
   recorded = length_deliveries (read_le 2 b count_place) b ∙ counted
 
   -- The room that a taken delivery has.
-  pub taken-room : verdict (protocol.for_fast_delivery (dash t book) m (view t book b)) ≡ Taken → (head_of b).deliveries + 1 ≤ length book
+  pub taken-room : verdict (protocol.for_fast_delivery (dash t book) m (view t book b)) ≡ accepted → (head_of b).deliveries + 1 ≤ length book
   unfolding room
   taken-room h =
       let e = recorded in
@@ -154,7 +154,7 @@ module _ (t : SiteTable) (book : List Command) (b : List ℕ) (m : ℕ) where
         sym (in_without (head_of b).pending (head_of b).fast m)
         ∙ sym (ex ∙ ap (λ (s : Set). in_set s m) (eo ∙ (λ i. without_of (eh i).pending (eh i).fast))) ∙ hx
 
-    pub not_open : x ≡ false → Refused Disabled ≡ verdict (protocol.for_fast_delivery (dash t book) m (view t book b))
+    pub not_open : x ≡ false → Err Disabled ≡ verdict (protocol.for_fast_delivery (dash t book) m (view t book b))
     not_open hx = closed pending fast enough room (is_open hx) ∙ same_verdict
 
     module _ (hx : x ≡ true) {k : ℕ} {q : Bool} (ek : k ≡ n_ack_of t) (eq : q ≡ leb k (count max_sites (λ j. heard_of b j h.round m)))
@@ -169,7 +169,7 @@ module _ (t : SiteTable) (book : List Command) (b : List ℕ) (m : ℕ) where
       unfolding enough
       is_enough e = sym e ∙ eq ∙ ap (leb k) silent ∙ (λ i. leb (ek i) (count t.sites (λ j. heard_of b j (eh i).round m)))
 
-      pub too_few : q ≡ false → Refused Disabled ≡ verdict (protocol.for_fast_delivery (dash t book) m (view t book b))
+      pub too_few : q ≡ false → Err Disabled ≡ verdict (protocol.for_fast_delivery (dash t book) m (view t book b))
       too_few e = (λ i. fast_verdict (is_pending i) (is_fast i) (is_enough e i) room) ∙ same_verdict
 
       module _ (l : q ≡ true) where
@@ -177,10 +177,10 @@ module _ (t : SiteTable) (book : List Command) (b : List ℕ) (m : ℕ) where
         unfolding room
         is_room e = sym e ∙ (λ i. leb ((ap (λ (z : Site). z.deliveries) eh ∙ sym recorded) i + 1) (length book))
 
-        pub no_room : length book ≤ h.deliveries → Refused Full ≡ verdict (protocol.for_fast_delivery (dash t book) m (view t book b))
+        pub no_room : length book ≤ h.deliveries → Err Full ≡ verdict (protocol.for_fast_delivery (dash t book) m (view t book b))
         no_room o =
             (λ i. fast_verdict (is_pending i) (is_fast i) (is_enough l i) (is_room (lt-leb (h.deliveries + 1) (length book) (omega arith)) i)) ∙ same_verdict
 
-        pub all_met : h.deliveries < length book → Taken ≡ verdict (protocol.for_fast_delivery (dash t book) m (view t book b))
+        pub all_met : h.deliveries < length book → accepted ≡ verdict (protocol.for_fast_delivery (dash t book) m (view t book b))
         all_met o =
             (λ i. fast_verdict (is_pending i) (is_fast i) (is_enough l i) (is_room (le-leb (h.deliveries + 1) (length book) (omega arith)) i)) ∙ same_verdict

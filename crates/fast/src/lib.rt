@@ -54,16 +54,16 @@ fn judge(site: &[u8], header: Site, table: SiteTable, commands: usize, m: usize)
     let fast = header.fast;
     let open = pending.without(fast);
     if !open.holds(m) {
-        return Verdict::Refused(Refusal::Disabled);
+        return Err(Refusal::Disabled);
     }
     if !has_senders(site, header, m, table.n_ack()) {
-        return Verdict::Refused(Refusal::Disabled);
+        return Err(Refusal::Disabled);
     }
     let recorded = header.deliveries as usize;
     if recorded >= commands {
-        return Verdict::Refused(Refusal::Full);
+        return Err(Refusal::Full);
     }
-    Verdict::Taken
+    Ok(())
 }
 
 // Command m of the book is delivered fast, or the step is refused.
@@ -80,14 +80,11 @@ pub fn fast_delivery(
     ensures { FastDelivered table (commands_of book.now) m site.old result site.new }
 {
     let header = Site::read(&site[..]);
-    let judged = judge(&site[..], header, table, commands, m);
-    if let Verdict::Refused(_) = judged {
-        return judged;
-    }
+    judge(&site[..], header, table, commands, m)?;
     let recorded = header.deliveries;
     let fast = header.fast;
     deliver::deliver(site, book, places, recorded as usize, m);
     layout::set_fast(site, fast.with(m));
     layout::set_count(site, recorded + 1);
-    Verdict::Taken
+    Ok(())
 }

@@ -1,26 +1,23 @@
 -- The verdict on a run, one law for each answer, and what a run that is taken gives.
 -- Assumes nothing.
 use mathlib.Core.Path.{◌≡◌, refl, sym, ap, ◌∙◌}
+use Rattle.std.specs.Prelude.{Err, None, Ok, Some, Option}
 use mathlib.Core.Bool.{Bool, true, false}
 use mathlib.Core.List.{List}
-use mathlib.Core.Option.{Option, none, some}
 use Prim.Native.Nat.{ℕ, ◌+◌, ◌-◌, ◌≤◌, ◌<◌}
 use native.Mathlib.Omega.{arith}
 use lib.Dec.{leb}
 use lib.ListN.{length, take, drop}
 use borrow.Author.Tests.{le-leb, lt-leb, leb-true}
-use Rattle.refusals.specs.Refusals.{is_taken}
+use Rattle.refusals.specs.Refusals.{is_taken, accepted}
 use Rattle.refusals.specs.declared.Refusal.{Refusal}
 use Rattle.refusals.specs.declared.Refusal.TheVariants.{Book, Table, Size}
-use Rattle.refusals.specs.declared.Verdict.{Verdict}
-use Rattle.refusals.specs.declared.Verdict.TheVariants.{Taken, Refused}
+use Rattle.refusals.specs.Refusals.{Verdict}
 use Rattle.table.specs.declared.SiteTable.{SiteTable}
-use Rattle.table.specs.declared.Judged.TheVariants as judged
 use Rattle.table.specs.Table.{is_good, marked_size, marked_in, table_as, read_marked}
 use Rattle.table.proofs.Laws.{judged_good as table-good, judged_refused as table-refused, table_whole}
 use Rattle.register.specs.declared.Command.{Command}
 use Rattle.commands.specs.Book.{max_commands, read_up_to, verdict_of, judge_book, commands_of, measure_book, Placed, noted_places}
-use Rattle.commands.specs.declared.Measured.TheVariants.{Commands, Unreadable}
 use Rattle.commands.proofs.Walk.{is_counted, not-counted, taken-counted}
 use Rattle.commands.proofs.Noting.{note_noted, past_noted}
 use Rattle.theory.specs.Sets.{pick}
@@ -29,7 +26,6 @@ use Rattle.wire.proofs.Laws.{part_all}
 use Rattle.protocol.specs.System.{granted, ◌else◌⨾◌, verdict}
 use Rattle.runs.specs.Run.{max_run, header_size, book_size, book_of, step_bytes, for_run}
 use Rattle.header.specs.declared.Run.{Run}
-use Rattle.header.specs.declared.Opened.TheVariants as opened
 use Rattle.header.specs.Header.{for_header, said_by, opened_as, judge_run, places_after}
 
 -- ---- the parts of a run
@@ -47,11 +43,11 @@ step_part run {end} e = part_all run end ∙ ap (λ (k : ℕ). drop k run) e
 -- ---- size and header: one law for each answer
 
 module _ (run : List ℕ) where
-  pub too_long : max_run < length run → Refused Size ≡ verdict (for_header run)
+  pub too_long : max_run < length run → Err Size ≡ verdict (for_header run)
   too_long h = rw (lt-leb (length run) max_run h) refl
 
   module _ (a : length run ≤ max_run) where
-    pub header_cut : length run < header_size → Refused Table ≡ verdict (for_header run)
+    pub header_cut : length run < header_size → Err Table ≡ verdict (for_header run)
     header_cut h = rw (le-leb (length run) max_run a, lt-leb header_size (length run) h) refl
 
     module _ (b : header_size ≤ length run) where
@@ -59,15 +55,15 @@ module _ (run : List ℕ) where
       whole : table_as (is_good (marked_in run)) (marked_in run) ≡ read_marked run
       whole = table_whole marked_size run (marked_in run) (omega arith)
 
-      pub bad_table : {r : Refusal} → read_marked run ≡ judged.Refused r → Refused Table ≡ verdict (for_header run)
+      pub bad_table : {r : Refusal} → read_marked run ≡ Err r → Err r ≡ verdict (for_header run)
       bad_table {r} h =
-          rw (le-leb (length run) max_run a, le-leb header_size (length run) b, (table-refused (is_good (marked_in run)) (marked_in run) (whole ∙ h)).0) refl
+          ap Err (table-refused (is_good (marked_in run)) (marked_in run) (whole ∙ h)).1 ∙ rw (le-leb (length run) max_run a, le-leb header_size (length run) b, (table-refused (is_good (marked_in run)) (marked_in run) (whole ∙ h)).0) refl
 
-      pub good_table : {u : SiteTable} → read_marked run ≡ judged.Good u → (is_good (marked_in run) ≡ true) × (u ≡ marked_in run)
+      pub good_table : {u : SiteTable} → read_marked run ≡ Ok u → (is_good (marked_in run) ≡ true) × (u ≡ marked_in run)
       good_table c = table-good (is_good (marked_in run)) (marked_in run) (whole ∙ c)
 
-      module _ {u : SiteTable} (c : read_marked run ≡ judged.Good u) {end : ℕ} (f : end ≡ header_size + book_size run) where
-        pub book_cut : length run < end → Refused Table ≡ verdict (for_header run)
+      module _ {u : SiteTable} (c : read_marked run ≡ Ok u) {end : ℕ} (f : end ≡ header_size + book_size run) where
+        pub book_cut : length run < end → Err Table ≡ verdict (for_header run)
         book_cut h =
             rw (
               le-leb (length run) max_run a,
@@ -77,7 +73,7 @@ module _ (run : List ℕ) where
             )
             refl
 
-        pub header_taken : end ≤ length run → Taken ≡ verdict (for_header run)
+        pub header_taken : end ≤ length run → accepted ≡ verdict (for_header run)
         header_taken h =
             rw (
               le-leb (length run) max_run a,
@@ -87,14 +83,14 @@ module _ (run : List ℕ) where
             )
             refl
 
-end_inside : (a b c d : Bool) → verdict (a else Size ⨾ b else Table ⨾ c else Table ⨾ d else Table ⨾ granted) ≡ Taken → d ≡ true
+end_inside : (a b c d : Bool) → verdict (a else Size ⨾ b else Table ⨾ c else Table ⨾ d else Table ⨾ granted) ≡ accepted → d ≡ true
 end_inside true true true true h = refl
 end_inside true true true false h = absurd (let z : ◌≡◌ {A = ℕ} 0 1 = cc in omega arith)
 end_inside true true false d h = absurd (let z : ◌≡◌ {A = ℕ} 0 1 = cc in omega arith)
 end_inside true false c d h = absurd (let z : ◌≡◌ {A = ℕ} 0 1 = cc in omega arith)
 end_inside false b c d h = absurd (let z : ◌≡◌ {A = ℕ} 0 1 = cc in omega arith)
 
-pub book_inside : (run : List ℕ) → verdict (for_header run) ≡ Taken → header_size + book_size run ≤ length run
+pub book_inside : (run : List ℕ) → verdict (for_header run) ≡ accepted → header_size + book_size run ≤ length run
 book_inside run h =
     leb-true (header_size + book_size run) (length run) (end_inside (leb (length run) max_run) (leb header_size (length run)) (is_good (marked_in run)) (leb (header_size + book_size run) (length run)) h)
 
@@ -102,18 +98,18 @@ book_inside run h =
 
 -- The refusal of a book is the last demand's.
 book_last : (o : Option (List Command)) → verdict_of o ≡ verdict (is_taken (verdict_of o) else Book ⨾ granted)
-book_last none = refl
-book_last (some cs) = refl
+book_last None = refl
+book_last (Some cs) = refl
 
-first_refused : (a b c d : Bool) (v : Verdict) {r : Refusal} → verdict (a else Size ⨾ b else Table ⨾ c else Table ⨾ d else Table ⨾ granted) ≡ Refused r
-    → Refused r ≡ verdict (a else Size ⨾ b else Table ⨾ c else Table ⨾ d else Table ⨾ is_taken v else Book ⨾ granted)
+first_refused : (a b c d : Bool) (v : Verdict) {r : Refusal} → verdict (a else Size ⨾ b else Table ⨾ c else Table ⨾ d else Table ⨾ granted) ≡ Err r
+    → Err r ≡ verdict (a else Size ⨾ b else Table ⨾ c else Table ⨾ d else Table ⨾ is_taken v else Book ⨾ granted)
 first_refused true true true true v h = absurd (let z : ◌≡◌ {A = ℕ} 0 1 = cc in omega arith)
 first_refused true true true false v h = sym h
 first_refused true true false d v h = sym h
 first_refused true false c d v h = sym h
 first_refused false b c d v h = sym h
 
-first_taken : (a b c d : Bool) (v : Verdict) → verdict (a else Size ⨾ b else Table ⨾ c else Table ⨾ d else Table ⨾ granted) ≡ Taken
+first_taken : (a b c d : Bool) (v : Verdict) → verdict (a else Size ⨾ b else Table ⨾ c else Table ⨾ d else Table ⨾ granted) ≡ accepted
     → verdict (is_taken v else Book ⨾ granted) ≡ verdict (a else Size ⨾ b else Table ⨾ c else Table ⨾ d else Table ⨾ is_taken v else Book ⨾ granted)
 first_taken true true true true v h = refl
 first_taken true true true false v h = absurd (let z : ◌≡◌ {A = ℕ} 0 1 = cc in omega arith)
@@ -122,7 +118,7 @@ first_taken true false c d v h = absurd (let z : ◌≡◌ {A = ℕ} 0 1 = cc in
 first_taken false b c d v h = absurd (let z : ◌≡◌ {A = ℕ} 0 1 = cc in omega arith)
 
 module _ (run p : List ℕ) where
-  pub run_refused : {r : Refusal} → verdict (for_header run) ≡ Refused r → (opened.Refused r ≡ judge_run run) × (p ≡ places_after run p)
+  pub run_refused : {r : Refusal} → verdict (for_header run) ≡ Err r → (Err r ≡ judge_run run) × (p ≡ places_after run p)
   unfolding judge_run places_after
   run_refused {r} h =
       let e = first_refused (leb (length run) max_run) (leb header_size (length run)) (is_good (marked_in run)) (leb (header_size + book_size run) (length run)) (judge_book (book_of run)) h in (
@@ -131,7 +127,7 @@ module _ (run p : List ℕ) where
       )
 
   -- The verdict on the book, where size and header are taken.
-  module _ (h : verdict (for_header run) ≡ Taken) {b q : List ℕ} (e : b ≡ book_of run) (w : q ≡ sets p 0 (noted_places b)) where
+  module _ (h : verdict (for_header run) ≡ accepted) {b q : List ℕ} (e : b ≡ book_of run) (w : q ≡ sets p 0 (noted_places b)) where
     walked : q ≡ places_after run p
     unfolding places_after
     walked =
@@ -144,16 +140,16 @@ module _ (run p : List ℕ) where
         g ∙ ap judge_book e ∙ book_last (read_up_to max_commands (book_of run))
         ∙ first_taken (leb (length run) max_run) (leb header_size (length run)) (is_good (marked_in run)) (leb (header_size + book_size run) (length run)) (judge_book (book_of run)) h
 
-    pub run-counted : {n end : ℕ} {t : SiteTable} → measure_book b ≡ Commands n → t ≡ marked_in run → end ≡ header_size + book_size run
-        → (opened.Good (record { rules = record { table = t; commands = n }; steps = end }) ≡ judge_run run) × (q ≡ places_after run p)
+    pub run-counted : {n end : ℕ} {t : SiteTable} → measure_book b ≡ Some n → t ≡ marked_in run → end ≡ header_size + book_size run
+        → (Ok (record { rules = record { table = t; commands = n }; steps = end }) ≡ judge_run run) × (q ≡ places_after run p)
     unfolding judge_run
     run-counted {n} {end} {t} m et ee =
         let c = is_counted b m in
         let k : n ≡ length (commands_of (book_of run)) = c.1 ∙ ap (λ (l : List ℕ). length (commands_of l)) e in
         let said : record { rules = record { table = t; commands = n }; steps = end } ≡ said_by run = λ i. record { rules = record { table = et i; commands = k i }; steps = ee i } in
-        (ap opened.Good said ∙ ap (λ (v : Verdict). opened_as v (said_by run)) (by_book c.0), walked)
+        (ap Ok said ∙ ap (λ (v : Verdict). opened_as v (said_by run)) (by_book c.0), walked)
 
-    pub run_unreadable : measure_book b ≡ Unreadable → (opened.Refused Book ≡ judge_run run) × (q ≡ places_after run p)
+    pub run_unreadable : measure_book b ≡ None → (Err Book ≡ judge_run run) × (q ≡ places_after run p)
     unfolding judge_run
     run_unreadable m = (ap (λ (v : Verdict). opened_as v (said_by run)) (by_book (not-counted b m).0), walked)
 
@@ -163,9 +159,9 @@ pub record Sound (run : List ℕ) : Type 0 where
   pub size : length run ≤ max_run
   pub table : is_good (marked_in run) ≡ true
   pub end : header_size + book_size run ≤ length run
-  pub book : judge_book (book_of run) ≡ Taken
+  pub book : judge_book (book_of run) ≡ accepted
 
-pub sound : (run : List ℕ) → verdict (for_run run) ≡ Taken → Sound run
+pub sound : (run : List ℕ) → verdict (for_run run) ≡ accepted → Sound run
 sound run h =
     let g = go (leb (length run) max_run) (leb header_size (length run)) (is_good (marked_in run)) (leb (header_size + book_size run) (length run)) (judge_book (book_of run)) h in
     record {
@@ -176,10 +172,10 @@ sound run h =
     }
   where
     go : (a b c d : Bool) (v : Verdict)
-        → verdict (a else Size ⨾ b else Table ⨾ c else Table ⨾ d else Table ⨾ is_taken v else Book ⨾ granted) ≡ Taken
-        → (a ≡ true) × ((c ≡ true) × ((d ≡ true) × (v ≡ Taken)))
-    go true true true true Taken h = (refl, (refl, (refl, refl)))
-    go true true true true (Refused r) h = absurd (let z : ◌≡◌ {A = ℕ} 0 1 = cc in omega arith)
+        → verdict (a else Size ⨾ b else Table ⨾ c else Table ⨾ d else Table ⨾ is_taken v else Book ⨾ granted) ≡ accepted
+        → (a ≡ true) × ((c ≡ true) × ((d ≡ true) × (v ≡ accepted)))
+    go true true true true (Ok _) h = (refl, (refl, (refl, refl)))
+    go true true true true (Err r) h = absurd (let z : ◌≡◌ {A = ℕ} 0 1 = cc in omega arith)
     go true true true false v h = absurd (let z : ◌≡◌ {A = ℕ} 0 1 = cc in omega arith)
     go true true false d v h = absurd (let z : ◌≡◌ {A = ℕ} 0 1 = cc in omega arith)
     go true false c d v h = absurd (let z : ◌≡◌ {A = ℕ} 0 1 = cc in omega arith)
@@ -187,16 +183,16 @@ sound run h =
 
 -- ---- for a caller
 
-opened_taken : (v : Verdict) (m : Run) {n : Run} → opened.Good n ≡ opened_as v m → (v ≡ Taken) × (n ≡ m)
-opened_taken Taken m e = (refl, cc)
-opened_taken (Refused r) m e = absurd (let z : ◌≡◌ {A = ℕ} 0 1 = cc in omega arith)
+opened_taken : (v : Verdict) (m : Run) {n : Run} → Ok n ≡ opened_as v m → (v ≡ accepted) × (n ≡ m)
+opened_taken (Ok _) m e = (refl, cc)
+opened_taken (Err r) m e = absurd (let z : ◌≡◌ {A = ℕ} 0 1 = cc in omega arith)
 
-opened_refused : (v : Verdict) (m : Run) {r : Refusal} → opened.Refused r ≡ opened_as v m → v ≡ Refused r
-opened_refused Taken m e = absurd (let z : ◌≡◌ {A = ℕ} 0 1 = cc in omega arith)
-opened_refused (Refused x) m {r} e = let q : r ≡ x = cc in ap Refused (sym q)
+opened_refused : (v : Verdict) (m : Run) {r : Refusal} → Err r ≡ opened_as v m → v ≡ Err r
+opened_refused (Ok _) m e = absurd (let z : ◌≡◌ {A = ℕ} 0 1 = cc in omega arith)
+opened_refused (Err x) m {r} e = let q : r ≡ x = cc in ap Err (sym q)
 
-header_first : (a b c d : Bool) (v : Verdict) → verdict (a else Size ⨾ b else Table ⨾ c else Table ⨾ d else Table ⨾ is_taken v else Book ⨾ granted) ≡ Taken
-    → verdict (a else Size ⨾ b else Table ⨾ c else Table ⨾ d else Table ⨾ granted) ≡ Taken
+header_first : (a b c d : Bool) (v : Verdict) → verdict (a else Size ⨾ b else Table ⨾ c else Table ⨾ d else Table ⨾ is_taken v else Book ⨾ granted) ≡ accepted
+    → verdict (a else Size ⨾ b else Table ⨾ c else Table ⨾ d else Table ⨾ granted) ≡ accepted
 header_first true true true true v h = refl
 header_first true true true false v h = h
 header_first true true false d v h = h
@@ -204,23 +200,23 @@ header_first true false c d v h = h
 header_first false b c d v h = h
 
 module _ (run : List ℕ) where
-  pub judged_taken : {n : Run} → opened.Good n ≡ judge_run run → (verdict (for_run run) ≡ Taken) × (n ≡ said_by run)
+  pub judged_taken : {n : Run} → Ok n ≡ judge_run run → (verdict (for_run run) ≡ accepted) × (n ≡ said_by run)
   unfolding judge_run
   judged_taken e = opened_taken (verdict (for_run run)) (said_by run) e
 
   -- What a run that is taken says.
-  pub judged_table : {n : Run} → opened.Good n ≡ judge_run run → n.rules.table ≡ marked_in run
+  pub judged_table : {n : Run} → Ok n ≡ judge_run run → n.rules.table ≡ marked_in run
   judged_table e = ap (λ (r : Run). r.rules.table) (judged_taken e).1
 
-  pub judged_end : {n : Run} → opened.Good n ≡ judge_run run → n.steps ≡ header_size + book_size run
+  pub judged_end : {n : Run} → Ok n ≡ judge_run run → n.steps ≡ header_size + book_size run
   judged_end e = ap (λ (r : Run). r.steps) (judged_taken e).1
 
-  pub judged_refused : {r : Refusal} → opened.Refused r ≡ judge_run run → verdict (for_run run) ≡ Refused r
+  pub judged_refused : {r : Refusal} → Err r ≡ judge_run run → verdict (for_run run) ≡ Err r
   unfolding judge_run
   judged_refused e = opened_refused (verdict (for_run run)) (said_by run) e
 
   -- The places of a run that is taken.
-  pub places_noted : (p : List ℕ) {q : List ℕ} → verdict (for_run run) ≡ Taken → max_commands ≤ length p → q ≡ places_after run p → Placed (book_of run) q
+  pub places_noted : (p : List ℕ) {q : List ℕ} → verdict (for_run run) ≡ accepted → max_commands ≤ length p → q ≡ places_after run p → Placed (book_of run) q
   unfolding places_after
   places_noted p h room e =
       let f = header_first (leb (length run) max_run) (leb header_size (length run)) (is_good (marked_in run)) (leb (header_size + book_size run) (length run)) (judge_book (book_of run)) h in

@@ -6,9 +6,8 @@ ghost use Rattle.commands.specs.Book.{max_commands};
 ghost use Rattle.runs.specs.Run.{header_size, book_size};
 ghost use Rattle.header.specs.Header.{judge_run, places_after};
 
-use commands::Measured;
 use refusals::Refusal;
-use table::{Judged, Rules, SiteTable};
+use table::{Rules, SiteTable};
 
 // The greatest size of a run in bytes.
 pub const MAX_RUN: usize = 60000;
@@ -24,13 +23,6 @@ pub struct Run {
     pub steps: usize,
 }
 
-// What judging a run answers: what it says, or why it is refused.
-#[derive(Clone, Copy)]
-pub enum Opened {
-    Good(Run),
-    Refused(Refusal),
-}
-
 // The position after the book, where the steps start.
 fn book_end(run: &[u8]) -> usize
     requires { header_size ≤ length run.now }
@@ -41,29 +33,25 @@ fn book_end(run: &[u8]) -> usize
 }
 
 // A run is judged: refusals 9, 2 and 1, in this order. Where size and header are taken, the places of its commands are noted.
-pub fn judge_run(run: &[u8], places: &mut [u64]) -> Opened
+pub fn judge_run(run: &[u8], places: &mut [u64]) -> Result<Run, Refusal>
     requires { max_commands ≤ length places.old }
     ensures { (result ≡ judge_run run.now) × (places.new ≡ places_after run.now places.old) }
 {
     let n = run.len();
     if n > MAX_RUN {
-        return Opened::Refused(Refusal::Size);
+        return Err(Refusal::Size);
     }
     if n < HEADER {
-        return Opened::Refused(Refusal::Table);
+        return Err(Refusal::Table);
     }
-    let judged = SiteTable::read_marked(run);
-    let Judged::Good(table) = judged else {
-        return Opened::Refused(Refusal::Table);
-    };
+    let table = SiteTable::read_marked(run)?;
     let steps = book_end(run);
     if steps > n {
-        return Opened::Refused(Refusal::Table);
+        return Err(Refusal::Table);
     }
-    let measured = commands::note(&run[HEADER..steps], places);
-    let Measured::Commands(commands) = measured else {
-        return Opened::Refused(Refusal::Book);
+    let Some(commands) = commands::note(&run[HEADER..steps], places) else {
+        return Err(Refusal::Book);
     };
     let rules = Rules { table, commands };
-    Opened::Good(Run { rules, steps })
+    Ok(Run { rules, steps })
 }

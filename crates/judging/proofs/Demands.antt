@@ -1,19 +1,19 @@
 -- Laws of demands that follow others: the first refusal is the answer, and a call that is taken has met them all.
 -- Assumes nothing.
 use mathlib.Core.Path.{◌≡◌, refl, sym, ◌∙◌}
+use Rattle.std.specs.Prelude.{Err, Ok}
 use mathlib.Core.Bool.{Bool, true, false}
 use Prim.Native.Nat.{ℕ}
 use Rattle.refusals.specs.declared.Refusal.{Refusal}
-use Rattle.refusals.specs.declared.Verdict.{Verdict}
-use Rattle.refusals.specs.declared.Verdict.TheVariants.{Taken, Refused}
+use Rattle.refusals.specs.Refusals.{Verdict, accepted}
 use Rattle.refusals.specs.Refusals.{number_of, code_of}
 use Rattle.refusals.specs.Numbers.{number_nonzero}
 use Rattle.protocol.specs.System.{Demands, granted, ◌else◌⨾◌, verdict}
 use Rattle.judging.specs.Outcomes.{outcome, answered, ◌then◌}
 
-pub taken-zero : (v : Verdict) → code_of v ≡ 0 → v ≡ Taken
-taken-zero Taken e = refl
-taken-zero (Refused r) e = absurd (number_nonzero r e)
+pub taken-zero : (v : Verdict) → code_of v ≡ 0 → v ≡ accepted
+taken-zero (Ok _) e = refl
+taken-zero (Err r) e = absurd (number_nonzero r e)
 
 -- Every demand of a list holds.
 abbrev pub Met : Demands → Type 0
@@ -46,16 +46,16 @@ module _ (d e : Demands) where
       go (false else r ⨾ d) q n = λ i. outcome (q i) before
 
 -- The outcome of a call whose verdict is known.
-pub answered-taken : {A : Type 0} {v : Verdict} (later before : A) → v ≡ Taken → outcome 0 later ≡ answered v later before
+pub answered-taken : {A : Type 0} {v : Verdict} (later before : A) → v ≡ accepted → outcome 0 later ≡ answered v later before
 answered-taken later before e = λ i. answered (sym e i) later before
 
-pub answered_refused : {A : Type 0} {v : Verdict} (r : Refusal) (later before : A) → v ≡ Refused r → outcome (number_of r) before ≡ answered v later before
+pub answered_refused : {A : Type 0} {v : Verdict} (r : Refusal) (later before : A) → v ≡ Err r → outcome (number_of r) before ≡ answered v later before
 answered_refused r later before e = λ i. answered (sym e i) later before
 
 -- The outcome of a call by the number of its verdict.
 pub code_refused : {A : Type 0} (v : Verdict) (later before : A) {code : ℕ} → code ≡ code_of v → (code ≡ 0 → ⊥) → outcome code before ≡ answered v later before
-code_refused Taken later before q n = absurd (n q)
-code_refused (Refused r) later before q n = λ i. outcome (q i) before
+code_refused (Ok _) later before q n = absurd (n q)
+code_refused (Err r) later before q n = λ i. outcome (q i) before
 
 pub code-taken : {A : Type 0} (v : Verdict) (later before : A) {code : ℕ} → code ≡ code_of v → code ≡ 0 → outcome 0 later ≡ answered v later before
 code-taken v later before q z = answered-taken later before (taken-zero v (sym q ∙ z))

@@ -1,6 +1,7 @@
 -- What the judges of the first demands, of a lent site and of a lent log answer, one law an answer, and what a site that passed is.
 -- Assumes nothing.
 use mathlib.Core.Path.{◌≡◌, refl, sym, ap, subst, ◌∙◌}
+use Rattle.std.specs.Prelude.{Err, None, Ok, Option, Result, Some}
 use mathlib.Core.Bool.{Bool, true, false, not, ◌&&◌}
 use mathlib.Core.List.{List}
 use Prim.Native.Nat.{ℕ, ◌*◌, ◌%◌, ◌≤◌}
@@ -13,18 +14,13 @@ use Rattle.theory.specs.Sets.{pick}
 use Rattle.theory.specs.Counting.{left, right, not-true, not-false, never}
 use Rattle.refusals.specs.declared.Refusal.{Refusal}
 use Rattle.refusals.specs.declared.Refusal.TheVariants.{Book, Table, Form, Range, Size}
-use Rattle.refusals.specs.declared.Verdict.{Verdict}
-use Rattle.refusals.specs.declared.Verdict.TheVariants.{Taken, Refused}
+use Rattle.refusals.specs.Refusals.{Verdict, accepted}
 use Rattle.refusals.specs.Refusals.{number_of, code_of, is_taken}
 use Rattle.refusals.specs.Numbers.{number_nonzero}
 use Rattle.table.specs.declared.Rules.{Rules}
 use Rattle.table.specs.declared.SiteTable.{SiteTable}
-use Rattle.table.specs.declared.Judged as judging
-use Rattle.table.specs.declared.Judged.TheVariants as judged
 use Rattle.table.specs.Table.{max_sites, is_good, table_size, table_in, marked_in, good_table_in, good_marked_in, read_table, read_marked}
 use Rattle.table.proofs.Laws.{good_limits, judged_good, judged_refused}
-use Rattle.commands.specs.declared.Measured.{Measured}
-use Rattle.commands.specs.declared.Measured.TheVariants.{Commands, Unreadable}
 use Rattle.commands.specs.Book.{max_commands, commands_of, Placed, judge_book, measure_book, noted_places}
 use Rattle.commands.proofs.Noting.{note_noted, past_noted}
 use Rattle.commands.proofs.Walk.{is_counted, not-counted}
@@ -35,9 +31,7 @@ use Rattle.layout.specs.Good as layout
 use Rattle.layout.specs.Good.{good_site}
 use Rattle.lent.proofs.Judged.{site_good}
 use Rattle.judging.specs.Outcomes.{◌then◌}
-use Rattle.judging.specs.declared.Judgement.{Judgement}
-use Rattle.judging.specs.declared.Judgement.TheVariants as judgement
-use Rattle.judging.specs.Judging.{any_position, entries_in, is_whole, is_site, rules_of, judged_as, number_in, for_marked, for_book, for_first, for_rules, for_lent, for_site, for_site_and_log, places_after}
+use Rattle.judging.specs.Judging.{any_position, entries_in, is_whole, is_site, rules_of, judged_as, for_marked, for_book, for_first, for_rules, for_lent, for_site, for_site_and_log, places_after}
 use Rattle.judging.proofs.Demands.{Met, met, then_taken}
 
 -- The first bytes of a buffer that is long enough.
@@ -47,66 +41,64 @@ first_length n s h = simp length-take (omega arith)
 -- ---- the site table, the book, and what every call judges first
 
 module _ (table : List ℕ) where
-  pub table-good : {t : SiteTable} → read_marked table ≡ judged.Good t → 0 ≡ code_of (verdict (for_marked table))
-  table-good e = λ i. code_of (verdict (sym (judged_good (good_marked_in table) (marked_in table) e).0 i else Table ⨾ granted))
+  pub table-good : {t : SiteTable} → read_marked table ≡ Ok t → accepted ≡ verdict (for_marked table)
+  table-good e = λ i. verdict (sym (judged_good (good_marked_in table) (marked_in table) e).0 i else Table ⨾ granted)
 
-  pub table-refused : {r : Refusal} {k : ℕ} → read_marked table ≡ judged.Refused r → k ≡ number_of r → k ≡ code_of (verdict (for_marked table))
-  table-refused e q = let w = judged_refused (good_marked_in table) (marked_in table) e in q ∙ ap number_of w.1 ∙ (λ i. code_of (verdict (sym w.0 i else Table ⨾ granted)))
+  pub table-refused : {r : Refusal} → read_marked table ≡ Err r → Err r ≡ verdict (for_marked table)
+  table-refused e = let w = judged_refused (good_marked_in table) (marked_in table) e in ap Err w.1 ∙ (λ i. verdict (sym w.0 i else Table ⨾ granted))
 
 -- The book that was measured.
-pub book-counted : (s : List ℕ) {n : ℕ} → measure_book s ≡ Commands n → 0 ≡ code_of (verdict (for_book s))
-book-counted s h = λ i. code_of (verdict (is_taken ((is_counted s h).0 i) else Book ⨾ granted))
+pub book-counted : (s : List ℕ) {n : ℕ} → measure_book s ≡ Some n → accepted ≡ verdict (for_book s)
+book-counted s h = λ i. verdict (is_taken ((is_counted s h).0 i) else Book ⨾ granted)
 
-pub book_refused : (s : List ℕ) → measure_book s ≡ Unreadable → 1 ≡ code_of (verdict (for_book s))
-book_refused s h = λ i. code_of (verdict (is_taken ((not-counted s h).0 i) else Book ⨾ granted))
+pub book_refused : (s : List ℕ) → measure_book s ≡ None → Err Book ≡ verdict (for_book s)
+book_refused s h = λ i. verdict (is_taken ((not-counted s h).0 i) else Book ⨾ granted)
 
 -- ---- what a judge answers, and the verdict that it tells
 
-module _ (v : Verdict) (rules : Rules) {j : Judgement} (e : j ≡ judged_as v rules) where
-  pub good_taken : {x : Rules} → j ≡ judgement.Good x → (v ≡ Taken) × (x ≡ rules)
+module _ (v : Verdict) (rules : Rules) {j : Result Rules Refusal} (e : j ≡ judged_as v rules) where
+  pub good_taken : {x : Rules} → j ≡ Ok x → (v ≡ accepted) × (x ≡ rules)
   good_taken {x} h = go v (sym h ∙ e)
     where
-      go : (v : Verdict) → judgement.Good x ≡ judged_as v rules → (v ≡ Taken) × (x ≡ rules)
-      go Taken e = (refl, cc)
-      go (Refused r) e = absurd (let z : ◌≡◌ {A = ℕ} 0 1 = cc in omega arith)
+      go : (v : Verdict) → Ok x ≡ judged_as v rules → (v ≡ accepted) × (x ≡ rules)
+      go (Ok _) e = (refl, cc)
+      go (Err r) e = absurd (let z : ◌≡◌ {A = ℕ} 0 1 = cc in omega arith)
 
-  pub refused_by : {r : Refusal} → j ≡ judgement.Refused r → v ≡ Refused r
+  pub refused_by : {r : Refusal} → j ≡ Err r → v ≡ Err r
   refused_by {r} h = go v (sym h ∙ e)
     where
-      go : (v : Verdict) → judgement.Refused r ≡ judged_as v rules → v ≡ Refused r
-      go Taken e = absurd (let z : ◌≡◌ {A = ℕ} 0 1 = cc in omega arith)
-      go (Refused x) e = cc
+      go : (v : Verdict) → Err r ≡ judged_as v rules → v ≡ Err r
+      go (Ok _) e = absurd (let z : ◌≡◌ {A = ℕ} 0 1 = cc in omega arith)
+      go (Err x) e = cc
 
   -- The number of the verdict, where the answer is good and where it is a refusal.
-  pub good_code : {x : Rules} → j ≡ judgement.Good x → 0 ≡ code_of v
+  pub good_code : {x : Rules} → j ≡ Ok x → 0 ≡ code_of v
   good_code h = ap code_of (sym (good_taken h).0)
 
-  pub refused_code : {r : Refusal} {k : ℕ} → j ≡ judgement.Refused r → k ≡ number_in j → (k ≡ code_of v) × (k ≡ 0 → ⊥)
-  refused_code {r} h q =
-      let w = q ∙ ap number_in h in
-      (w ∙ ap code_of (sym (refused_by h)), λ z. number_nonzero r (sym w ∙ z))
+  pub refused_code : {r : Refusal} {k : ℕ} → j ≡ Err r → k ≡ number_of r → (k ≡ code_of v) × (k ≡ 0 → ⊥)
+  refused_code {r} h q = (q ∙ ap code_of (sym (refused_by h)), λ z. number_nonzero r (sym q ∙ z))
 
 -- The rules of a call that is judged good are those of its table and book.
-pub good_rules : (table book : List ℕ) (v : Verdict) {j : Judgement} {x : Rules} → j ≡ judged_as v (rules_of table book) → j ≡ judgement.Good x
+pub good_rules : (table book : List ℕ) (v : Verdict) {j : Result Rules Refusal} {x : Rules} → j ≡ judged_as v (rules_of table book) → j ≡ Ok x
     → (x.table ≡ table_in table) × (x.commands ≡ length (commands_of book))
 good_rules table book v e h = let q = (good_taken v (rules_of table book) e h).1 in (ap (λ (y : Rules). y.table) q, ap (λ (y : Rules). y.commands) q)
 
-pub good_sites : (table book : List ℕ) (v : Verdict) {j : Judgement} {x : Rules} → j ≡ judged_as v (rules_of table book) → j ≡ judgement.Good x
+pub good_sites : (table book : List ℕ) (v : Verdict) {j : Result Rules Refusal} {x : Rules} → j ≡ judged_as v (rules_of table book) → j ≡ Ok x
     → (x.table.sites ≡ (table_in table).sites) × (x.commands ≡ length (commands_of book))
 good_sites table book v e h = let w = good_rules table book v e h in (ap (λ (t : SiteTable). t.sites) w.0, w.1)
 
 -- After demands that a judge found met, others decide; one that refused decides.
-module _ (d e : Demands) (rules : Rules) {j : Judgement} (q : j ≡ judged_as (verdict d) rules) where
-  pub after_good : {x : Rules} → j ≡ judgement.Good x → verdict (d then e) ≡ verdict e
+module _ (d e : Demands) (rules : Rules) {j : Result Rules Refusal} (q : j ≡ judged_as (verdict d) rules) where
+  pub after_good : {x : Rules} → j ≡ Ok x → verdict (d then e) ≡ verdict e
   after_good h = then_taken d e (good_code (verdict d) rules q h) refl
 
-  pub after_judged : {x : Rules} → j ≡ judgement.Good x → {r : Verdict} → verdict e ≡ r → judged_as r x ≡ judged_as (verdict (d then e)) rules
+  pub after_judged : {x : Rules} → j ≡ Ok x → {r : Verdict} → verdict e ≡ r → judged_as r x ≡ judged_as (verdict (d then e)) rules
   after_judged h {r} w = (λ i. judged_as r ((good_taken (verdict d) rules q h).1 i)) ∙ ap (λ (v : Verdict). judged_as v rules) (sym (after_good h ∙ w))
 
-  pub after_refused : {r : Refusal} → j ≡ judgement.Refused r → j ≡ judged_as (verdict (d then e)) rules
-  after_refused {r} h = h ∙ ap (λ (v : Verdict). judged_as v rules) (sym (refusing d (refused_by (verdict d) rules q h)))
+  pub after_refused : {r : Refusal} → j ≡ Err r → Err r ≡ judged_as (verdict (d then e)) rules
+  after_refused {r} h = ap (λ (v : Verdict). judged_as v rules) (sym (refusing d (refused_by (verdict d) rules q h)))
     where
-      refusing : (d : Demands) → verdict d ≡ Refused r → verdict (d then e) ≡ Refused r
+      refusing : (d : Demands) → verdict d ≡ Err r → verdict (d then e) ≡ Err r
       refusing granted z = absurd (let y : ◌≡◌ {A = ℕ} 0 1 = cc in omega arith)
       refusing (true else x ⨾ d) z = refusing d z
       refusing (false else x ⨾ d) z = z
@@ -115,7 +107,7 @@ module _ (d e : Demands) (rules : Rules) {j : Judgement} (q : j ≡ judged_as (v
 
 module _ (table book places : List ℕ) (sized : Bool) where
   pub rules_short : not sized ≡ true
-      → (judgement.Refused Size ≡ judged_as (verdict (for_rules table book sized)) (rules_of table book)) × (places ≡ places_after table book sized places)
+      → (Err Size ≡ judged_as (verdict (for_rules table book sized)) (rules_of table book)) × (places ≡ places_after table book sized places)
   rules_short h =
       let e = sym (not-true sized h) in
       ((λ i. judged_as (verdict (for_rules table book (e i))) (rules_of table book)), (λ i. places_after table book (e i) places))
@@ -124,13 +116,14 @@ module _ (table book places : List ℕ) (sized : Bool) where
     is_sized : true ≡ sized
     is_sized = sym (not-false sized h)
 
-    pub rules_table : {j : judging.Judged} {r : Refusal} → j ≡ read_table table → j ≡ judged.Refused r
-        → (judgement.Refused Table ≡ judged_as (verdict (for_rules table book sized)) (rules_of table book)) × (places ≡ places_after table book sized places)
+    pub rules_table : {j : Result SiteTable Refusal} {r : Refusal} → j ≡ read_table table → j ≡ Err r
+        → (Err r ≡ judged_as (verdict (for_rules table book sized)) (rules_of table book)) × (places ≡ places_after table book sized places)
     rules_table q e =
-        let w = sym (judged_refused (good_table_in table) (table_in table) (sym q ∙ e)).0 in
-        ((λ i. judged_as (verdict (is_sized i else Size ⨾ w i else Table ⨾ for_book book)) (rules_of table book)), (λ i. pick (is_taken (verdict (is_sized i else Size ⨾ w i else Table ⨾ granted))) (sets places 0 (noted_places book)) places))
+        let told = judged_refused (good_table_in table) (table_in table) (sym q ∙ e) in
+        let w = sym told.0 in
+        (ap Err told.1 ∙ (λ i. judged_as (verdict (is_sized i else Size ⨾ w i else Table ⨾ for_book book)) (rules_of table book)), (λ i. pick (is_taken (verdict (is_sized i else Size ⨾ w i else Table ⨾ granted))) (sets places 0 (noted_places book)) places))
 
-    module _ {j : judging.Judged} {t : SiteTable} (q : j ≡ read_table table) (e : j ≡ judged.Good t) {m : Measured} {after : List ℕ} (em : m ≡ measure_book book)
+    module _ {j : Result SiteTable Refusal} {t : SiteTable} (q : j ≡ read_table table) (e : j ≡ Ok t) {m : Option ℕ} {after : List ℕ} (em : m ≡ measure_book book)
         (ea : after ≡ sets places 0 (noted_places book)) where
       w : true ≡ good_table_in table
       w = sym (judged_good (good_table_in table) (table_in table) (sym q ∙ e)).0
@@ -138,17 +131,17 @@ module _ (table book places : List ℕ) (sized : Bool) where
       walked : after ≡ places_after table book sized places
       walked = ea ∙ (λ i. pick (is_taken (verdict (is_sized i else Size ⨾ w i else Table ⨾ granted))) (sets places 0 (noted_places book)) places)
 
-      pub rules-book : m ≡ Unreadable
-          → (judgement.Refused Book ≡ judged_as (verdict (for_rules table book sized)) (rules_of table book)) × (after ≡ places_after table book sized places)
+      pub rules-book : m ≡ None
+          → (Err Book ≡ judged_as (verdict (for_rules table book sized)) (rules_of table book)) × (after ≡ places_after table book sized places)
       rules-book u =
           ((λ i. judged_as (verdict (is_sized i else Size ⨾ w i else Table ⨾ is_taken ((not-counted book (sym em ∙ u)).0 i) else Book ⨾ granted)) (rules_of table book)), walked)
 
-      pub rules_good : {k : ℕ} → m ≡ Commands k
-          → (judgement.Good (record { table = t; commands = k }) ≡ judged_as (verdict (for_rules table book sized)) (rules_of table book)) × (after ≡ places_after table book sized places)
+      pub rules_good : {k : ℕ} → m ≡ Some k
+          → (Ok (record { table = t; commands = k }) ≡ judged_as (verdict (for_rules table book sized)) (rules_of table book)) × (after ≡ places_after table book sized places)
       rules_good {k} u =
           let c = is_counted book (sym em ∙ u) in
           let x : record { table = t; commands = k } ≡ rules_of table book = λ i. record { table = (judged_good (good_table_in table) (table_in table) (sym q ∙ e)).1 i; commands = c.1 i } in
-          (ap judgement.Good x ∙ (λ i. judged_as (verdict (is_sized i else Size ⨾ w i else Table ⨾ is_taken (c.0 i) else Book ⨾ granted)) (rules_of table book)), walked)
+          (ap Ok x ∙ (λ i. judged_as (verdict (is_sized i else Size ⨾ w i else Table ⨾ is_taken (c.0 i) else Book ⨾ granted)) (rules_of table book)), walked)
 
 -- ---- the site, and the log
 
@@ -156,12 +149,12 @@ module _ (table book : List ℕ) where
   abbrev n : ℕ
   n = (table_in table).sites
 
-  module _ (enough : Bool) (site : List ℕ) {j : Judgement} (q : j ≡ judged_as (verdict (for_rules table book (enough && leb site_size (length site)))) (rules_of table book)) where
+  module _ (enough : Bool) (site : List ℕ) {j : Result Rules Refusal} (q : j ≡ judged_as (verdict (for_rules table book (enough && leb site_size (length site)))) (rules_of table book)) where
     -- What follows the rules.
     abbrev rules : Demands
     rules = for_rules table book (enough && leb site_size (length site))
 
-    module _ {x : Rules} (h : j ≡ judgement.Good x) where
+    module _ {x : Rules} (h : j ≡ Ok x) where
       pub rules_met : Met rules
       rules_met = met rules (good_code (verdict rules) (rules_of table book) q h) refl
 
@@ -183,18 +176,18 @@ module _ (table book : List ℕ) where
         answer : {r : Verdict} → verdict (after formed (is_site table book entries site)) ≡ r → judged_as r x ≡ judged_as (verdict (for_lent table book enough formed entries site)) (rules_of table book)
         answer w = after_judged rules (after formed (is_site table book entries site)) (rules_of table book) q h w
 
-        pub lent_form : not formed ≡ true → judgement.Refused Form ≡ judged_as (verdict (for_lent table book enough formed entries site)) (rules_of table book)
-        lent_form z = answer {r = Refused Form} (λ i. verdict (after (not-true formed z i) (is_site table book entries site)))
+        pub lent_form : not formed ≡ true → Err Form ≡ judged_as (verdict (for_lent table book enough formed entries site)) (rules_of table book)
+        lent_form z = answer {r = Err Form} (λ i. verdict (after (not-true formed z i) (is_site table book entries site)))
 
         module _ (z : not formed ≡ false) {t : Bool} (e : t ≡ good_site x.table.sites x.commands entries (take site_size site)) where
           site_by : is_site table book entries site ≡ t
           site_by = (λ i. good_site (sym rules_same.0 i) (sym rules_same.1 i) entries (take site_size site)) ∙ sym e
 
-          pub lent_bad : not t ≡ true → judgement.Refused Range ≡ judged_as (verdict (for_lent table book enough formed entries site)) (rules_of table book)
-          lent_bad b = answer {r = Refused Range} (λ i. verdict (after (not-false formed z i) ((site_by ∙ not-true t b) i)))
+          pub lent_bad : not t ≡ true → Err Range ≡ judged_as (verdict (for_lent table book enough formed entries site)) (rules_of table book)
+          lent_bad b = answer {r = Err Range} (λ i. verdict (after (not-false formed z i) ((site_by ∙ not-true t b) i)))
 
-          pub lent_good : not t ≡ false → judgement.Good x ≡ judged_as (verdict (for_lent table book enough formed entries site)) (rules_of table book)
-          lent_good b = answer {r = Taken} (λ i. verdict (after (not-false formed z i) ((site_by ∙ not-false t b) i)))
+          pub lent_good : not t ≡ false → Ok x ≡ judged_as (verdict (for_lent table book enough formed entries site)) (rules_of table book)
+          lent_good b = answer {r = accepted} (λ i. verdict (after (not-false formed z i) ((site_by ∙ not-false t b) i)))
 
   -- ---- what a call knows once it was judged
 
@@ -247,17 +240,17 @@ module _ (table book : List ℕ) where
 
   -- ---- the entries before the site's position
 
-  module _ (enough : Bool) (site log : List ℕ) {j : Judgement} (q : j ≡ judged_as (verdict (for_lent table book enough (is_whole log) (entries_in log) site)) (rules_of table book)) where
+  module _ (enough : Bool) (site log : List ℕ) {j : Result Rules Refusal} (q : j ≡ judged_as (verdict (for_lent table book enough (is_whole log) (entries_in log) site)) (rules_of table book)) where
     abbrev lent : Demands
     lent = for_lent table book enough (is_whole log) (entries_in log) site
 
     abbrev read : Bool
     read = good_to log n (length (commands_of book)) (head_of (take site_size site)).position
 
-    pub log_refused : {r : Refusal} → j ≡ judgement.Refused r → j ≡ judged_as (verdict (for_site_and_log table book enough site log)) (rules_of table book)
+    pub log_refused : {r : Refusal} → j ≡ Err r → Err r ≡ judged_as (verdict (for_site_and_log table book enough site log)) (rules_of table book)
     log_refused h = after_refused lent (read else Range ⨾ granted) (rules_of table book) q h
 
-    module _ {x : Rules} (h : j ≡ judgement.Good x) where
+    module _ {x : Rules} (h : j ≡ Ok x) where
       log_lent : (enough ≡ true) × (is_whole log ≡ true) × Judged site × ((head_of (take site_size site)).position ≤ entries_in log)
       log_lent = lent_judged enough (is_whole log) (entries_in log) site (met lent (good_code (verdict lent) (rules_of table book) q h) refl)
 
@@ -281,11 +274,11 @@ module _ (table book : List ℕ) where
           after-lent : {r : Verdict} → verdict (read else Range ⨾ granted) ≡ r → judged_as r x ≡ judged_as (verdict (for_site_and_log table book enough site log)) (rules_of table book)
           after-lent w = after_judged lent (read else Range ⨾ granted) (rules_of table book) q h w
 
-          pub log_entries : not u ≡ true → judgement.Refused Range ≡ judged_as (verdict (for_site_and_log table book enough site log)) (rules_of table book)
-          log_entries y = after-lent {r = Refused Range} (λ i. verdict ((read_by ∙ not-true u y) i else Range ⨾ granted))
+          pub log_entries : not u ≡ true → Err Range ≡ judged_as (verdict (for_site_and_log table book enough site log)) (rules_of table book)
+          log_entries y = after-lent {r = Err Range} (λ i. verdict ((read_by ∙ not-true u y) i else Range ⨾ granted))
 
-          pub log_taken : not u ≡ false → judgement.Good x ≡ judged_as (verdict (for_site_and_log table book enough site log)) (rules_of table book)
-          log_taken y = after-lent {r = Taken} (λ i. verdict ((read_by ∙ not-false u y) i else Range ⨾ granted))
+          pub log_taken : not u ≡ false → Ok x ≡ judged_as (verdict (for_site_and_log table book enough site log)) (rules_of table book)
+          log_taken y = after-lent {r = accepted} (λ i. verdict ((read_by ∙ not-false u y) i else Range ⨾ granted))
 
 -- ---- the noted places of a call that was judged
 
@@ -297,12 +290,12 @@ pub full_room : max_commands ≤ 64
 full_room = omega arith
 
 -- A book that is taken was counted.
-counted : (s : List ℕ) → is_taken (judge_book s) ≡ true → (n : ℕ) × (measure_book s ≡ Commands n)
+counted : (s : List ℕ) → is_taken (judge_book s) ≡ true → (n : ℕ) × (measure_book s ≡ Some n)
 counted s e = go (measure_book s) refl
   where
-    go : (m : Measured) → measure_book s ≡ m → (n : ℕ) × (measure_book s ≡ Commands n)
-    go (Commands n) h = (n, h)
-    go Unreadable h = absurd (never (is_taken (judge_book s)) e (ap is_taken (sym (not-counted s h).0)))
+    go : (m : Option ℕ) → measure_book s ≡ m → (n : ℕ) × (measure_book s ≡ Some n)
+    go (Some n) h = (n, h)
+    go None h = absurd (never (is_taken (judge_book s)) e (ap is_taken (sym (not-counted s h).0)))
 
 module _ (table book : List ℕ) (enough : Bool) (site places : List ℕ) {after : List ℕ} (room : max_commands ≤ length places)
     (e : after ≡ places_after table book (enough && leb site_size (length site)) places) where
@@ -323,7 +316,7 @@ module _ (table book : List ℕ) (enough : Bool) (site places : List ℕ) {after
   past_places = ap (drop {A = ℕ} max_commands) e ∙ past_noted (is_taken (verdict (for_first table (enough && leb site_size (length site))))) book places
 
   -- A site and a log that are good: the commands are counted and their places noted, and nothing past these.
-  pub log_placed : (log : List ℕ) {j : Judgement} {x : Rules} → j ≡ judged_as (verdict (for_site_and_log table book enough site log)) (rules_of table book) → j ≡ judgement.Good x
+  pub log_placed : (log : List ℕ) {j : Result Rules Refusal} {x : Rules} → j ≡ judged_as (verdict (for_site_and_log table book enough site log)) (rules_of table book) → j ≡ Ok x
       → (drop max_commands after ≡ drop max_commands places) × (x.commands ≡ length (commands_of book)) × Placed book after
   log_placed log q h =
       let v = verdict (for_site_and_log table book enough site log) in

@@ -1,14 +1,14 @@
 -- A step carried out on the first bytes of a lent site is the outcome of its call.
 -- Assumes nothing.
 use mathlib.Core.Path.{◌≡◌, sym, ap, ◌∙◌}
+use Rattle.std.specs.Prelude.{Err, Ok}
 use mathlib.Core.List.{List, ◌++◌, append_assoc}
 use Prim.Native.Nat.{ℕ, ◌≤◌}
 use native.Mathlib.Omega.{arith}
 use lib.ListN.{length, take, drop, length-take, take-append-drop}
 use lib.Seq.{drop-append-le}
 use Rattle.wire.proofs.Small.{Small, take_small}
-use Rattle.refusals.specs.declared.Verdict.{Verdict}
-use Rattle.refusals.specs.declared.Verdict.TheVariants.{Taken, Refused}
+use Rattle.refusals.specs.Refusals.{Verdict}
 use Rattle.refusals.specs.Refusals.{code_of, settled}
 use Rattle.table.specs.declared.SiteTable.{SiteTable}
 use Rattle.table.specs.Table.{table_in}
@@ -60,5 +60,5 @@ module _ (table book site : List ℕ) (good : Good (table_in table).sites (lengt
 
       go : (v : Verdict) → code ≡ code_of v → HoldsOver (table_in table) (commands_of book) (take site_size site) b (settled v new (site_in table book site))
           → outcome code (b ++ drop site_size site) ≡ answered v (with_site table book (span_in site) site new) site
-      go Taken q o = λ i. outcome (q i) (written site sized (table_in table) (commands_of book) o i)
-      go (Refused x) q o = λ i. outcome (q i) (as_before o i)
+      go (Ok _) q o = λ i. outcome (q i) (written site sized (table_in table) (commands_of book) o i)
+      go (Err x) q o = λ i. outcome (q i) (as_before o i)

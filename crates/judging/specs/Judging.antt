@@ -1,13 +1,13 @@
 -- What every call judges of what it is lent, in document 01's order 9, 2, 1, 3, 4, and how a lent site is seen and written.
 -- Assumes nothing.
-use Rattle.std.specs.Prelude.{Bool, true, ◌&&◌, List, ◌++◌, ℕ, ◌/◌, ◌%◌, eqb, leb, length, take, drop}
+use Rattle.std.specs.Prelude.{Bool, true, ◌&&◌, List, ◌++◌, ℕ, ◌/◌, ◌%◌, eqb, leb, length, take, drop, Err, Ok, Result}
+use Rattle.refusals.specs.declared.Refusal.{Refusal}
 use Rattle.std.proofs.lemmas.List.Edits.{sets}
 use Rattle.theory.specs.Sets.{pick}
 use Rattle.wire.specs.Wire.{read_le}
 use Rattle.refusals.specs.declared.Refusal.TheVariants.{Book, Table, Form, Range, Size}
-use Rattle.refusals.specs.declared.Verdict.{Verdict}
-use Rattle.refusals.specs.declared.Verdict.TheVariants.{Taken, Refused}
-use Rattle.refusals.specs.Refusals.{number_of, is_taken}
+use Rattle.refusals.specs.Refusals.{Verdict}
+use Rattle.refusals.specs.Refusals.{is_taken}
 use Rattle.table.specs.declared.Rules.{Rules}
 use Rattle.table.specs.Table.{table_in, good_table_in, good_marked_in}
 use Rattle.commands.specs.Book.{commands_of, judge_book, noted_places}
@@ -17,8 +17,6 @@ use Rattle.system.specs.Dash.{dash}
 use Rattle.entries.specs.Entries.{entry_size, good_to}
 use Rattle.layout.specs.Layout.{site_size, span_place, row_at, view, encode}
 use Rattle.layout.specs.Good.{good_site}
-use Rattle.judging.specs.declared.Judgement.{Judgement}
-use Rattle.judging.specs.declared.Judgement.TheVariants as judgement
 use Rattle.judging.specs.Outcomes.{◌then◌}
 
 -- Every log position that a site's bytes can hold is at most this: where no log is lent the position is not judged.
@@ -38,14 +36,9 @@ abbrev pub rules_of : (table book : List ℕ) → Rules
 rules_of table book = record { table = table_in table; commands = length (commands_of book) }
 
 -- What a judge answers: the rules where its verdict is taken, else the refusal.
-abbrev pub judged_as : Verdict → Rules → Judgement
-judged_as Taken rules = judgement.Good rules
-judged_as (Refused r) rules = judgement.Refused r
-
--- The number that a call answers to it.
-abbrev pub number_in : Judgement → ℕ
-number_in (judgement.Good rules) = 0
-number_in (judgement.Refused r) = number_of r
+abbrev pub judged_as : Verdict → Rules → Result Rules Refusal
+judged_as (Ok _) rules = Ok rules
+judged_as (Err r) rules = Err r
 
 -- The site table with its mask, and the book.
 abbrev pub for_marked : List ℕ → Demands

@@ -1,9 +1,8 @@
 -- What a call answers and leaves. It asks a list of demands: taken, it answers 0 and leaves what the step makes; refused, it answers the
 -- number of the first demand that does not hold, and everything is as it was.
 -- Assumes nothing.
-use Rattle.std.specs.Prelude.{ℕ}
-use Rattle.refusals.specs.declared.Verdict.{Verdict}
-use Rattle.refusals.specs.declared.Verdict.TheVariants.{Taken, Refused}
+use Rattle.std.specs.Prelude.{ℕ, Err, Ok}
+use Rattle.refusals.specs.Refusals.{Verdict}
 use Rattle.refusals.specs.Refusals.{number_of}
 use Rattle.protocol.specs.System.{Demands, granted, ◌else◌⨾◌}
 
@@ -17,8 +16,8 @@ outcome k a = record { code = k; left = a }
 
 -- The outcome of a call by its verdict: what the step makes, or what was there before.
 abbrev pub answered : {A : Type 0} → Verdict → (later before : A) → Outcome A
-answered Taken later before = outcome 0 later
-answered (Refused r) later before = outcome (number_of r) before
+answered (Ok _) later before = outcome 0 later
+answered (Err r) later before = outcome (number_of r) before
 
 -- Some demands, and after them others.
 infixr 20 ◌then◌

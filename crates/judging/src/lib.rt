@@ -4,70 +4,50 @@
 ghost use Rattle.std.specs.Prelude.{◌≡◌, ◌&&◌, ◌≤◌, leb, length};
 ghost use Rattle.commands.specs.Book.{max_commands};
 ghost use Rattle.layout.specs.Layout.{site_size, head_of};
-ghost use Rattle.refusals.specs.Refusals.{code_of};
 ghost use Rattle.protocol.specs.System.{verdict};
-ghost use Rattle.judging.specs.Judging.{for_marked, for_book, for_rules, for_lent, for_site, for_site_and_message, for_site_and_log, rules_of, judged_as, number_in, places_after};
+ghost use Rattle.judging.specs.Judging.{for_marked, for_book, for_rules, for_lent, for_site, for_site_and_message, for_site_and_log, rules_of, judged_as, places_after};
 
-use commands::Measured;
 use entries::Entry;
 use layout::Site;
-use refusals::Refusal;
-use table::{Judged, Rules, SiteTable};
+use refusals::{Refusal, Verdict};
+use table::{Rules, SiteTable};
 
 // Every log position that a site's bytes can hold is at most this.
 const ANY_POSITION: usize = 65535;
 
-// What a judge answers: the rules that the call goes by, or why it is refused.
-#[derive(Clone, Copy)]
-pub enum Judgement {
-    Good(Rules),
-    Refused(Refusal),
-}
-
-// Whether bytes begin with a site table, its mask included, that is within its limits: 0 or 2.
-pub fn judge_table(table: &[u8]) -> u32
-    ensures { result ≡ code_of (verdict (for_marked table.now)) }
+// Whether bytes begin with a site table, its mask included, that is within its limits, or refusal 2.
+pub fn judge_table(table: &[u8]) -> Verdict
+    ensures { result ≡ verdict (for_marked table.now) }
 {
-    let judged = SiteTable::read_marked(table);
-    match judged {
-        Judged::Good(_) => 0,
-        Judged::Refused(refusal) => refusals::number(refusal),
-    }
+    SiteTable::read_marked(table)?;
+    Ok(())
 }
 
-// Whether bytes are a book: 0 or 1.
-pub fn judge_book(book: &[u8]) -> u32
-    ensures { result ≡ code_of (verdict (for_book book.now)) }
+// Whether bytes are a book, or refusal 1.
+pub fn judge_book(book: &[u8]) -> Verdict
+    ensures { result ≡ verdict (for_book book.now) }
 {
     let mut places = [0u64; commands::MAX_COMMANDS];
-    let measured = commands::note(book, &mut places);
-    match measured {
-        Measured::Commands(_) => 0,
-        Measured::Unreadable => refusals::number(Refusal::Book),
-    }
+    let Some(_) = commands::note(book, &mut places) else {
+        return Err(Refusal::Book);
+    };
+    Ok(())
 }
 
 // Sizes, the site table and the book: 9, 2 or 1. Where sizes and table are right, the places of the book's commands are noted.
-fn judge_rules(sized: bool, table: &[u8], book: &[u8], places: &mut [u64]) -> Judgement
+fn judge_rules(sized: bool, table: &[u8], book: &[u8], places: &mut [u64]) -> Result<Rules, Refusal>
     requires { max_commands ≤ length places.old }
     ensures { (result ≡ judged_as (verdict (for_rules table.now book.now sized)) (rules_of table.now book.now))
         × (places.new ≡ places_after table.now book.now sized places.old) }
 {
     if !sized {
-        return Judgement::Refused(Refusal::Size);
+        return Err(Refusal::Size);
     }
-    let judged = SiteTable::read(table);
-    let Judged::Good(found) = judged else {
-        return Judgement::Refused(Refusal::Table);
+    let table = SiteTable::read(table)?;
+    let Some(commands) = commands::note(book, places) else {
+        return Err(Refusal::Book);
     };
-    let measured = commands::note(book, places);
-    let Measured::Commands(commands) = measured else {
-        return Judgement::Refused(Refusal::Book);
-    };
-    Judgement::Good(Rules {
-        table: found,
-        commands,
-    })
+    Ok(Rules { table, commands })
 }
 
 // Then the form of what else is lent, and the site, its log position among so many entries: 3 or 4.
@@ -79,24 +59,21 @@ fn judge_lent(
     book: &[u8],
     site: &[u8],
     places: &mut [u64],
-) -> Judgement
+) -> Result<Rules, Refusal>
     requires { max_commands ≤ length places.old }
     ensures { (result ≡ judged_as (verdict (for_lent table.now book.now enough formed entries site.now)) (rules_of table.now book.now))
         × (places.new ≡ places_after table.now book.now (enough && leb site_size (length site.now)) places.old) }
 {
     let sized = enough & (site.len() >= Site::SIZE);
-    let judged = judge_rules(sized, table, book, places);
-    let Judgement::Good(rules) = judged else {
-        return judged;
-    };
+    let rules = judge_rules(sized, table, book, places)?;
     if !formed {
-        return Judgement::Refused(Refusal::Form);
+        return Err(Refusal::Form);
     }
     let sites = rules.table.sites;
     if !lent::judge(&site[..Site::SIZE], sites, rules.commands, entries) {
-        return Judgement::Refused(Refusal::Range);
+        return Err(Refusal::Range);
     }
-    Judgement::Good(rules)
+    Ok(rules)
 }
 
 // What a call that is lent a site judges: 9, 2, 1 or 4; `enough`: its other buffers are long enough.
@@ -106,7 +83,7 @@ pub fn judge_site(
     book: &[u8],
     site: &[u8],
     places: &mut [u64],
-) -> Judgement
+) -> Result<Rules, Refusal>
     requires { max_commands ≤ length places.old }
     ensures { (result ≡ judged_as (verdict (for_site table.now book.now enough site.now)) (rules_of table.now book.now))
         × (places.new ≡ places_after table.now book.now (enough && leb site_size (length site.now)) places.old) }
@@ -121,7 +98,7 @@ pub fn judge_site_and_message(
     book: &[u8],
     site: &[u8],
     places: &mut [u64],
-) -> Judgement
+) -> Result<Rules, Refusal>
     requires { max_commands ≤ length places.old }
     ensures { (result ≡ judged_as (verdict (for_site_and_message table.now book.now formed site.now)) (rules_of table.now book.now))
         × (places.new ≡ places_after table.now book.now (leb site_size (length site.now)) places.old) }
@@ -137,33 +114,20 @@ pub fn judge_site_and_log(
     site: &[u8],
     log: &[u8],
     places: &mut [u64],
-) -> Judgement
+) -> Result<Rules, Refusal>
     requires { max_commands ≤ length places.old }
     ensures { (result ≡ judged_as (verdict (for_site_and_log table.now book.now enough site.now log.now)) (rules_of table.now book.now))
         × (places.new ≡ places_after table.now book.now (enough && leb site_size (length site.now)) places.old) }
 {
     let whole = log.len() % Entry::BYTES == 0;
     let entries = log.len() / Entry::BYTES;
-    let judged = judge_lent(enough, whole, entries, table, book, site, places);
-    let Judgement::Good(rules) = judged else {
-        return judged;
-    };
+    let rules = judge_lent(enough, whole, entries, table, book, site, places)?;
     let position = position_of(&site[..Site::SIZE]);
     let sites = rules.table.sites;
     if !entries::judge_prefix(log, position, sites, rules.commands) {
-        return Judgement::Refused(Refusal::Range);
+        return Err(Refusal::Range);
     }
-    Judgement::Good(rules)
-}
-
-// The number that a call answers to a judgement: that of the refusal, or 0.
-pub fn number(judged: Judgement) -> u32
-    ensures { result ≡ number_in judged }
-{
-    match judged {
-        Judgement::Good(_) => 0,
-        Judgement::Refused(refusal) => refusals::number(refusal),
-    }
+    Ok(rules)
 }
 
 // The log position of a site.

@@ -1,6 +1,7 @@
 -- How a step ends: the tables are written first, the header last, and the bytes are those of the site that they are seen as.
 -- Assumes nothing.
 use mathlib.Core.Path.{◌≡◌, refl, sym, ap, subst, ◌∙◌}
+use Rattle.std.specs.Prelude.{Err, Ok}
 use mathlib.Core.List.{List, ◌++◌}
 use Prim.Native.Nat.{ℕ, ◌≤◌, ◌<◌}
 use native.Mathlib.Omega.{arith}
@@ -8,10 +9,9 @@ use lib.ListN.{length, drop, get_or}
 use Rattle.wire.specs.Wire.{value, bytes, read_le, splice}
 use Rattle.wire.proofs.Laws.{length-splice, value-bytes, drop-after}
 use Rattle.sets.specs.Sets.{capacity}
-use Rattle.refusals.specs.Refusals.{settled}
+use Rattle.refusals.specs.Refusals.{settled, accepted}
 use Rattle.refusals.specs.declared.Refusal.{Refusal}
-use Rattle.refusals.specs.declared.Verdict.{Verdict}
-use Rattle.refusals.specs.declared.Verdict.TheVariants.{Taken, Refused}
+use Rattle.refusals.specs.Refusals.{Verdict}
 use Rattle.table.specs.declared.SiteTable.{SiteTable}
 use Rattle.register.specs.declared.Command.{Command}
 use Rattle.protocol.specs.Site as protocol
@@ -137,12 +137,12 @@ module _ (t : SiteTable) (book : List Command) where
       (ap (view t book) e ∙ view-head b h size f g.room ∙ law)
 
   -- A refused step, and one that is taken.
-  pub refused : (v : Verdict) (x : Refusal) {b : List ℕ} {new : protocol.Site (dash t book)} → v ≡ Refused x → Good t.sites (length book) b
-      → ((i : ℕ) → get_or b i 0 < 256) → Carried t book v new (view t book b) b (Refused x) b
+  pub refused : (v : Verdict) (x : Refusal) {b : List ℕ} {new : protocol.Site (dash t book)} → v ≡ Err x → Good t.sites (length book) b
+      → ((i : ℕ) → get_or b i 0 < 256) → Carried t book v new (view t book b) b (Err x) b
   refused v x {b} {new} e g small =
       record { answer = sym e; site = subst (λ (w : Verdict). HoldsOver t book b b (settled w new (view t book b))) (sym e) (unchanged g small) }
 
-  pub taken : (v : Verdict) {before b : List ℕ} {new old : protocol.Site (dash t book)} → v ≡ Taken → HoldsOver t book before b new
-      → Carried t book v new old before Taken b
+  pub taken : (v : Verdict) {before b : List ℕ} {new old : protocol.Site (dash t book)} → v ≡ accepted → HoldsOver t book before b new
+      → Carried t book v new old before accepted b
   taken v {before} {b} {new} {old} e h =
       record { answer = sym e; site = subst (λ (w : Verdict). HoldsOver t book before b (settled w new old)) (sym e) h }

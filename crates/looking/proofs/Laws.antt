@@ -1,10 +1,10 @@
 -- What the calls that look at a site write, and what of the protocol's site that is.
 -- Assumes nothing.
 use mathlib.Core.Path.{◌≡◌, refl, sym, ap, ◌∙◌}
+use Rattle.std.specs.Prelude.{Err, Ok, Result, Option, Some}
 use mathlib.Core.Bool.{true}
 use mathlib.Core.List.{List, [], ◌∷◌, ◌++◌}
 use mathlib.Core.Logic.{◌⊎◌, inl, inr}
-use mathlib.Core.Option.{Option, some}
 use Prim.Native.Nat.{ℕ, zero, suc, ◌+◌, ◌≤◌, ◌<◌}
 use native.Mathlib.Omega.{arith}
 use lib.Dec.{leb, ltb}
@@ -37,9 +37,7 @@ use Rattle.layout.specs.Layout.{site_size, count_place, register_place, delivery
 use Rattle.layout.proofs.Deliveries.{length_deliveries}
 use Rattle.layout.proofs.Encode.{counted}
 use Rattle.judging.specs.Outcomes.{outcome}
-use Rattle.judging.specs.declared.Judgement.{Judgement}
-use Rattle.judging.specs.declared.Judgement.TheVariants as judgement
-use Rattle.judging.specs.Judging.{system_of, site_in, rules_of, judged_as, number_in, for_site}
+use Rattle.judging.specs.Judging.{system_of, site_in, rules_of, judged_as, for_site}
 use Rattle.judging.proofs.Demands.{then_refused, code_refused, code-taken, last_refused, last_taken}
 use Rattle.judging.proofs.Laws.{Judged, site_judged, good_code, refused_code}
 use Rattle.looking.specs.Looking.{status_size, status_bytes, head_status, found_bytes, status_call, bike_call, delivery_call}
@@ -74,14 +72,14 @@ number_waiting : (p : Phase) → phase_number p ≡ one (is_waiting (phase_seen 
 number_waiting Acknowledging = refl
 number_waiting (Waiting x) = refl
 
-nth_below : (n k : ℕ) (b : List ℕ) → k < n → nth (deliveries_of n b) k ≡ some (delivery_of b k)
+nth_below : (n k : ℕ) (b : List ℕ) → k < n → nth (deliveries_of n b) k ≡ Some (delivery_of b k)
 unfolding deliveries_of
 nth_below zero k b h = absurd (omega arith)
 nth_below (suc n) k b h = go (last_or_below k n h) (λ l. nth_below n k b l)
   where
-    go : (k ≡ n) ⊎ (k < n) → (k < n → nth (deliveries_of n b) k ≡ some (delivery_of b k))
-        → nth (deliveries_of n b ++ (delivery_of b n ∷ [])) k ≡ some (delivery_of b k)
-    go (inl e) r = nth_last (deliveries_of n b) (delivery_of b n) k (e ∙ sym (length_deliveries n b)) ∙ ap (λ (m : ℕ). some (delivery_of b m)) (sym e)
+    go : (k ≡ n) ⊎ (k < n) → (k < n → nth (deliveries_of n b) k ≡ Some (delivery_of b k))
+        → nth (deliveries_of n b ++ (delivery_of b n ∷ [])) k ≡ Some (delivery_of b k)
+    go (inl e) r = nth_last (deliveries_of n b) (delivery_of b n) k (e ∙ sym (length_deliveries n b)) ∙ ap (λ (m : ℕ). Some (delivery_of b m)) (sym e)
     go (inr l) r = nth-append (deliveries_of n b) (delivery_of b n ∷ []) k (let z = length_deliveries n b in omega arith) ∙ r l
 
 module _ (table book site : List ℕ) where
@@ -97,15 +95,15 @@ module _ (table book site : List ℕ) where
 
   -- ---- the status
 
-  module _ (o : List ℕ) {j : Judgement}
+  module _ (o : List ℕ) {j : Result Rules Refusal}
       (e : j ≡ judged_as (verdict (for_site table book (leb status_size (length o)) site)) (rules_of table book)) where
-    pub status_refused : {r : Refusal} {k : ℕ} → j ≡ judgement.Refused r → k ≡ number_in j → outcome k o ≡ status_call table book site o
+    pub status_refused : {r : Refusal} {k : ℕ} → j ≡ Err r → k ≡ number_of r → outcome k o ≡ status_call table book site o
     unfolding status_call
     status_refused h ek =
         let w = refused_code (verdict (for_site table book (leb status_size (length o)) site)) (rules_of table book) e h ek in
         code_refused (verdict (for_site table book (leb status_size (length o)) site)) _ o w.0 w.1
 
-    module _ {x : Rules} (h : j ≡ judgement.Good x) where
+    module _ {x : Rules} (h : j ≡ Ok x) where
       status_code : 0 ≡ code_of (verdict (for_site table book (leb status_size (length o)) site))
       status_code = good_code (verdict (for_site table book (leb status_size (length o)) site)) (rules_of table book) e h
 
@@ -129,15 +127,15 @@ module _ (table book site : List ℕ) where
 
   -- ---- a bike
 
-  module _ (bike : ℕ) (o : List ℕ) {j : Judgement}
+  module _ (bike : ℕ) (o : List ℕ) {j : Result Rules Refusal}
       (e : j ≡ judged_as (verdict (for_site table book (leb bike_size (length o)) site)) (rules_of table book)) where
-    pub bike_refused : {r : Refusal} {k : ℕ} → j ≡ judgement.Refused r → k ≡ number_in j → outcome k o ≡ bike_call table book site bike o
+    pub bike_refused : {r : Refusal} {k : ℕ} → j ≡ Err r → k ≡ number_of r → outcome k o ≡ bike_call table book site bike o
     unfolding bike_call
     bike_refused h ek =
         let w = refused_code (verdict (for_site table book (leb bike_size (length o)) site)) (rules_of table book) e h ek in
         then_refused (for_site table book (leb bike_size (length o)) site) (ltb bike bikes else Range ⨾ granted) _ o w.0 w.1
 
-    module _ {x : Rules} (h : j ≡ judgement.Good x) where
+    module _ {x : Rules} (h : j ≡ Ok x) where
       bike-code : 0 ≡ code_of (verdict (for_site table book (leb bike_size (length o)) site))
       bike-code = good_code (verdict (for_site table book (leb bike_size (length o)) site)) (rules_of table book) e h
 
@@ -159,16 +157,16 @@ module _ (table book site : List ℕ) where
 
   -- ---- a delivery
 
-  module _ (i : ℕ) (o : List ℕ) {j : Judgement}
+  module _ (i : ℕ) (o : List ℕ) {j : Result Rules Refusal}
       (e : j ≡ judged_as (verdict (for_site table book (leb delivery_size (length o)) site)) (rules_of table book)) where
-    pub delivery_refused : {r : Refusal} {k : ℕ} → j ≡ judgement.Refused r → k ≡ number_in j → outcome k o ≡ delivery_call table book site i o
+    pub delivery_refused : {r : Refusal} {k : ℕ} → j ≡ Err r → k ≡ number_of r → outcome k o ≡ delivery_call table book site i o
     unfolding delivery_call
     delivery_refused h ek =
         let w = refused_code (verdict (for_site table book (leb delivery_size (length o)) site)) (rules_of table book) e h ek in
         then_refused (for_site table book (leb delivery_size (length o)) site)
         (is_some (nth (deliveries_of (read_le 2 (take site_size site) count_place) (take site_size site)) i) else Range ⨾ granted) _ o w.0 w.1
 
-    module _ {x : Rules} (h : j ≡ judgement.Good x) where
+    module _ {x : Rules} (h : j ≡ Ok x) where
       delivery_code : 0 ≡ code_of (verdict (for_site table book (leb delivery_size (length o)) site))
       delivery_code = good_code (verdict (for_site table book (leb delivery_size (length o)) site)) (rules_of table book) e h
 

@@ -1,7 +1,6 @@
 -- The calls that look at a lent site and write what they find: what each answers and leaves of the buffer for it.
 -- Assumes nothing.
-use Rattle.std.specs.Prelude.{List, [], ◌++◌, ℕ, leb, ltb, ℤ, length}
-use Rattle.std.proofs.Math.Option.{Option, none, some}
+use Rattle.std.specs.Prelude.{List, [], ◌++◌, ℕ, leb, ltb, ℤ, length, None, Option, Some}
 use Rattle.theory.specs.Sets.{one}
 use Rattle.theory.specs.Lists.{nth}
 use Rattle.theory.specs.Machine.{Delivery}
@@ -30,8 +29,8 @@ head_status h = ((bytes 1 h.round ++ bytes 1 (phase_number h.phase)) ++ bytes 1 
 
 -- Command and answer of a delivery, where there is one.
 abbrev pub found_bytes : Option (Delivery ℤ) → List ℕ
-found_bytes none = []
-found_bytes (some d) = delivery_bytes d.command d.answer
+found_bytes None = []
+found_bytes (Some d) = delivery_bytes d.command d.answer
 
 module _ (table book : List ℕ) where
   unfoldable pub status_call : (site status : List ℕ) → Outcome (List ℕ)

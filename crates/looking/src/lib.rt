@@ -7,12 +7,12 @@ ghost use Rattle.sets.specs.Sets.{capacity};
 ghost use Rattle.register.specs.Register.{bikes};
 ghost use Rattle.register.specs.Lent.{bike_size, register_of, bike_bytes};
 ghost use Rattle.layout.specs.Layout.{site_size, head_of, register_place, delivery_size, delivery_of, delivery_bytes};
+ghost use Rattle.refusals.specs.Refusals.{code_of};
 ghost use Rattle.judging.specs.Outcomes.{outcome};
 ghost use Rattle.looking.specs.Looking.{status_size, head_status, status_call, bike_call, delivery_call};
 
-use judging::Judgement;
 use layout::Site;
-use refusals::Refusal;
+use refusals::{Refusal, Verdict};
 use register::Bike;
 
 // The bytes of a status: round, phase, number of deliveries, log position.
@@ -32,17 +32,14 @@ fn write_status(site: &[u8], out: &mut [u8])
 }
 
 // A site's status is written: round (1), phase (1: 0 acknowledging, 1 waiting), number of deliveries (1), log position (2).
-pub fn status(table: &[u8], book: &[u8], site: &[u8], out: &mut [u8]) -> u32
-    ensures { outcome result out.new ≡ status_call table.now book.now site.now out.old }
+pub fn status(table: &[u8], book: &[u8], site: &[u8], out: &mut [u8]) -> Verdict
+    ensures { outcome (code_of result) out.new ≡ status_call table.now book.now site.now out.old }
 {
     let enough = out.len() >= STATUS_BYTES;
     let mut places = [0u64; commands::MAX_COMMANDS];
-    let judged = judging::judge_site(enough, table, book, site, &mut places);
-    if let Judgement::Refused(_) = judged {
-        return judging::number(judged);
-    }
+    judging::judge_site(enough, table, book, site, &mut places)?;
     write_status(&site[..Site::SIZE], out);
-    0
+    Ok(())
 }
 
 // What the register holds of a bike is written.
@@ -56,20 +53,17 @@ fn write_bike(site: &[u8], bike: usize, out: &mut [u8])
 }
 
 // A bike's reading (4) and dash (4) are written.
-pub fn bike(table: &[u8], book: &[u8], site: &[u8], bike: usize, out: &mut [u8]) -> u32
-    ensures { outcome result out.new ≡ bike_call table.now book.now site.now bike out.old }
+pub fn bike(table: &[u8], book: &[u8], site: &[u8], bike: usize, out: &mut [u8]) -> Verdict
+    ensures { outcome (code_of result) out.new ≡ bike_call table.now book.now site.now bike out.old }
 {
     let enough = out.len() >= Bike::SIZE;
     let mut places = [0u64; commands::MAX_COMMANDS];
-    let judged = judging::judge_site(enough, table, book, site, &mut places);
-    if let Judgement::Refused(_) = judged {
-        return judging::number(judged);
-    }
+    judging::judge_site(enough, table, book, site, &mut places)?;
     if bike >= Bike::COUNT {
-        return refusals::number(Refusal::Range);
+        return Err(Refusal::Range);
     }
     write_bike(&site[..Site::SIZE], bike, out);
-    0
+    Ok(())
 }
 
 // How many deliveries a site has recorded.
@@ -94,18 +88,15 @@ fn write_delivery(site: &[u8], k: usize, out: &mut [u8])
 }
 
 // The k-th delivery, from 0, is written: command (1) and answer (4).
-pub fn delivery(table: &[u8], book: &[u8], site: &[u8], k: usize, out: &mut [u8]) -> u32
-    ensures { outcome result out.new ≡ delivery_call table.now book.now site.now k out.old }
+pub fn delivery(table: &[u8], book: &[u8], site: &[u8], k: usize, out: &mut [u8]) -> Verdict
+    ensures { outcome (code_of result) out.new ≡ delivery_call table.now book.now site.now k out.old }
 {
     let enough = out.len() >= Site::DELIVERY;
     let mut places = [0u64; commands::MAX_COMMANDS];
-    let judged = judging::judge_site(enough, table, book, site, &mut places);
-    if let Judgement::Refused(_) = judged {
-        return judging::number(judged);
-    }
+    judging::judge_site(enough, table, book, site, &mut places)?;
     if k >= count(&site[..Site::SIZE]) {
-        return refusals::number(Refusal::Range);
+        return Err(Refusal::Range);
     }
     write_delivery(&site[..Site::SIZE], k, out);
-    0
+    Ok(())
 }

@@ -1,6 +1,7 @@
 -- A log read on lent buffers: the next entry in the log's bytes, and the verdict on it.
 -- Assumes nothing.
 use mathlib.Core.Path.{◌≡◌, refl, sym, ap, ◌∙◌}
+use Rattle.std.specs.Prelude.{Err, Ok}
 use mathlib.Core.Bool.{Bool, true, false, not}
 use mathlib.Core.List.{List}
 use mathlib.Core.Logic.{⊎_elim}
@@ -9,8 +10,7 @@ use native.Mathlib.Omega.{arith}
 use lib.Dec.{ltb}
 use lib.ListN.{length, take, get_or}
 use borrow.Author.Tests.{lt-ltb, le-ltb, ltb-true}
-use Rattle.refusals.specs.declared.Verdict.{Verdict}
-use Rattle.refusals.specs.declared.Verdict.TheVariants.{Taken, Refused}
+use Rattle.refusals.specs.Refusals.{Verdict, accepted}
 use Rattle.refusals.specs.declared.Refusal.TheVariants.{Range, Role, Disabled, ThirdEntry}
 use Rattle.theory.specs.Lists.{nth}
 use Rattle.theory.specs.Counting.{lt_or_le}
@@ -80,7 +80,7 @@ module _ (t : SiteTable) (book : List Command) (log : List ℕ) (entries k : ℕ
       (lt_or_le k entries)
 
 -- A log read that is taken has an entry left.
-first_told : (x y : Bool) → verdict (x else Disabled ⨾ y else ThirdEntry ⨾ granted) ≡ Taken → x ≡ true
+first_told : (x y : Bool) → verdict (x else Disabled ⨾ y else ThirdEntry ⨾ granted) ≡ accepted → x ≡ true
 first_told true y e = refl
 first_told false y e = absurd (let z : ◌≡◌ {A = ℕ} 0 1 = cc in omega arith)
 
@@ -92,7 +92,7 @@ module _ (t : SiteTable) (i entries : ℕ) (sites : List ℕ) (small : (k : ℕ)
       → next_in_range (dash t book) (next (dash t book) ((world_of t book (lent sites log entries sent)).site i) (log_to log entries)) ≡ true
   next_known book log sent g = next_good t book log entries ((world_of t book (lent sites log entries sent)).site i).position g.logged
 
-  pub read_range : t.sites ≤ i → LogRead t i entries sites (Refused Range) sites
+  pub read_range : t.sites ≤ i → LogRead t i entries sites (Err Range) sites
   read_range h = λ book log sent g. refused t book (lent sites log entries sent) g (log_read i) Range (simp (le-ltb i t.sites h)) small
 
   module _ (inside : i < t.sites) {f : Bool} (ef : f ≡ faulty_of t i) where
@@ -106,7 +106,7 @@ module _ (t : SiteTable) (i entries : ℕ) (sites : List ℕ) (small : (k : ℕ)
         ⨾ correct (dash t book) i else Role ⨾ for_log_read (dash t book) (w.site i) w.log))
         ∙ (λ z. verdict (e z else Range ⨾ not (sym ef z) else Role ⨾ for_log_read (dash t book) (w.site i) w.log))
 
-    pub read_role : f ≡ true → LogRead t i entries sites (Refused Role) sites
+    pub read_role : f ≡ true → LogRead t i entries sites (Err Role) sites
     read_role h =
         λ book log sent g.
         refused t book (lent sites log entries sent) g (log_read i) Role
@@ -126,7 +126,7 @@ module _ (t : SiteTable) (i entries : ℕ) (sites : List ℕ) (small : (k : ℕ)
         ∙ (λ z. verdict (not (h z) else Role ⨾ for_log_read (dash t book) (seen t book b g i inside z) (log_to log entries))))
         refl refl refl
       where
-        read_more : (book : List Command) (log : List ℕ) → verdict (for_log_read (dash t book) (view t book (site_at sites i)) (log_to log entries)) ≡ Taken
+        read_more : (book : List Command) (log : List ℕ) → verdict (for_log_read (dash t book) (view t book (site_at sites i)) (log_to log entries)) ≡ accepted
             → suc (head_of (site_at sites i)).position ≤ entries
         read_more book log e =
             let n = (head_of (site_at sites i)).position in

@@ -1,17 +1,16 @@
 -- A turn on lent buffers: what is sent and appended, from what the site answers.
 -- Assumes nothing.
 use mathlib.Core.Path.{◌≡◌, refl, sym, ap, subst, ◌∙◌}
+use Rattle.std.specs.Prelude.{Err, Ok, Result, Some}
 use mathlib.Core.Bool.{Bool, true, false, ◌&&◌, ◌||◌, not}
 use mathlib.Core.List.{List, [], ◌∷◌, ◌++◌}
-use mathlib.Core.Option.{some}
 use Prim.Native.Nat.{ℕ, ◌+◌, ◌≤◌, ◌<◌}
 use native.Mathlib.Omega.{arith}
 use lib.Dec.{eqb, leb, ltb}
 use lib.ListN.{length, get_or, length-append}
 use borrow.Author.Tests.{lt-ltb, le-ltb, le-leb, eq-eqb, ltb-true}
 use Rattle.refusals.specs.declared.Refusal.{Refusal}
-use Rattle.refusals.specs.declared.Verdict.{Verdict}
-use Rattle.refusals.specs.declared.Verdict.TheVariants.{Taken, Refused}
+use Rattle.refusals.specs.Refusals.{Verdict, accepted}
 use Rattle.refusals.specs.declared.Refusal.TheVariants.{Range, Role, Disabled, ThirdEntry, LastRound}
 use Rattle.refusals.specs.Refusals.{settled}
 use Rattle.theory.specs.Sets as theory
@@ -57,7 +56,7 @@ use Rattle.moves.proofs.Words.{undelivered-word, unacknowledged-word, pending_wo
 -- ---- the site's part
 
 -- The conflict test by the rows and the number of entries by what is kept of the log are those that the turn asks for.
-pub turned_by : (rows kept : List ℕ) (i : ℕ) (b : List ℕ) {u : Set} {f third : Bool} {round : ℕ} {r : Turn} {after : List ℕ}
+pub turned_by : (rows kept : List ℕ) (i : ℕ) (b : List ℕ) {u : Set} {f third : Bool} {round : ℕ} {r : Result Turn Refusal} {after : List ℕ}
     → u ≡ undelivered_of (head_of b) → f ≡ free_by rows (in_set u) → round ≡ (head_of b).round
     → ((t : SiteTable) (rows log : List ℕ) → Kept t rows log kept → third ≡ not (ltb (recovery.entries i round (log_to log (kept_entries kept))) 2))
     → TookTurn f third b r after → TurnedBy rows kept i r b after
@@ -73,30 +72,30 @@ turned_by rows kept i b {u} eu ef er et took =
 -- ---- what an answer tells
 
 module _ (t : SiteTable) (book : List Command) (s : protocol.Site (dash t book)) where
-  told_refused : (x : Refusal) (v : Verdict) (a : Bool) → turns.Refused x ≡ answer_to t book v a s → v ≡ Refused x
-  told_refused x Taken true e = absurd (let z : ◌≡◌ {A = ℕ} 0 1 = cc in omega arith)
-  told_refused x Taken false e = absurd (let z : ◌≡◌ {A = ℕ} 0 1 = cc in omega arith)
-  told_refused x (Refused y) a e = ap Refused (let q : y ≡ x = cc in q)
+  told_refused : (x : Refusal) (v : Verdict) (a : Bool) → Err x ≡ answer_to t book v a s → v ≡ Err x
+  told_refused x (Ok _) true e = absurd (let z : ◌≡◌ {A = ℕ} 0 1 = cc in omega arith)
+  told_refused x (Ok _) false e = absurd (let z : ◌≡◌ {A = ℕ} 0 1 = cc in omega arith)
+  told_refused x (Err y) a e = ap Err (let q : y ≡ x = cc in q)
 
-  told_acknowledged : (x : Set) (v : Verdict) (a : Bool) → turns.Acknowledged x ≡ answer_to t book v a s
-      → (v ≡ Taken) × (a ≡ true) × (x ≡ set_of capacity (undelivered (dash t book) s))
-  told_acknowledged x Taken true e = (refl, refl, (let q : x ≡ set_of capacity (undelivered (dash t book) s) = cc in q))
-  told_acknowledged x Taken false e = absurd (let z : ◌≡◌ {A = ℕ} 0 1 = cc in omega arith)
-  told_acknowledged x (Refused y) a e = absurd (let z : ◌≡◌ {A = ℕ} 0 1 = cc in omega arith)
+  told_acknowledged : (x : Set) (v : Verdict) (a : Bool) → Ok (turns.Acknowledged x) ≡ answer_to t book v a s
+      → (v ≡ accepted) × (a ≡ true) × (x ≡ set_of capacity (undelivered (dash t book) s))
+  told_acknowledged x (Ok _) true e = (refl, refl, (let q : x ≡ set_of capacity (undelivered (dash t book) s) = cc in q))
+  told_acknowledged x (Ok _) false e = absurd (let z : ◌≡◌ {A = ℕ} 0 1 = cc in omega arith)
+  told_acknowledged x (Err y) a e = absurd (let z : ◌≡◌ {A = ℕ} 0 1 = cc in omega arith)
 
   -- The sets that a site proposes, as words.
   abbrev proposed_words : Proposal
   proposed_words = record { nc = set_of capacity s.pending; c = set_of capacity (unacknowledged (dash t book) s) }
 
-  told_proposed : (x : Set) (p : Proposal) (v : Verdict) (a : Bool) → turns.Proposed x p ≡ answer_to t book v a s
-      → (v ≡ Taken) × (a ≡ false) × (x ≡ set_of capacity (undelivered (dash t book) s)) × (p ≡ proposed_words)
-  told_proposed x p Taken true e = absurd (let z : ◌≡◌ {A = ℕ} 0 1 = cc in omega arith)
-  told_proposed x p Taken false e =
+  told_proposed : (x : Set) (p : Proposal) (v : Verdict) (a : Bool) → Ok (turns.Proposed x p) ≡ answer_to t book v a s
+      → (v ≡ accepted) × (a ≡ false) × (x ≡ set_of capacity (undelivered (dash t book) s)) × (p ≡ proposed_words)
+  told_proposed x p (Ok _) true e = absurd (let z : ◌≡◌ {A = ℕ} 0 1 = cc in omega arith)
+  told_proposed x p (Ok _) false e =
       (refl, refl, (let q : x ≡ set_of capacity (undelivered (dash t book) s) = cc in q), (let q : p ≡ proposed_words = cc in q))
-  told_proposed x p (Refused y) a e = absurd (let z : ◌≡◌ {A = ℕ} 0 1 = cc in omega arith)
+  told_proposed x p (Err y) a e = absurd (let z : ◌≡◌ {A = ℕ} 0 1 = cc in omega arith)
 
 -- A turn that is taken and does not acknowledge appends no third entry, and is of a round that the log takes.
-told_entry : (p q x c d : Bool) → verdict (p else Disabled ⨾ q else Disabled ⨾ x || c else ThirdEntry ⨾ x || d else LastRound ⨾ granted) ≡ Taken → x ≡ false
+told_entry : (p q x c d : Bool) → verdict (p else Disabled ⨾ q else Disabled ⨾ x || c else ThirdEntry ⨾ x || d else LastRound ⨾ granted) ≡ accepted → x ≡ false
     → (c ≡ true) × (d ≡ true)
 told_entry false q x c d h e = absurd (let z : ◌≡◌ {A = ℕ} 0 1 = cc in omega arith)
 told_entry true false x c d h e = absurd (let z : ◌≡◌ {A = ℕ} 0 1 = cc in omega arith)
@@ -114,10 +113,10 @@ module _ (t : SiteTable) (bytes rows : List ℕ) (b : Buffers) (i : ℕ) (ready 
   abbrev world : World (dash t book)
   world = world_of t book b
 
-  pub turn_range : t.sites ≤ i → Outcome t book (turn i) b (Refused Range) b
+  pub turn_range : t.sites ≤ i → Outcome t book (turn i) b (Err Range) b
   turn_range h = refused t book b ready.world (turn i) Range (simp (le-ltb i t.sites h)) small
 
-  pub turn_role : i < t.sites → {f : Bool} → f ≡ faulty_of t i → f ≡ true → Outcome t book (turn i) b (Refused Role) b
+  pub turn_role : i < t.sites → {f : Bool} → f ≡ faulty_of t i → f ≡ true → Outcome t book (turn i) b (Err Role) b
   turn_role a ef h = refused t book b ready.world (turn i) Role (let e : faulty_of t i ≡ true = sym ef ∙ h in simp (lt-ltb i t.sites a, e)) small
 
   module _ (inside : i < t.sites) where
@@ -142,12 +141,12 @@ module _ (t : SiteTable) (bytes rows : List ℕ) (b : Buffers) (i : ℕ) (ready 
         subst (λ (s : protocol.Site (dash t book)). in_set (set_of capacity (undelivered (dash t book) s)) ≡ undelivered (dash t book) s) (sym at)
         (undelivered-word t book (site_at b.sites i) part_good part_small)
 
-    known : known_to (length book) (some (undelivered (dash t book) (world.site i))) ≡ true
+    known : known_to (length book) (Some (undelivered (dash t book) (world.site i))) ≡ true
     known =
-        subst (λ (s : protocol.Site (dash t book)). known_to (length book) (some (undelivered (dash t book) s)) ≡ true) (sym at)
+        subst (λ (s : protocol.Site (dash t book)). known_to (length book) (Some (undelivered (dash t book) s)) ≡ true) (sym at)
         (undelivered-known t book (site_at b.sites i) part_good part_small)
 
-    module _ {f : Bool} (ef : f ≡ faulty_of t i) (hf : f ≡ false) {r : Turn} {sites kept : List ℕ} (en : b.entries ≡ kept_entries kept) (ek : Kept t rows b.log kept)
+    module _ {f : Bool} (ef : f ≡ faulty_of t i) (hf : f ≡ false) {r : Result Turn Refusal} {sites kept : List ℕ} (en : b.entries ≡ kept_entries kept) (ek : Kept t rows b.log kept)
         (h : AtSite i (TurnedBy rows kept i r) b.sites sites) where
       turned : Turned t book i world.log (world.site i) (site_at b.sites i) r h.new
       turned =
@@ -160,7 +159,7 @@ module _ (t : SiteTable) (bytes rows : List ℕ) (b : Buffers) (i : ℕ) (ready 
           (λ k. verdict (lt-ltb i t.sites inside k else Range ⨾ correct (dash t book) i else Role ⨾ for_turn (dash t book) i (world.site i) world.log))
           ∙ (λ k. verdict (not ((sym ef ∙ hf) k) else Role ⨾ for_turn (dash t book) i (world.site i) world.log))
 
-      pub turn_refused : (x : Refusal) → r ≡ turns.Refused x → Outcome t book (turn i) b (Refused x) (lent sites b.log b.entries b.sent)
+      pub turn_refused : (x : Refusal) → r ≡ Err x → Outcome t book (turn i) b (Err x) (lent sites b.log b.entries b.sent)
       turn_refused x e =
           let v = told_refused t book (world.site i) x (verdict (for_turn (dash t book) i (world.site i) world.log)) (acknowledges (dash t book) (world.site i)) (sym e ∙ turned.answer) in
           refused_site t book b ready.world (turn i) small i inside h
@@ -176,7 +175,7 @@ module _ (t : SiteTable) (bytes rows : List ℕ) (b : Buffers) (i : ℕ) (ready 
       turned-past = past_at t book b ready.world (turn i) i inside h (past-held t book (omega arith) turned.site)
 
       -- The world with the site as it is after a turn that is taken.
-      put-turned : (a : Bool) → verdict (for_turn (dash t book) i (world.site i) world.log) ≡ Taken → acknowledges (dash t book) (world.site i) ≡ a
+      put-turned : (a : Bool) → verdict (for_turn (dash t book) i (world.site i) world.log) ≡ accepted → acknowledges (dash t book) (world.site i) ≡ a
           → HoldsWorld t book (lent sites b.log b.entries b.sent)
           (put (dash t book) i (pick a (acknowledge (dash t book) (world.site i)) (propose (dash t book) (world.site i))) world)
       put-turned a ev ea =
@@ -191,8 +190,8 @@ module _ (t : SiteTable) (bytes rows : List ℕ) (b : Buffers) (i : ℕ) (ready 
           unread true = position_seen t book b ready.world i inside
           unread false = position_seen t book b ready.world i inside
 
-      module _ (x : Set) (e : r ≡ turns.Acknowledged x) where
-        told : (verdict (for_turn (dash t book) i (world.site i) world.log) ≡ Taken) × (acknowledges (dash t book) (world.site i) ≡ true)
+      module _ (x : Set) (e : r ≡ Ok (turns.Acknowledged x)) where
+        told : (verdict (for_turn (dash t book) i (world.site i) world.log) ≡ accepted) × (acknowledges (dash t book) (world.site i) ≡ true)
             × (x ≡ set_of capacity (undelivered (dash t book) (world.site i)))
         told = told_acknowledged t book (world.site i) x (verdict (for_turn (dash t book) i (world.site i) world.log)) (acknowledges (dash t book) (world.site i)) (sym e ∙ turned.answer)
 
@@ -209,7 +208,7 @@ module _ (t : SiteTable) (bytes rows : List ℕ) (b : Buffers) (i : ℕ) (ready 
 
         pub acknowledged : (k : ℕ) → k ≡ (head_of (site_at b.sites i)).round → {after : List ℕ}
             → sent.Holds after (acknowledged_in b.sent (cell_of i k) x) (one_more i k (in_set x) (acks_of b.sent)) (checks_of b.sent)
-            → Outcome t book (turn i) b Taken (lent sites b.log b.entries after)
+            → Outcome t book (turn i) b accepted (lent sites b.log b.entries after)
         acknowledged k ek {after} s =
             let q : k ≡ (world.site i).round = ek ∙ sym (λ z. (at z).round) in
             let new : sent.Holds after (acknowledged_in b.sent (cell_of i (world.site i).round) (set_of capacity (undelivered (dash t book) (world.site i))))
@@ -233,8 +232,8 @@ module _ (t : SiteTable) (bytes rows : List ℕ) (b : Buffers) (i : ℕ) (ready 
             (checked_in b.sent (cell_of i (world.site i).round) (set_of capacity (undelivered (dash t book) (world.site i))))) told.1))
             turned-past
 
-      module _ (x : Set) (p : Proposal) (e : r ≡ turns.Proposed x p) where
-        proposal_told : (verdict (for_turn (dash t book) i (world.site i) world.log) ≡ Taken) × (acknowledges (dash t book) (world.site i) ≡ false)
+      module _ (x : Set) (p : Proposal) (e : r ≡ Ok (turns.Proposed x p)) where
+        proposal_told : (verdict (for_turn (dash t book) i (world.site i) world.log) ≡ accepted) × (acknowledges (dash t book) (world.site i) ≡ false)
             × (x ≡ set_of capacity (undelivered (dash t book) (world.site i))) × (p ≡ proposed_words t book (world.site i))
         proposal_told = told_proposed t book (world.site i) x p (verdict (for_turn (dash t book) i (world.site i) world.log)) (acknowledges (dash t book) (world.site i)) (sym e ∙ turned.answer)
 
@@ -271,16 +270,16 @@ module _ (t : SiteTable) (bytes rows : List ℕ) (b : Buffers) (i : ℕ) (ready 
             let s = world.site i in
             let q : s.round ≡ (head_of (site_at b.sites i)).round = λ z. (at z).round in
             let l = part_good.head.first in
-            let n : known_to (length book) (some s.pending) ≡ true =
-            subst (λ (y : protocol.Site (dash t book)). known_to (length book) (some y.pending) ≡ true) (sym at) part_good.head.pending in
-            let m : known_to (length book) (some (unacknowledged (dash t book) s)) ≡ true =
-            subst (λ (y : protocol.Site (dash t book)). known_to (length book) (some (unacknowledged (dash t book) y)) ≡ true) (sym at)
+            let n : known_to (length book) (Some s.pending) ≡ true =
+            subst (λ (y : protocol.Site (dash t book)). known_to (length book) (Some y.pending) ≡ true) (sym at) part_good.head.pending in
+            let m : known_to (length book) (Some (unacknowledged (dash t book) s)) ≡ true =
+            subst (λ (y : protocol.Site (dash t book)). known_to (length book) (Some (unacknowledged (dash t book) y)) ≡ true) (sym at)
             (unacknowledged-known t book (site_at b.sites i) part_good part_small) in
             all_five (ltb i t.sites) (leb 1 s.round) (leb s.round last_round) (within_of (set_of capacity s.pending) (length book))
             (within_of (set_of capacity (unacknowledged (dash t book) s)) (length book)) (lt-ltb i t.sites inside) (le-leb 1 s.round (omega arith))
             entry_told.1
-            (ap (λ (y : recovery.Entry). known_to (length book) (some y.nc)) entry_seen ∙ n)
-            (ap (λ (y : recovery.Entry). known_to (length book) (some y.c)) entry_seen ∙ m)
+            (ap (λ (y : recovery.Entry). known_to (length book) (Some y.nc)) entry_seen ∙ n)
+            (ap (λ (y : recovery.Entry). known_to (length book) (Some y.c)) entry_seen ∙ m)
           where
             all_five : (x y z u v : Bool) → x ≡ true → y ≡ true → z ≡ true → u ≡ true → v ≡ true → (x && y && z && u && v) ≡ true
             all_five x y z u v ex ey ez eu ev = λ k. ex k && ey k && ez k && eu k && ev k
@@ -288,9 +287,9 @@ module _ (t : SiteTable) (bytes rows : List ℕ) (b : Buffers) (i : ℕ) (ready 
         pub proposed : (k : ℕ) → k ≡ (head_of (site_at b.sites i)).round → {after log : List ℕ}
             → sent.Holds after (checked_in b.sent (cell_of i k) x) (acks_of b.sent) (checked i k (in_set x) (checks_of b.sent))
             → log ≡ write_entry b.log b.entries (record { site = i; round = k; nc = p.nc; c = p.c })
-            → {n : ℕ} → n ≡ b.entries + 1 → Outcome t book (turn i) b Taken (lent sites log n after)
+            → {n : ℕ} → n ≡ b.entries + 1 → Outcome t book (turn i) b accepted (lent sites log n after)
         proposed k ek {after} {log} s el more =
-            subst (λ (n : ℕ). Outcome t book (turn i) b Taken (lent sites log n after)) (sym more) (
+            subst (λ (n : ℕ). Outcome t book (turn i) b accepted (lent sites log n after)) (sym more) (
             let q : k ≡ (world.site i).round = ek ∙ sym (λ z. (at z).round) in
             let new : sent.Holds after (checked_in b.sent (cell_of i (world.site i).round) (set_of capacity (undelivered (dash t book) (world.site i)))) (acks_of b.sent)
             (checked i (world.site i).round (undelivered (dash t book) (world.site i)) (checks_of b.sent)) =

@@ -1,9 +1,9 @@
 -- The sets of a site in its bytes: as words and back, and within the book.
 -- Assumes nothing.
+use Rattle.std.specs.Prelude.{Some}
 use mathlib.Core.Path.{◌≡◌, refl, ap}
 use mathlib.Core.Bool.{Bool, true, false, ◌&&◌, ◌||◌, not}
 use mathlib.Core.List.{List}
-use mathlib.Core.Option.{some}
 use Prim.Native.Nat.{ℕ, ◌≤◌, ◌<◌}
 use lib.Dec.{ltb}
 use lib.ListN.{length, get_or}
@@ -21,7 +21,7 @@ use Rattle.layout.proofs.Header.{fit}
 use Rattle.world.specs.World.{known_to}
 
 -- A part of a set that is known is known.
-known_part : (c : ℕ) (p q : theory.Set) → known_to c (some p) ≡ true → ((m : ℕ) → p m ≡ false → q m ≡ false) → known_to c (some q) ≡ true
+known_part : (c : ℕ) (p q : theory.Set) → known_to c (Some p) ≡ true → ((m : ℕ) → p m ≡ false → q m ≡ false) → known_to c (Some q) ≡ true
 known_part c p q h k =
     all_of capacity (λ m. not (q m) || ltb m c) (λ m l. go (p m) (q m) (ltb m c) (all_at capacity (λ n. not (p n) || ltb n c) h m l) (k m))
   where
@@ -53,12 +53,12 @@ module _ (t : SiteTable) (book : List Command) (b : List ℕ) (good : Good t.sit
   pending_word = set_back capacity (view t book b).pending (λ m l. has_above 64 (head_of b).pending.bits m (fit b small good.size).pending l)
 
   -- What is undelivered is within the book.
-  pub undelivered-known : known_to (length book) (some (undelivered (dash t book) (view t book b))) ≡ true
+  pub undelivered-known : known_to (length book) (Some (undelivered (dash t book) (view t book b))) ≡ true
   undelivered-known =
       known_part (length book) (view t book b).received (undelivered (dash t book) (view t book b)) good.head.received
       (λ m e. none_left ((view t book b).received m) _ e)
 
-  pub unacknowledged-known : known_to (length book) (some (unacknowledged (dash t book) (view t book b))) ≡ true
+  pub unacknowledged-known : known_to (length book) (Some (unacknowledged (dash t book) (view t book b))) ≡ true
   unacknowledged-known =
       known_part (length book) (view t book b).received (unacknowledged (dash t book) (view t book b)) good.head.received
       (λ m e. none_left ((view t book b).received m) _ e)

@@ -1,7 +1,8 @@
 -- What the moves of a correct site ask of the buffers and promise: a turn, and a log read.
 -- Assumes nothing.
-use Rattle.std.specs.Prelude.{◌≡◌, true, List, ℕ, ◌+◌, ◌*◌, ◌≤◌, length}
-use Rattle.refusals.specs.declared.Verdict.{Verdict}
+use Rattle.std.specs.Prelude.{◌≡◌, true, List, ℕ, ◌+◌, ◌*◌, ◌≤◌, length, Result}
+use Rattle.refusals.specs.declared.Refusal.{Refusal}
+use Rattle.refusals.specs.Refusals.{Verdict}
 use Rattle.table.specs.declared.SiteTable.{SiteTable}
 use Rattle.table.specs.Table.{is_good}
 use Rattle.register.specs.declared.Command.{Command}
@@ -30,7 +31,7 @@ pub record Ready (t : SiteTable) (book rows : List ℕ) (b : Buffers) (u : Step)
   pub acks : (j r : ℕ) → length ((step (dash t (commands_of book)) (world_of t (commands_of book) b) u).acks j r) ≤ max_acknowledgments
 
 -- The turn of site i with the bytes b, by the rows of a book and what is kept of a log.
-abbrev pub TurnedBy : List ℕ → List ℕ → ℕ → Turn → List ℕ → List ℕ → Type 0
+abbrev pub TurnedBy : List ℕ → List ℕ → ℕ → Result Turn Refusal → List ℕ → List ℕ → Type 0
 TurnedBy rows kept i r b after =
     (t : SiteTable) (book log : List ℕ) → rows ≡ conflict_rows book → Kept t rows log kept → Good t.sites (length (commands_of book)) b
     → Turned t (commands_of book) i (log_to log (kept_entries kept)) (view t (commands_of book) b) b r after

@@ -19,7 +19,7 @@ use site::Turn;
 use table::Rules;
 
 // Site i, of these bytes, takes its turn, by the rows of conflicts and what is kept of the log.
-fn turn_by(site: &mut [u8], kept: &[u64], rows: &[u64], i: usize) -> Turn
+fn turn_by(site: &mut [u8], kept: &[u64], rows: &[u64], i: usize) -> Result<Turn, Refusal>
     requires { (length site.old ≡ site_size) × (length kept.now ≡ kept_words) × (length rows.now ≡ capacity) × (i < max_sites) × ((head_of site.old).round < kept_rounds) }
     ensures { TurnedBy rows.now kept.now i result site.old site.new }
 {
@@ -49,21 +49,20 @@ pub fn turn(
     let table = rules.table;
     let i = site as usize;
     if i >= table.sites {
-        return Verdict::Refused(Refusal::Range);
+        return Err(Refusal::Range);
     }
     if table.is_faulty(i) {
-        return Verdict::Refused(Refusal::Role);
+        return Err(Refusal::Role);
     }
     let from = i * Site::SIZE;
     let to = from + Site::SIZE;
     let header = Site::read(&sites[from..to]);
     let round = header.round as usize;
-    let answer = turn_by(&mut sites[from..to], &kept[..], rows, i);
-    match answer {
-        Turn::Refused(refusal) => Verdict::Refused(refusal),
+    let turn = turn_by(&mut sites[from..to], &kept[..], rows, i)?;
+    match turn {
         Turn::Acknowledged(set) => {
             sent::add_acknowledgment(sent, i, round, set);
-            Verdict::Taken
+            Ok(())
         }
         Turn::Proposed { check, entry } => {
             sent::put_check(sent, i, round, check);
@@ -76,7 +75,7 @@ pub fn turn(
                 c: c,
             };
             rounds::append(log, kept, proposed, table, rows);
-            Verdict::Taken
+            Ok(())
         }
     }
 }
@@ -89,10 +88,10 @@ pub fn log_read(sites: &mut [u8], entries: usize, rules: Rules, site: u8) -> Ver
     let table = rules.table;
     let i = site as usize;
     if i >= table.sites {
-        return Verdict::Refused(Refusal::Range);
+        return Err(Refusal::Range);
     }
     if table.is_faulty(i) {
-        return Verdict::Refused(Refusal::Role);
+        return Err(Refusal::Role);
     }
     let from = i * Site::SIZE;
     let to = from + Site::SIZE;

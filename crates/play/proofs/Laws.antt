@@ -1,16 +1,16 @@
 -- Laws of the loop over the steps of a run: what is left of them, from the world that the buffers hold.
 -- Assumes nothing.
 use mathlib.Core.Path.{◌≡◌, refl, sym, ap, subst, ◌∙◌}
+use Rattle.std.specs.Prelude.{Err, None, Ok, Option, Some}
 use mathlib.Core.List.{List, [], ◌∷◌, ◌++◌, append-nil, foldl-append}
 use Prim.Native.Nat.{ℕ, suc, ◌+◌, ◌≤◌, ◌<◌}
 use native.Mathlib.Numerals.{add-one}
 use native.Mathlib.Omega.{arith}
 use lib.ListN.{length, drop}
-use Rattle.refusals.specs.Refusals.{number_of}
+use Rattle.refusals.specs.Refusals.{number_of, accepted}
 use Rattle.refusals.specs.declared.Refusal.{Refusal}
 use Rattle.refusals.specs.declared.Refusal.TheVariants.{Form}
-use Rattle.refusals.specs.declared.Verdict.{Verdict}
-use Rattle.refusals.specs.declared.Verdict.TheVariants.{Taken, Refused}
+use Rattle.refusals.specs.Refusals.{Verdict}
 use Rattle.table.specs.declared.SiteTable.{SiteTable}
 use Rattle.register.specs.declared.Command.{Command}
 use Rattle.protocol.specs.World as protocol
@@ -20,8 +20,6 @@ use Rattle.print.specs.Print.{Wrote}
 use Rattle.wire.proofs.Laws.{splice-none}
 use Rattle.print.proofs.Laws.{Left, left_all, left_more, left_none, decimal_short}
 use Rattle.steps.specs.declared.Step.{Step}
-use Rattle.steps.specs.declared.Reading.{Reading}
-use Rattle.steps.specs.declared.Reading.TheVariants.{Whole, Unreadable}
 use Rattle.steps.specs.Steps.{size_of, read_step, steps_of}
 use Rattle.steps.specs.Meaning.{meaning}
 use Rattle.steps.proofs.Walk.{more_at, bad_at, end_at}
@@ -42,11 +40,11 @@ pub line_short : (step refusal : ℕ) → step < 100000 → refusal < 100 → le
 line_short step refusal a b = omega (arith, step-length step refusal, decimal_short 4 step a, decimal_short 1 refusal b)
 
 -- No line for a step that is taken.
-pub silent : (s : List ℕ) (at number : ℕ) {v : Verdict} → v ≡ Taken → Wrote s at s at (report number v)
+pub silent : (s : List ℕ) (at number : ℕ) {v : Verdict} → v ≡ accepted → Wrote s at s at (report number v)
 silent s at number e = subst (λ (v : Verdict). Wrote s at s at (report number v)) (sym e) (record { end = omega arith; bytes = sym (splice-none s at) })
 
 pub loud : (number : ℕ) (r : Refusal) {s after : List ℕ} {at past code : ℕ} → code ≡ number_of r → Wrote after past s at (step_line number code)
-    → Wrote after past s at (report number (Refused r))
+    → Wrote after past s at (report number (Err r))
 loud number r {s} {after} {at} {past} ec w = subst (λ (k : ℕ). Wrote after past s at (step_line number k)) ec w
 
 pub reported : (number : ℕ) {s after : List ℕ} {at past : ℕ} {u v : Verdict} → u ≡ v → Wrote after past s at (report number v) → Wrote after past s at (report number u)
@@ -86,7 +84,7 @@ module _ (t : SiteTable) (book : List Command) where
     now_world = p.world.says
 
     -- One step more.
-    pub playing_more : {u : Step} {next : ℕ} {v : Verdict} {b' : Buffers} {out' : List ℕ} {end' : ℕ} → end ≤ length out → read_step (drop at steps) ≡ Whole u → next ≡ at + size_of u
+    pub playing_more : {u : Step} {next : ℕ} {v : Verdict} {b' : Buffers} {out' : List ℕ} {end' : ℕ} → end ≤ length out → read_step (drop at steps) ≡ Some u → next ≡ at + size_of u
         → Outcome t book (meaning u) b v b' → Wrote out' end' out end (report number v) → Playing steps before from earlier b' out' end' next (number + 1)
     playing_more {u} {next} {v} {b'} {out'} {end'} h e q o w =
         record {
@@ -97,7 +95,7 @@ module _ (t : SiteTable) (book : List Command) where
               (subst (λ (x : World (dash t book)). Left out' end' (step_lines t book (suc number) x rest) before from whole) (sym grown)
               (left_more h w
               (subst (λ (x : Verdict). Left out end (report number x ++ step_lines t book (suc number) (step (dash t book) past (meaning u)) rest) before from whole) (sym judged)
-              (subst (λ (rs : List Reading). Left out end (step_lines t book number past rs) before from whole) left p.lines))));
+              (subst (λ (rs : List (Option Step)). Left out end (step_lines t book number past rs) before from whole) left p.lines))));
           after =
               ap (λ (x : World (dash t book)). world_after t book x rest) grown
               ∙ ap (world_after t book past) (sym left)
@@ -108,16 +106,16 @@ module _ (t : SiteTable) (book : List Command) where
         past : World (dash t book)
         past = play (dash t book) (start (dash t book)) p.past
 
-        rest : List Reading
+        rest : List (Option Step)
         rest = steps_of (drop next steps)
 
         whole : List ℕ
         whole = step_lines t book 1 (start (dash t book)) (steps_of steps)
 
-        left : steps_of (drop at steps) ≡ Whole u ∷ rest
+        left : steps_of (drop at steps) ≡ Some u ∷ rest
         left =
             let same : size_of u ≡ size_of u = refl in
-            more_at steps at e same ∙ ap (λ (k : ℕ). Whole u ∷ steps_of (drop k steps)) (sym q)
+            more_at steps at e same ∙ ap (λ (k : ℕ). Some u ∷ steps_of (drop k steps)) (sym q)
 
         grown : play (dash t book) (start (dash t book)) (p.past ++ (meaning u ∷ [])) ≡ step (dash t book) past (meaning u)
         grown = foldl-append (step (dash t book)) (start (dash t book)) p.past (meaning u ∷ [])
@@ -126,17 +124,17 @@ module _ (t : SiteTable) (book : List Command) where
         judged = o.verdict ∙ ap (λ (x : World (dash t book)). judge (dash t book) x (meaning u)) now_world
 
     -- A step that cannot be read is the last.
-    pub playing_last : {next : ℕ} {out' : List ℕ} {end' : ℕ} → end ≤ length out → at < length steps → read_step (drop at steps) ≡ Unreadable → next ≡ length steps
-        → Wrote out' end' out end (report number (Refused Form)) → Playing steps before from earlier b out' end' next (number + 1)
+    pub playing_last : {next : ℕ} {out' : List ℕ} {end' : ℕ} → end ≤ length out → at < length steps → read_step (drop at steps) ≡ None → next ≡ length steps
+        → Wrote out' end' out end (report number (Err Form)) → Playing steps before from earlier b out' end' next (number + 1)
     playing_last {next} {out'} {end'} h g e q w =
         record {
           past = p.past;
           world = p.world;
           lines =
-              subst (λ (rs : List Reading). Left out' end' (step_lines t book (number + 1) past rs) before from whole) (sym none)
+              subst (λ (rs : List (Option Step)). Left out' end' (step_lines t book (number + 1) past rs) before from whole) (sym none)
               (left_more h w
-              (subst (λ (l : List ℕ). Left out end l before from whole) (sym (append-nil (report number (Refused Form))))
-              (subst (λ (rs : List Reading). Left out end (step_lines t book number past rs) before from whole) left p.lines)));
+              (subst (λ (l : List ℕ). Left out end l before from whole) (sym (append-nil (report number (Err Form))))
+              (subst (λ (rs : List (Option Step)). Left out end (step_lines t book number past rs) before from whole) left p.lines)));
           after = ap (world_after t book past) none ∙ ap (world_after t book past) (sym left) ∙ p.after;
           kept = p.kept;
         }
@@ -147,7 +145,7 @@ module _ (t : SiteTable) (book : List Command) where
         whole : List ℕ
         whole = step_lines t book 1 (start (dash t book)) (steps_of steps)
 
-        left : steps_of (drop at steps) ≡ Unreadable ∷ []
+        left : steps_of (drop at steps) ≡ None ∷ []
         left = bad_at steps at g e
 
         none : steps_of (drop next steps) ≡ []
@@ -157,7 +155,7 @@ module _ (t : SiteTable) (book : List Command) where
     pub playing_end : length steps ≤ at → end ≤ from + lines_room → PlayedAll t book steps before out from end earlier b.sites b.log b.sent
     playing_end g r =
         record {
-          lines = left_none (subst (λ (rs : List Reading). Left out end (step_lines t book number past rs) before from whole) left p.lines);
+          lines = left_none (subst (λ (rs : List (Option Step)). Left out end (step_lines t book number past rs) before from whole) left p.lines);
           world = last_held steps (subst (λ (x : World (dash t book)). HoldsWorld t book b x) (ap (world_after t book past) (sym left) ∙ p.after) p.world);
           room = r;
           past = p.kept;

@@ -1,6 +1,7 @@
 -- What playing the steps of a run promises: the lines written, and the world that the buffers hold.
 -- Assumes nothing.
-use Rattle.std.specs.Prelude.{◌≡◌, true, List, ℕ, ◌+◌, ◌*◌, ◌/◌, ◌≤◌, ◌<◌, length}
+use Rattle.std.specs.Prelude.{◌≡◌, true, List, ℕ, ◌+◌, ◌*◌, ◌/◌, ◌≤◌, ◌<◌, length, Option}
+use Rattle.steps.specs.declared.Step.{Step}
 use Rattle.table.specs.declared.SiteTable.{SiteTable}
 use Rattle.table.specs.declared.Rules.{Rules}
 use Rattle.table.specs.Table.{max_sites, is_good}
@@ -10,7 +11,6 @@ use Rattle.conflicts.specs.Conflicts.{Noted}
 use Rattle.protocol.specs.World.{World, start}
 use Rattle.system.specs.Dash.{dash, last_round}
 use Rattle.print.specs.Print.{Wrote}
-use Rattle.steps.specs.declared.Reading.{Reading}
 use Rattle.steps.specs.Steps.{steps_of}
 use Rattle.runs.specs.Run.{max_run, step_lines, world_after}
 use Rattle.entries.specs.Entries.{entry_size}
@@ -39,7 +39,7 @@ pub record Playable (rules : Rules) (book words steps out : List ℕ) (from : �
   pub room : from + lines_room ≤ length out
   pub world : HoldsWorld rules.table (commands_of book) b (start (dash rules.table (commands_of book)))
 
-module _ (t : SiteTable) (book : List Command) (steps : List Reading) where
+module _ (t : SiteTable) (book : List Command) (steps : List (Option Step)) where
   -- The world after the steps of a run.
   abbrev pub last_world : World (dash t book)
   last_world = world_after t book (start (dash t book)) steps

@@ -1,10 +1,9 @@
 // The steps of a run, played one after another on lent buffers, with a line for each refused one.
 #![tactic(auto)]
 
-ghost use Rattle.std.specs.Prelude.{◌+◌, ◌≤◌, ◌<◌, length};
+ghost use Rattle.std.specs.Prelude.{◌+◌, ◌≤◌, ◌<◌, length, Err};
 ghost use Rattle.commands.specs.Book.{commands_of};
 ghost use Rattle.conflicts.specs.Conflicts.{rows_in};
-ghost use Rattle.refusals.specs.declared.Verdict.TheVariants.{Refused};
 ghost use Rattle.print.specs.Print.{Wrote};
 ghost use Rattle.runs.specs.Run as runs;
 ghost use Rattle.rounds.specs.Rounds.{kept_entries, Kept};
@@ -12,15 +11,14 @@ ghost use Rattle.world.specs.Parts.{lent};
 ghost use Rattle.play.specs.Played.{line_room, Playable, PlayedAll};
 
 use refusals::{Refusal, Verdict};
-use steps::Reading;
 use table::Rules;
 
 // The line of a refused step is written.
 fn put_refusal(out: &mut [u8], at: usize, number: usize, refusal: Refusal) -> usize
     requires { (at + line_room ≤ length out.old) × (number < 100000) }
-    ensures { Wrote out.new result out.old at (runs.report number (Refused refusal)) × (result ≤ at + line_room) }
+    ensures { Wrote out.new result out.old at (runs.report number (Err refusal)) × (result ≤ at + line_room) }
 {
-    let cause = refusals::number(refusal) as usize;
+    let cause = u32::from(refusal) as usize;
     lines::put_step_line(out, at, number, cause)
 }
 
@@ -29,10 +27,10 @@ fn report(out: &mut [u8], at: usize, number: usize, verdict: Verdict) -> usize
     requires { (at + line_room ≤ length out.old) × (number < 100000) }
     ensures { Wrote out.new result out.old at (runs.report number verdict) × (result ≤ at + line_room) }
 {
-    let Verdict::Refused(refusal) = verdict else {
-        return at;
-    };
-    put_refusal(out, at, number, refusal)
+    match verdict {
+        Ok(()) => at,
+        Err(refusal) => put_refusal(out, at, number, refusal),
+    }
 }
 
 // The steps are played from the start of a run, with words to keep what the log says. The answer is the position after the last line.
@@ -58,8 +56,7 @@ fn play_on(
     let mut at: usize = 0;
     let mut number: usize = 1;
     while at < steps.len() {
-        let reading = steps::read_step(steps, at);
-        let Reading::Whole(step) = reading else {
+        let Some(step) = steps::read_step(steps, at) else {
             return put_refusal(out, end, number, Refusal::Form);
         };
         let size = steps::size(step);

@@ -1,10 +1,9 @@
 -- NC rests on a majority of the valid sets: it is free of conflicts, and NC and C hold no command that no valid set has.
 -- Rests on the laws of the decision and the quorum lemma.
-use Rattle.std.specs.Prelude.{◌≡◌, Bool, ◌&&◌, ◌||◌, not, ℕ, ◌*◌, ◌≤◌, ◌<◌}
+use Rattle.std.specs.Prelude.{◌≡◌, Bool, ◌&&◌, ◌||◌, not, ℕ, ◌*◌, ◌≤◌, ◌<◌, Some}
 use Rattle.std.proofs.Math.Path.{refl}
 use Rattle.std.proofs.Common.{⊎_elim, arith}
 use Rattle.std.proofs.Math.Bool.{true, false}
-use Rattle.std.proofs.Math.Option.{some}
 use borrow.Author.Tests.{leb-true}
 use Rattle.theory.specs.Sets.{◌∪◌, count}
 use Rattle.theory.specs.Counting.{left, right, true_or, either, never, any_at, count_mono, count-some, count-sum}
@@ -24,7 +23,7 @@ module _ (S : System) where
   nc_valid excluded m h = h
 
   -- Two commands in the NC of a source that is valid in a decision do not conflict.
-  nc_pair : (r : ℕ) (l : Log) (d : Tally) → decide S r l ≡ some d → (j a b : ℕ) → a < commands → b < commands
+  nc_pair : (r : ℕ) (l : Log) (d : Tally) → decide S r l ≡ Some d → (j a b : ℕ) → a < commands → b < commands
       → nc_of (d j) a ≡ true → nc_of (d j) b ≡ true → machine.conflict a b ≡ false
   nc_pair r l d h j a b la lb = go (d j) (decided_backed S r l d h j)
     where
@@ -38,7 +37,7 @@ module _ (S : System) where
   nc_majority d m h = omega (arith, leb-true)
 
   -- Two majorities of the valid sources have one in common, so no two commands of NC conflict.
-  pub nc_free : n_chk < 2 * majority → (r : ℕ) (l : Log) (d : Tally) → decide S r l ≡ some d → free S (nc_set S d) ≡ true
+  pub nc_free : n_chk < 2 * majority → (r : ℕ) (l : Log) (d : Tally) → decide S r l ≡ Some d → free S (nc_set S d) ≡ true
   nc_free q r l d h = free_of S (nc_set S d) pair
     where
       pair : (a b : ℕ) → a < commands → b < commands → nc_set S d a ≡ true → nc_set S d b ≡ true → machine.conflict a b ≡ false

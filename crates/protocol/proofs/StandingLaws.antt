@@ -1,6 +1,6 @@
 -- What the standing of a source says of the log: a valid source has exactly one entry of the round, and it is free of conflicts.
 -- Rests on Recovery.
-use Rattle.std.specs.Prelude.{◌≡◌, Bool, true, false, ℕ, ◌+◌, eqb}
+use Rattle.std.specs.Prelude.{◌≡◌, Bool, true, false, ℕ, ◌+◌, eqb, Some}
 use Rattle.std.proofs.Math.Path.{refl, ap}
 use Rattle.std.proofs.Common.{◌∙◌, arith, eq-eqb}
 use mathlib.Core.List.{[], ◌∷◌, ◌++◌}
@@ -11,7 +11,6 @@ use Rattle.protocol.specs.Recovery.{Entry, Log, Standing, absent, valid, exclude
 use Rattle.protocol.specs.StandingLaws.{logged_more, logged_last, entries-more, Backing, tally, tally_keeps, Counts, Backed, decided}
 use Rattle.std.proofs.Math.Path.{subst}
 use Rattle.std.proofs.Common.{sym}
-use Rattle.std.proofs.Math.Option.{some}
 use Rattle.theory.specs.Sets.{Set}
 use Rattle.protocol.specs.Recovery.{Tally, decide}
 
@@ -63,7 +62,7 @@ module _ (S : System) where
       tally_keeps S (λ l s. Backed S j r l s) j r (λ l e s ej er h. backed_new j r l e s ej er) (λ l e s no h. backed_old j r l (e ∷ []) s h) tt l
 
   -- A source that is valid in a decision has an entry of the round in the log, with those sets, and no two commands of its NC conflict.
-  pub decided_backed : (r : ℕ) (l : Log) (d : Tally) → decide S r l ≡ some d → (j : ℕ) → Backed S j r l (d j)
+  pub decided_backed : (r : ℕ) (l : Log) (d : Tally) → decide S r l ≡ Some d → (j : ℕ) → Backed S j r l (d j)
   decided_backed r l d h j =
       let k = decided S r l d h in
       subst (λ (x : Log). Backed S j r x (d j)) k.whole

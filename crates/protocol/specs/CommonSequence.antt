@@ -1,8 +1,7 @@
 -- Demand 3 as a statement: what document 01's section "The common sequence" says of a list of steps and the world after it.
 -- Assumes nothing.
-use Rattle.std.specs.Prelude.{◌≡◌, true, ◌&&◌, ℕ, suc, ◌<◌, eqb}
+use Rattle.std.specs.Prelude.{◌≡◌, true, ◌&&◌, ℕ, suc, ◌<◌, eqb, Some}
 use mathlib.Core.List.{List, [], ◌∷◌, ◌++◌, foldl, map}
-use Rattle.std.proofs.Math.Option.{some}
 use Rattle.refusals.specs.Refusals.{is_taken}
 use Rattle.theory.specs.Sets.{Set, ◌∖◌, pick, any, members}
 use Rattle.theory.specs.Lists.{contents, distinct, before, sift}
@@ -61,7 +60,7 @@ module _ (S : System) where
         (a b : ℕ) → machine.conflict a b ≡ true → before a b sequence ≡ true → contents delivers b ≡ true → before a b delivers ≡ true
     -- its answers are those of the whole sequence from the initial state
     pub answers :
-        map (λ d. some d.answer) site.ledger.deliveries
+        map (λ d. Some d.answer) site.ledger.deliveries
         ≡ map (λ m. answer_in machine machine.initial sequence m) delivers
     -- its state is that of its own commands in the order of the sequence
     pub state : site.ledger.state ≡ run machine machine.initial (sift (contents delivers) sequence)

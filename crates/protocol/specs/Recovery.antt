@@ -1,7 +1,6 @@
 -- The recovery consensus of 004 (algorithm C_absign): log entries, the standing of their sources, and the decision of a round.
 -- Assumes nothing.
-use Rattle.std.specs.Prelude.{Bool, true, false, ◌&&◌, ◌||◌, List, [], ◌∷◌, ℕ, ◌+◌, eqb, leb}
-use Rattle.std.proofs.Math.Option.{Option, none, some}
+use Rattle.std.specs.Prelude.{Bool, true, false, ◌&&◌, ◌||◌, List, [], ◌∷◌, ℕ, ◌+◌, eqb, leb, None, Option, Some}
 use Rattle.theory.specs.Sets.{Set, ∅, ◌∖◌, pick, one, any, count}
 use Rattle.protocol.specs.System.{System, free}
 
@@ -68,8 +67,8 @@ module _ (S : System) where
 
   -- The first entry after which nChk sources are valid decides (004, line 3); later entries do not count.
   unfoldable pub decide_from : ℕ → Tally → Log → Option Tally
-  decide_from r t [] = none
-  decide_from r t (e ∷ l) = pick (eqb (valid_count (add r t e)) n_chk) (some (add r t e)) (decide_from r (add r t e) l)
+  decide_from r t [] = None
+  decide_from r t (e ∷ l) = pick (eqb (valid_count (add r t e)) n_chk) (Some (add r t e)) (decide_from r (add r t e) l)
 
   -- The standing at the entry that decides round r; none where the log does not decide it.
   abbrev pub decide : ℕ → Log → Option Tally

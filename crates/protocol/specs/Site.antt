@@ -1,8 +1,7 @@
 -- One site of algorithm PGB (004, section 4): what it holds, what each step makes of it, and when a step is enabled.
 -- Assumes nothing.
-use Rattle.std.specs.Prelude.{Bool, true, false, ◌&&◌, ◌||◌, not, ℕ, suc, ◌+◌, eqb, leb, ltb, length, take}
+use Rattle.std.specs.Prelude.{Bool, true, false, ◌&&◌, ◌||◌, not, ℕ, suc, ◌+◌, eqb, leb, ltb, length, take, None, Option, Some}
 use mathlib.Core.List.{List, [], ◌∷◌, ◌++◌, foldl}
-use Rattle.std.proofs.Math.Option.{Option, none, some}
 use Rattle.refusals.specs.declared.Refusal.TheVariants.{Disabled, ThirdEntry, LastRound, Full}
 use Rattle.theory.specs.Sets.{Set, ∅, only, ◌∪◌, ◌∖◌, any, count, members}
 use Rattle.theory.specs.Lists.{nth}
@@ -29,12 +28,12 @@ is_waiting acknowledging = false
 is_waiting (waiting p) = true
 
 abbrev pub is_some : {A : Type 0} → Option A → Bool
-is_some none = false
-is_some (some a) = true
+is_some None = false
+is_some (Some a) = true
 
 abbrev pub tally_or : Option Tally → Tally
-tally_or none = nobody
-tally_or (some t) = t
+tally_or None = nobody
+tally_or (Some t) = t
 
 module _ (S : System) where
   open S use {machine, commands, sites, n_ack, rounds}
@@ -214,13 +213,13 @@ module _ (S : System) where
 
   -- The next entry, where there is one, is in range.
   abbrev pub next_in_range : Option Entry → Bool
-  next_in_range none = true
-  next_in_range (some e) = entry_in_range e
+  next_in_range None = true
+  next_in_range (Some e) = entry_in_range e
 
   -- The next entry is no third of its site and round among the entries before it.
   abbrev pub no_third : Log → Option Entry → Bool
-  no_third before none = true
-  no_third before (some e) = ltb (entries e.site e.round before) 2
+  no_third before None = true
+  no_third before (Some e) = ltb (entries e.site e.round before) 2
 
   abbrev pub next : Site → Log → Option Entry
   next s log = nth log s.position

@@ -1,20 +1,19 @@
 -- Entries of a log, and the standing of a source after it, entry by entry. What it says of the log is proved in proofs/StandingLaws.antt.
 -- Rests on Recovery.
-use Rattle.std.specs.Prelude.{◌≡◌, Bool, true, false, ◌&&◌, ◌⊎◌, ℕ, ◌+◌, ◌≤◌, eqb}
+use Rattle.std.specs.Prelude.{◌≡◌, Bool, true, false, ◌&&◌, ◌⊎◌, ℕ, ◌+◌, ◌≤◌, eqb, None, Option, Some}
 use Rattle.std.proofs.Math.Path.{refl, ap, subst}
 use Rattle.std.proofs.Common.{sym, ◌∙◌, inl, inr, arith, eqb-true}
 use mathlib.Core.List.{[], ◌∷◌, ◌++◌, foldl, append_assoc, append-nil}
-use Rattle.std.proofs.Math.Option.{Option, none, some}
 use Rattle.theory.specs.Sets.{Set, pick, one}
 use Rattle.theory.specs.Counting.{left, right}
 use Rattle.protocol.specs.System.{System, free}
 use Rattle.protocol.specs.Recovery.{Entry, Log, Standing, absent, valid, excluded, Tally, nobody, entries, after_entry, add, valid_count, decide_from, decide}
 
 -- Two values of an option that is some are the same.
-pub same_some : {A : Type 0} {a b : A} → some a ≡ some b → a ≡ b
+pub same_some : {A : Type 0} {a b : A} → Some a ≡ Some b → a ≡ b
 same_some e = cc
 
-pub none-some : {A B : Type 0} {a : A} → ◌≡◌ {A = Option A} none (some a) → B
+pub none-some : {A B : Type 0} {a : A} → ◌≡◌ {A = Option A} None (Some a) → B
 none-some e = absurd (let z : ◌≡◌ {A = ℕ} 0 1 = cc in omega arith)
 
 -- An entry stands in a log.
@@ -104,7 +103,7 @@ module _ (S : System) where
     pub whole : part ++ rest ≡ l
     pub standing : d ≡ tally r part
 
-  decided_from : (r : ℕ) (l more : Log) (t d : Tally) → t ≡ tally r l → decide_from S r t more ≡ some d → Decided r (l ++ more) d
+  decided_from : (r : ℕ) (l more : Log) (t d : Tally) → t ≡ tally r l → decide_from S r t more ≡ Some d → Decided r (l ++ more) d
   unfolding decide_from
   decided_from r l [] t d e h = none-some h
   decided_from r l (x ∷ more) t d e h =
@@ -118,10 +117,10 @@ module _ (S : System) where
       step : add S r t x ≡ tally r (l ++ (x ∷ []))
       step = ap (λ (t : Tally). add S r t x) e ∙ sym (fold_more nobody l)
 
-      go : (b : Bool) → pick b (some (add S r t x)) (decide_from S r (add S r t x) more) ≡ some d
-          → (decide_from S r (add S r t x) more ≡ some d → Decided r (l ++ (x ∷ more)) d) → Decided r (l ++ (x ∷ more)) d
+      go : (b : Bool) → pick b (Some (add S r t x)) (decide_from S r (add S r t x) more) ≡ Some d
+          → (decide_from S r (add S r t x) more ≡ Some d → Decided r (l ++ (x ∷ more)) d) → Decided r (l ++ (x ∷ more)) d
       go true h ih = record { part = l ++ (x ∷ []); rest = more; whole = append_assoc l (x ∷ []) more; standing = sym (same_some h) ∙ step }
       go false h ih = ih h
 
-  pub decided : (r : ℕ) (l : Log) (d : Tally) → decide S r l ≡ some d → Decided r l d
+  pub decided : (r : ℕ) (l : Log) (d : Tally) → decide S r l ≡ Some d → Decided r l d
   decided r l d h = decided_from r [] l nobody d refl h

@@ -1,11 +1,10 @@
 -- How a fact about the world is carried through every list of steps.
 -- Rests on the protocol's definitions.
-use Rattle.std.specs.Prelude.{◌≡◌, refl, Bool, true, false, not, List, [], ◌∷◌, ℕ, eqb}
+use Rattle.std.specs.Prelude.{◌≡◌, refl, Bool, true, false, not, List, [], ◌∷◌, ℕ, eqb, Err, Ok}
 use Rattle.std.proofs.Common.{sym, subst, arith, eqb-true}
-use Rattle.refusals.specs.Refusals.{settled}
+use Rattle.refusals.specs.Refusals.{settled, accepted}
 use Rattle.refusals.specs.declared.Refusal.{Refusal}
-use Rattle.refusals.specs.declared.Verdict.{Verdict}
-use Rattle.refusals.specs.declared.Verdict.TheVariants.{Taken, Refused}
+use Rattle.refusals.specs.Refusals.{Verdict}
 use Rattle.theory.specs.Sets.{pick}
 use Rattle.protocol.specs.System.{System, Demands, granted, ◌else◌⨾◌, verdict}
 use Rattle.protocol.specs.Site.{Site}
@@ -16,10 +15,10 @@ abbrev pub Met : Demands → Type 0
 Met granted = Unit {0}
 Met (b else r ⨾ ds) = (b ≡ true) × Met ds
 
-pub refused_taken : {A : Type 0} {r : Refusal} → Refused r ≡ Taken → A
+pub refused_taken : {A : Type 0} {r : Refusal} → Err r ≡ accepted → A
 refused_taken e = absurd (let z : ◌≡◌ {A = ℕ} 0 1 = cc in omega arith)
 
-pub met : (ds : Demands) → verdict ds ≡ Taken → Met ds
+pub met : (ds : Demands) → verdict ds ≡ accepted → Met ds
 met granted h = tt
 met (true else r ⨾ ds) h = (refl, met ds h)
 met (false else r ⨾ ds) h = refused_taken h
@@ -36,8 +35,8 @@ module _ (S : System) where
     step_keeps w t v = go (judge S w t) refl
       where
         go : (d : Verdict) → judge S w t ≡ d → P (settled d (change S w t) w)
-        go Taken e = keeps w t v (met (demands S w t) e)
-        go (Refused r) e = v
+        go (Ok _) e = keeps w t v (met (demands S w t) e)
+        go (Err r) e = v
 
     pub play_keeps : (w : World S) (l : List Step) → P w → P (play S w l)
     play_keeps w [] v = v

@@ -1,9 +1,8 @@
 -- What the protocol is played over: a machine, its commands, the sites and the quorum sizes. And how a step is judged.
 -- Assumes nothing.
-use Rattle.std.specs.Prelude.{Bool, true, false, ◌&&◌, ◌||◌, not, ℕ, ltb}
+use Rattle.std.specs.Prelude.{Bool, true, false, ◌&&◌, ◌||◌, not, ℕ, ltb, Err, Ok}
 use Rattle.refusals.specs.declared.Refusal.{Refusal}
-use Rattle.refusals.specs.declared.Verdict.{Verdict}
-use Rattle.refusals.specs.declared.Verdict.TheVariants.{Taken, Refused}
+use Rattle.refusals.specs.Refusals.{Verdict, accepted}
 use Rattle.theory.specs.Sets.{Set, all}
 use Rattle.theory.specs.Machine.{Machine}
 
@@ -30,9 +29,9 @@ pub data Demands : Type 0 where
 
 -- The first demand that does not hold refuses the step.
 abbrev pub verdict : Demands → Verdict
-verdict granted = Taken
+verdict granted = accepted
 verdict (true else r ⨾ ds) = verdict ds
-verdict (false else r ⨾ ds) = Refused r
+verdict (false else r ⨾ ds) = Err r
 
 module _ (S : System) where
   open S use {machine, commands, capacity, faulty}

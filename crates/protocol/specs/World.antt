@@ -1,11 +1,10 @@
 -- The world of all sites: the ten steps 01 to 0A of document 01, their refusals, and play over a list of steps.
 -- Assumes nothing.
-use Rattle.std.specs.Prelude.{◌&&◌, ℕ, suc, pred, eqb, leb, ltb}
+use Rattle.std.specs.Prelude.{◌&&◌, ℕ, suc, pred, eqb, leb, ltb, None, Option, Some}
 use mathlib.Core.List.{List, [], ◌∷◌, ◌++◌, foldl}
-use Rattle.std.proofs.Math.Option.{Option, none, some}
 use Rattle.refusals.specs.Refusals.{settled}
 use Rattle.refusals.specs.declared.Refusal.TheVariants.{Range, Role, Disabled, ThirdEntry}
-use Rattle.refusals.specs.declared.Verdict.{Verdict}
+use Rattle.refusals.specs.Refusals.{Verdict}
 use Rattle.theory.specs.Sets.{Set, ∅, only, pick}
 use Rattle.theory.specs.Lists.{nth}
 use Rattle.protocol.specs.System.{System, Demands, granted, ◌else◌⨾◌, verdict, correct, known}
@@ -37,8 +36,8 @@ pub data Step : Type 0 where
 
 -- A message, or the empty set where there is none.
 abbrev pub or_empty : Option Set → Set
-or_empty none = ∅
-or_empty (some x) = x
+or_empty None = ∅
+or_empty (Some x) = x
 
 module _ (S : System) where
   open S use {commands, capacity, sites, faulty, rounds}
@@ -53,7 +52,7 @@ module _ (S : System) where
 
   -- The start of a run.
   abbrev pub start : World
-  start = record { site = λ i. fresh S; log = []; acks = λ j r. []; checks = λ j r. none }
+  start = record { site = λ i. fresh S; log = []; acks = λ j r. []; checks = λ j r. None }
 
   -- The world with another state of site i.
   abbrev pub put : ℕ → Site S → World → World
@@ -75,7 +74,7 @@ module _ (S : System) where
   -- 004, line 17.
   abbrev pub send_check : ℕ → ℕ → Set → World → World
   send_check i k x w =
-      record { site = w.site; log = w.log; acks = w.acks; checks = λ j r. pick (eqb j i && eqb r k) (some x) (w.checks j r) }
+      record { site = w.site; log = w.log; acks = w.acks; checks = λ j r. pick (eqb j i && eqb r k) (Some x) (w.checks j r) }
 
   -- The entry that a proposing site appends (004, line 18).
   abbrev pub entry_of : ℕ → Site S → Entry

@@ -1,9 +1,9 @@
 -- The decision found by the code is the protocol's, by the rows and at the dash register; and its sets are the protocol's sets.
 -- Assumes nothing.
 use mathlib.Core.Path.{◌≡◌, refl, sym, ap, ◌∙◌, subst}
+use Rattle.std.specs.Prelude.{None, Some, Option}
 use mathlib.Core.Bool.{Bool, true, false, ◌&&◌, ◌||◌, not}
 use mathlib.Core.List.{List}
-use mathlib.Core.Option.{Option, none, some}
 use Prim.Native.Nat.{ℕ, zero, suc, ◌≤◌, ◌<◌}
 use native.Mathlib.Omega.{arith}
 use lib.Dec.{leb}
@@ -28,7 +28,6 @@ use Rattle.standing.proofs.Tallies.{tally_to}
 use Rattle.standing.proofs.Steps.{decided_after}
 use Rattle.standing.proofs.Agreement.{Marks, Agrees, agrees}
 use Rattle.recovery.specs.declared.Sets.{Sets}
-use Rattle.recovery.specs.declared.Decision.TheVariants.{Undecided, Decided}
 use Rattle.recovery.specs.declared.Levels.{Levels}
 use Rattle.recovery.specs.Decisions.{sets_of, decision_of, nc_count, in_any, at_least, levels_of, level_of, found_sets}
 use Rattle.recovery.proofs.Counts.{set_is, set_of_ext}
@@ -93,9 +92,9 @@ module _ (t : SiteTable) (rows : List ℕ) (r : ℕ) (b : List ℕ) where
     agreed : Agrees t rows r b k s
     agreed = subst (λ (x : Standing). Agrees t rows r b k x) (sym es) (agrees t rows r b good k)
 
-    pub not_decided : not s.decided ≡ true → Undecided ≡ decision_of (rows_system t rows) (decide (rows_system t rows) r (log_to b k))
+    pub not_decided : not s.decided ≡ true → None ≡ decision_of (rows_system t rows) (decide (rows_system t rows) r (log_to b k))
     not_decided h =
-        ap (λ (x : Bool). decision_of (rows_system t rows) (pick x (some (tally_to (rows_system t rows) r b s.entries)) none)) (sym (not-true s.decided h))
+        ap (λ (x : Bool). decision_of (rows_system t rows) (pick x (Some (tally_to (rows_system t rows) r b s.entries)) None)) (sym (not-true s.decided h))
         ∙ ap (decision_of (rows_system t rows)) (sym agreed.decides)
 
     -- The deciding entry is among those read.
@@ -109,20 +108,20 @@ module _ (t : SiteTable) (rows : List ℕ) (r : ℕ) (b : List ℕ) where
         (decided_after t rows r b from apart k (sym (ap (λ (x : Standing). x.decided) es) ∙ not-false s.decided h))
 
     pub is_decided : {sets : Sets} → not s.decided ≡ false → sets ≡ found_sets t b r s.valid s.entries
-        → Decided sets ≡ decision_of (rows_system t rows) (decide (rows_system t rows) r (log_to b k))
+        → Some sets ≡ decision_of (rows_system t rows) (decide (rows_system t rows) r (log_to b k))
     is_decided h ef =
         let d = not-false s.decided h in
         let l = good_limits t good in
         let marks = subst (λ (x : Bool). Marks t rows s (tally_to (rows_system t rows) r b (pick x s.entries k))) d agreed.marks in
-        ap Decided (ef ∙ found s.entries s.valid marks.valid marks.beyond (omega arith) (omega arith))
-        ∙ ap (λ (x : Bool). decision_of (rows_system t rows) (pick x (some (tally_to (rows_system t rows) r b s.entries)) none)) (sym d)
+        ap Some (ef ∙ found s.entries s.valid marks.valid marks.beyond (omega arith) (omega arith))
+        ∙ ap (λ (x : Bool). decision_of (rows_system t rows) (pick x (Some (tally_to (rows_system t rows) r b s.entries)) None)) (sym d)
         ∙ ap (decision_of (rows_system t rows)) (sym agreed.decides)
 
 -- By the rows of a book the decision is the one at the dash register.
 same_decision : (t : SiteTable) (s : List ℕ) (d : Option Tally)
     → decision_of (rows_system t (conflict_rows s)) d ≡ decision_of (dash t (commands_of s)) d
-same_decision t s none = refl
-same_decision t s (some d) = refl
+same_decision t s None = refl
+same_decision t s (Some d) = refl
 
 pub decision-dash : (t : SiteTable) (s : List ℕ) (r : ℕ) (l : Log)
     → decision_of (rows_system t (conflict_rows s)) (decide (rows_system t (conflict_rows s)) r l)

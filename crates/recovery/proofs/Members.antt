@@ -1,10 +1,10 @@
 -- The words of a decision have the members of the protocol's sets: no set in the log has a command beyond the capacity.
 -- Assumes nothing.
+use Rattle.std.specs.Prelude.{Some}
 use mathlib.Core.Path.{◌≡◌, refl, sym, ap, ◌∙◌}
 use mathlib.Core.Bool.{Bool, false, ◌&&◌, ◌||◌, not}
 use mathlib.Core.List.{List}
 use mathlib.Core.Logic.{◌⊎◌, inl, inr}
-use mathlib.Core.Option.{some}
 use Prim.Native.Nat.{ℕ, zero, suc, ◌*◌, ◌≤◌, ◌<◌}
 use native.Mathlib.Omega.{arith}
 use lib.Dec.{leb}
@@ -36,7 +36,7 @@ module _ (b : List ℕ) (small : (i : ℕ) → get_or b i 0 < 256) where
           let z = entry_fits b small k (omega arith) in
           (ap (λ (x : Entry). x.nc m) q ∙ in_above (entry_of b k).nc m z.nc l, ap (λ (x : Entry). x.c m) q ∙ in_above (entry_of b k).c m z.c l)
 
-  module _ (S : System) (r k : ℕ) (h : k * entry_size ≤ length b) (d : Tally) (decided : decide S r (log_to b k) ≡ some d) where
+  module _ (S : System) (r k : ℕ) (h : k * entry_size ≤ length b) (d : Tally) (decided : decide S r (log_to b k) ≡ Some d) where
     valid_bounded : (j m : ℕ) → capacity ≤ m → (nc_of (d j) m ≡ false) × (c_of (d j) m ≡ false)
     valid_bounded j m l = go (d j) (decided_backed S r (log_to b k) d decided j)
       where

@@ -1,10 +1,11 @@
 -- A decision by a log whose entries are in range: its sets are within the book, and its round is one that the log takes.
 -- Assumes nothing.
+use Rattle.std.specs.Prelude.{None, Option, Some}
 use mathlib.Core.Path.{◌≡◌, refl, sym, ap, subst, ◌∙◌}
+use Rattle.recovery.specs.declared.Sets.{Sets}
 use mathlib.Core.Bool.{Bool, true, false, ◌||◌, not}
 use mathlib.Core.List.{List}
 use mathlib.Core.Logic.{⊎_elim}
-use mathlib.Core.Option.{Option, none, some}
 use Prim.Native.Nat.{ℕ, zero, suc, ◌*◌, ◌≤◌, ◌<◌}
 use native.Mathlib.Omega.{arith}
 use lib.ListN.{length, get_or}
@@ -27,7 +28,6 @@ use Rattle.protocol.proofs.StandingLaws.{decided_backed}
 use Rattle.system.specs.Dash.{dash, last_round}
 use Rattle.entries.specs.Entries.{entry_size, entry_of, view_entry, log_to, in_range_of}
 use Rattle.entries.proofs.Judging.{in_range_told}
-use Rattle.recovery.specs.declared.Decision.{Decision}
 use Rattle.recovery.specs.Decisions.{sets_of, decision_of, DecisionWithin}
 use Rattle.recovery.proofs.Decided.{decision-dash}
 use Rattle.recovery.proofs.Members.{members_nc, members_c}
@@ -58,7 +58,7 @@ module _ (t : SiteTable) (table : is_good t ≡ true) (bytes rows : List ℕ) (b
   abbrev book : List Command
   book = commands_of bytes
 
-  module _ (d : Tally) (e : decide (dash t book) r (log_to b k) ≡ some d) where
+  module _ (d : Tally) (e : decide (dash t book) r (log_to b k) ≡ Some d) where
     -- What a valid source proposed is in range.
     backed : (j : ℕ) → is_valid (d j) ≡ true → r ≤ last_round
     backed j h = go (d j) h (decided_backed (dash t book) r (log_to b k) d e j)
@@ -111,7 +111,7 @@ module _ (t : SiteTable) (table : is_good t ≡ true) (bytes rows : List ℕ) (b
 
   -- ---- what the answer tells
 
-  module _ (er : rows ≡ conflict_rows bytes) {a : Decision} (ea : a ≡ decision_of (rows_system t rows) (decide (rows_system t rows) r (log_to b k))) where
+  module _ (er : rows ≡ conflict_rows bytes) {a : Option Sets} (ea : a ≡ decision_of (rows_system t rows) (decide (rows_system t rows) r (log_to b k))) where
     pub answer_is : a ≡ decision_of (dash t book) (decide (dash t book) r (log_to b k))
     answer_is =
         ea ∙ ap (λ (x : List ℕ). decision_of (rows_system t x) (decide (rows_system t x) r (log_to b k))) er ∙ decision-dash t bytes r (log_to b k)
@@ -120,5 +120,5 @@ module _ (t : SiteTable) (table : is_good t ≡ true) (bytes rows : List ℕ) (b
     decision-within = subst (DecisionWithin (length book)) (sym answer_is) (go (decide (dash t book) r (log_to b k)) refl)
       where
         go : (o : Option Tally) → decide (dash t book) r (log_to b k) ≡ o → DecisionWithin (length book) (decision_of (dash t book) o)
-        go none p = tt
-        go (some d) p = (nc_within d p, c_within d p)
+        go None p = tt
+        go (Some d) p = (nc_within d p, c_within d p)

@@ -1,7 +1,6 @@
 -- The decision of a round as words: what the protocol's decision is to a site, and how commands are counted, set by set.
 -- Assumes nothing.
-use Rattle.std.specs.Prelude.{◌≡◌, Bool, true, ◌&&◌, ◌||◌, List, ℕ, zero, suc, eqb, leb}
-use Rattle.std.proofs.Math.Option.{Option, none, some}
+use Rattle.std.specs.Prelude.{◌≡◌, Bool, true, ◌&&◌, ◌||◌, List, ℕ, zero, suc, eqb, leb, None, Option, Some}
 use Rattle.theory.specs.Sets.{pick, any, count}
 use Rattle.sets.specs.declared.Set.{Set}
 use Rattle.sets.specs.Sets.{capacity, in_set, set_of, empty_of, union_of, common_of, without_of, within_of}
@@ -12,8 +11,6 @@ use Rattle.protocol.specs.Recovery.{Tally, nc_set, c_set}
 use Rattle.entries.specs.declared.Entry.{Entry}
 use Rattle.entries.specs.Entries.{entry_of}
 use Rattle.recovery.specs.declared.Sets.{Sets}
-use Rattle.recovery.specs.declared.Decision.{Decision}
-use Rattle.recovery.specs.declared.Decision.TheVariants.{Undecided, Decided}
 use Rattle.recovery.specs.declared.Levels.{Levels}
 
 -- NCSet and CSet of a decision.
@@ -21,14 +18,14 @@ abbrev pub sets_of : System → Tally → Sets
 sets_of S t = record { nc = set_of capacity (nc_set S t); c = set_of capacity (c_set S t) }
 
 -- The protocol's decision, as an answer.
-abbrev pub decision_of : System → Option Tally → Decision
-decision_of S none = Undecided
-decision_of S (some t) = Decided (sets_of S t)
+abbrev pub decision_of : System → Option Tally → Option Sets
+decision_of S None = None
+decision_of S (Some t) = Some (sets_of S t)
 
 -- The sets of a decision, where there is one, are within so many commands.
-abbrev pub DecisionWithin : ℕ → Decision → Type 0
-DecisionWithin commands Undecided = Unit {0}
-DecisionWithin commands (Decided x) = (within_of x.nc commands ≡ true) × (within_of x.c commands ≡ true)
+abbrev pub DecisionWithin : ℕ → Option Sets → Type 0
+DecisionWithin commands None = Unit {0}
+DecisionWithin commands (Some x) = (within_of x.nc commands ≡ true) × (within_of x.c commands ≡ true)
 
 -- An entry of the round and of a source in a set.
 abbrev pub counts_in : ℕ → Set → Entry → Bool

@@ -19,13 +19,6 @@ pub struct Sets {
     pub c: Set,
 }
 
-// What the log says of a round.
-#[derive(Clone, Copy)]
-pub enum Decision {
-    Undecided,
-    Decided(Sets),
-}
-
 // The commands in at least one, two, .. six of the NC sets looked at, and all commands of the sets looked at.
 // Six is a majority of the greatest table.
 #[derive(Clone, Copy)]
@@ -149,17 +142,17 @@ pub fn decided_sets(
     Sets { nc: nc, c: c }
 }
 
-// What the first k entries decide of a round.
-pub fn decide(log: &[u8], k: usize, round: usize, table: SiteTable, rows: &[u64]) -> Decision
+// What the first k entries decide of a round; none where they decide nothing.
+pub fn decide(log: &[u8], k: usize, round: usize, table: SiteTable, rows: &[u64]) -> Option<Sets>
     requires { (is_good table ≡ true) × (k * entry_size ≤ length log.now) × (length rows.now ≡ capacity) }
     ensures { result ≡ decision_of (rows_system table rows.now) (decide (rows_system table rows.now) round (log_to log.now k)) }
 {
     let first = entries::first_of(log, k, round);
     let sources = standing::standing_after(log, first, k, round, table, rows);
     if !sources.decided {
-        return Decision::Undecided;
+        return None;
     }
     let valid = sources.valid;
     let sets = decided_sets(log, first, sources.entries, round, valid, table);
-    Decision::Decided(sets)
+    Some(sets)
 }

@@ -1,10 +1,8 @@
 -- The numbers of the refusals: document 01, "When a sheet or step is turned down".
 -- Assumes nothing.
-use Rattle.std.specs.Prelude.{Bool, true, false, ℕ}
+use Rattle.std.specs.Prelude.{Bool, true, false, ℕ, Result, Ok, Err, ⊤}
 use Rattle.refusals.specs.declared.Refusal.{Refusal}
 use Rattle.refusals.specs.declared.Refusal.TheVariants.{Book, Table, Form, Range, Role, Disabled, ThirdEntry, LastRound, Size, Full}
-use Rattle.refusals.specs.declared.Verdict.{Verdict}
-use Rattle.refusals.specs.declared.Verdict.TheVariants.{Taken, Refused}
 
 -- The number of each cause, as in the table.
 abbrev pub number_of : Refusal → ℕ
@@ -19,19 +17,26 @@ number_of LastRound = 8
 number_of Size = 9
 number_of Full = 9
 
+-- What a judge says: a step is taken, or refused.
+abbrev pub Verdict : Type 0
+Verdict = Result ⊤ Refusal
+
+abbrev pub accepted : Verdict
+accepted = Ok tt
+
 abbrev pub is_taken : Verdict → Bool
-is_taken Taken = true
-is_taken (Refused r) = false
+is_taken (Ok _) = true
+is_taken (Err r) = false
 
 -- The new state where a step is taken, else the old.
 abbrev pub settled : {A : Type 0} → Verdict → A → A → A
-settled Taken new old = new
-settled (Refused r) new old = old
+settled (Ok _) new old = new
+settled (Err r) new old = old
 
 -- A call that answers one number answers 0 where the input was taken.
 abbrev pub code_of : Verdict → ℕ
-code_of Taken = 0
-code_of (Refused r) = number_of r
+code_of (Ok _) = 0
+code_of (Err r) = number_of r
 
 -- The rank of each cause in the order 9, 2, 1, 3, 4, 5, 6, 7, 8: of several causes the one with the lowest rank refuses.
 -- A full record of deliveries is a cause only where a step would else be carried out: it comes last.

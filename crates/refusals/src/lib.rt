@@ -29,28 +29,26 @@ pub enum Refusal {
     Full,
 }
 
-// What a judge says.
-#[derive(Clone, Copy)]
-pub enum Verdict {
-    Taken,
-    Refused(Refusal),
-}
+// What a judge says: a step is taken, or refused.
+pub type Verdict = Result<(), Refusal>;
 
 // The number of a refusal.
-pub fn number(refusal: Refusal) -> u32
-    ensures { result ≡ number_of refusal }
-{
-    match refusal {
-        Refusal::Book => 1,
-        Refusal::Table => 2,
-        Refusal::Form => 3,
-        Refusal::Range => 4,
-        Refusal::Role => 5,
-        Refusal::Disabled => 6,
-        Refusal::ThirdEntry => 7,
-        Refusal::LastRound => 8,
-        Refusal::Size => 9,
-        Refusal::Full => 9,
+impl From<Refusal> for u32 {
+    ghost from_gives = { λ refusal number. number ≡ number_of refusal };
+
+    fn from(refusal: Refusal) -> u32 {
+        match refusal {
+            Refusal::Book => 1,
+            Refusal::Table => 2,
+            Refusal::Form => 3,
+            Refusal::Range => 4,
+            Refusal::Role => 5,
+            Refusal::Disabled => 6,
+            Refusal::ThirdEntry => 7,
+            Refusal::LastRound => 8,
+            Refusal::Size => 9,
+            Refusal::Full => 9,
+        }
     }
 }
 
@@ -59,7 +57,7 @@ pub fn code(verdict: Verdict) -> u32
     ensures { result ≡ code_of verdict }
 {
     match verdict {
-        Verdict::Taken => 0,
-        Verdict::Refused(refusal) => number(refusal),
+        Ok(()) => 0,
+        Err(refusal) => u32::from(refusal),
     }
 }

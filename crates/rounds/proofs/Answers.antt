@@ -1,10 +1,10 @@
 -- The decision of a round at every log position, with one entry more.
 -- Assumes nothing.
 use mathlib.Core.Path.{◌≡◌, refl, sym, ap, ◌∙◌, subst}
+use Rattle.std.specs.Prelude.{None, Some, Option}
 use mathlib.Core.Bool.{Bool, true, false, ◌&&◌, not}
 use mathlib.Core.List.{List}
 use mathlib.Core.Logic.{◌⊎◌, inl, inr}
-use mathlib.Core.Option.{Option, none, some}
 use Prim.Native.Nat.{ℕ, zero, suc, ◌+◌, ◌≤◌, ◌<◌}
 use native.Mathlib.Decide.{ℕ_discrete}
 use native.Mathlib.Numerals.{add-one}
@@ -26,8 +26,6 @@ use Rattle.standing.specs.Standings.{valid_after, marked, with_entry, standing_o
 use Rattle.standing.proofs.Tallies.{decide_stays}
 use Rattle.standing.proofs.Steps.{other_round}
 use Rattle.recovery.specs.declared.Sets.{Sets}
-use Rattle.recovery.specs.declared.Decision.{Decision}
-use Rattle.recovery.specs.declared.Decision.TheVariants.{Undecided, Decided}
 use Rattle.recovery.specs.Decisions.{decision_of, found_sets}
 use Rattle.recovery.proofs.Decided.{not_decided, is_decided}
 use Rattle.rounds.specs.declared.Round.{Round}
@@ -36,20 +34,20 @@ use Rattle.rounds.specs.Rounds.{answer_at, Decides}
 -- ---- the answer of a round, one law for each
 
 module _ (x : Round) (p : ℕ) where
-  abbrev chosen : Bool → Decision
-  chosen t = pick t (Decided (record { nc = x.nc; c = x.c })) Undecided
+  abbrev chosen : Bool → Option Sets
+  chosen t = pick t (Some (record { nc = x.nc; c = x.c })) None
 
-  pub answer-none : x.decided ≡ 0 → Undecided ≡ answer_at x p
+  pub answer-none : x.decided ≡ 0 → None ≡ answer_at x p
   answer-none e = ap (λ (t : Bool). chosen (t && leb x.decided p)) (sym (le-ltb 0 x.decided (omega arith)))
 
-  pub answer_later : p < x.decided → Undecided ≡ answer_at x p
+  pub answer_later : p < x.decided → None ≡ answer_at x p
   answer_later l = ap chosen (sym (two (ltb 0 x.decided) (lt-leb x.decided p l)))
     where
       two : (t : Bool) {s : Bool} → s ≡ false → (t && s) ≡ false
       two true e = e
       two false e = refl
 
-  pub answer-sets : 0 < x.decided → x.decided ≤ p → Decided (record { nc = x.nc; c = x.c }) ≡ answer_at x p
+  pub answer-sets : 0 < x.decided → x.decided ≤ p → Some (record { nc = x.nc; c = x.c }) ≡ answer_at x p
   answer-sets g l =
       ap chosen (sym (both (ltb 0 x.decided) (leb x.decided p) (lt-ltb 0 x.decided g) (le-leb x.decided p l)))
 
@@ -105,13 +103,13 @@ module _ (t : SiteTable) (rows log : List ℕ) (k r : ℕ) where
         go (inr g) = h.answers p (omega arith) ∙ same p (omega arith)
 
     -- A decided round stays as it is, whatever is counted.
-    stays : 0 < x.decided → decision_of (rows_system t rows) (decide (rows_system t rows) r (log_to log (k + 1))) ≡ Decided (record { nc = x.nc; c = x.c })
+    stays : 0 < x.decided → decision_of (rows_system t rows) (decide (rows_system t rows) r (log_to log (k + 1))) ≡ Some (record { nc = x.nc; c = x.c })
     stays g = go (decide (rows_system t rows) r (log_to log k)) refl (h.answers k (omega arith) ∙ sym (answer-sets x k g h.place))
       where
-        go : (o : Option Tally) → decide (rows_system t rows) r (log_to log k) ≡ o → decision_of (rows_system t rows) o ≡ Decided (record { nc = x.nc; c = x.c })
-            → decision_of (rows_system t rows) (decide (rows_system t rows) r (log_to log (k + 1))) ≡ Decided (record { nc = x.nc; c = x.c })
-        go none e q = absurd (let z : ◌≡◌ {A = ℕ} 0 1 = cc in omega arith)
-        go (some d) e q =
+        go : (o : Option Tally) → decide (rows_system t rows) r (log_to log k) ≡ o → decision_of (rows_system t rows) o ≡ Some (record { nc = x.nc; c = x.c })
+            → decision_of (rows_system t rows) (decide (rows_system t rows) r (log_to log (k + 1))) ≡ Some (record { nc = x.nc; c = x.c })
+        go None e q = absurd (let z : ◌≡◌ {A = ℕ} 0 1 = cc in omega arith)
+        go (Some d) e q =
             ap (decision_of (rows_system t rows))
             (ap (λ (n : ℕ). decide (rows_system t rows) r (log_to log n)) (add-one k) ∙ decide_stays (rows_system t rows) r log k d e)
             ∙ q

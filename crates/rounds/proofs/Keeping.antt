@@ -1,6 +1,8 @@
 -- What is kept at the start, when an entry is written after those kept, and when one is taken in.
 -- Assumes nothing.
 use mathlib.Core.Path.{◌≡◌, refl, sym, ap, ◌∙◌, subst}
+use Rattle.std.specs.Prelude.{None, Option, Some}
+use Rattle.recovery.specs.declared.Sets.{Sets}
 use mathlib.Core.Bool.{Bool, true, not}
 use mathlib.Core.List.{List}
 use Prim.Native.Nat.{ℕ, ◌+◌, ◌*◌, ◌≤◌, ◌<◌}
@@ -22,8 +24,6 @@ use Rattle.entries.proofs.Bytes.{Fits, entry_written, entry_other}
 use Rattle.entries.proofs.Judging.{entries_none}
 use Rattle.standing.specs.Standings.{standing_of}
 use Rattle.standing.proofs.Tallies.{decide-none}
-use Rattle.recovery.specs.declared.Decision.{Decision}
-use Rattle.recovery.specs.declared.Decision.TheVariants.{Undecided, Decided}
 use Rattle.recovery.specs.Decisions.{decision_of}
 use Rattle.rounds.specs.declared.Round.{Round}
 use Rattle.rounds.specs.Rounds.{kept_rounds, round_words, entries_place, kept_words, kept_entries, round_in, write_round, answer_at, Counts, Decides, KeptTo, Kept}
@@ -185,22 +185,22 @@ unfolding round_in
 is_third kept site r l g e2 eb t rows log h = eb ∙ ap (λ (s : Set). in_set s site) e2 ∙ (h.counts r g).twice site l
 
 module _ (kept : List ℕ) (r p : ℕ) (l : r < kept_rounds) {x : Round} (ex : x ≡ round_in kept r) where
-  answered : {d : Decision} → d ≡ answer_at x p
+  answered : {d : Option Sets} → d ≡ answer_at x p
       → (t : SiteTable) (rows log : List ℕ) → Kept t rows log kept → p ≤ kept_entries kept
       → d ≡ decision_of (rows_system t rows) (decide (rows_system t rows) r (log_to log p))
   answered ed t rows log h g = ed ∙ ap (λ (w : Round). answer_at w p) ex ∙ sym ((h.decides r l).answers p g)
 
   pub not_yet : x.decided ≡ 0
       → (t : SiteTable) (rows log : List ℕ) → Kept t rows log kept → p ≤ kept_entries kept
-      → Undecided ≡ decision_of (rows_system t rows) (decide (rows_system t rows) r (log_to log p))
+      → None ≡ decision_of (rows_system t rows) (decide (rows_system t rows) r (log_to log p))
   not_yet z = answered (answer-none x p z)
 
   pub only_later : p < x.decided
       → (t : SiteTable) (rows log : List ℕ) → Kept t rows log kept → p ≤ kept_entries kept
-      → Undecided ≡ decision_of (rows_system t rows) (decide (rows_system t rows) r (log_to log p))
+      → None ≡ decision_of (rows_system t rows) (decide (rows_system t rows) r (log_to log p))
   only_later g = answered (answer_later x p g)
 
   pub looked_up : 0 < x.decided → x.decided ≤ p
       → (t : SiteTable) (rows log : List ℕ) → Kept t rows log kept → p ≤ kept_entries kept
-      → Decided (record { nc = x.nc; c = x.c }) ≡ decision_of (rows_system t rows) (decide (rows_system t rows) r (log_to log p))
+      → Some (record { nc = x.nc; c = x.c }) ≡ decision_of (rows_system t rows) (decide (rows_system t rows) r (log_to log p))
   looked_up g b = answered (answer-sets x p g b)

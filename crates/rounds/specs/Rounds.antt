@@ -1,6 +1,6 @@
 -- What is kept of each round of a growing log: who has entries of it, whether and where the log decides it, and the decided sets.
 -- Assumes nothing.
-use Rattle.std.specs.Prelude.{◌≡◌, false, ◌&&◌, not, List, [], ◌∷◌, ℕ, ◌+◌, ◌*◌, ◌≤◌, ◌<◌, eqb, leb, ltb, length, get_or}
+use Rattle.std.specs.Prelude.{◌≡◌, false, ◌&&◌, not, List, [], ◌∷◌, ℕ, ◌+◌, ◌*◌, ◌≤◌, ◌<◌, eqb, leb, ltb, length, get_or, None, Option, Some}
 use Rattle.std.proofs.lemmas.List.Edits.{sets}
 use Rattle.theory.specs.Sets.{pick}
 use Rattle.sets.specs.Sets.{in_set, empty_of, with_of, without_of, load_set}
@@ -11,8 +11,6 @@ use Rattle.calm.specs.Rows.{rows_system}
 use Rattle.entries.specs.Entries.{entry_of, log_to}
 use Rattle.standing.specs.Standings.{standing_of}
 use Rattle.recovery.specs.declared.Sets.{Sets}
-use Rattle.recovery.specs.declared.Decision.{Decision}
-use Rattle.recovery.specs.declared.Decision.TheVariants.{Undecided, Decided}
 use Rattle.recovery.specs.Decisions.{decision_of}
 use Rattle.rounds.specs.declared.Round.{Round}
 
@@ -95,8 +93,8 @@ decided_of x place found =
     }
 
 -- The decision at a log position: the sets, once the deciding entry is before it.
-abbrev pub answer_at : Round → ℕ → Decision
-answer_at x p = pick (ltb 0 x.decided && leb x.decided p) (Decided (record { nc = x.nc; c = x.c })) Undecided
+abbrev pub answer_at : Round → ℕ → Option Sets
+answer_at x p = pick (ltb 0 x.decided && leb x.decided p) (Some (record { nc = x.nc; c = x.c })) None
 
 module _ (log : List ℕ) (k r : ℕ) where
   -- Of the first k entries: the sites with one of round r, those with two, and a place before which the round has none

@@ -13,7 +13,7 @@ ghost use Rattle.recovery.specs.Decisions.{found_sets, decision_of};
 ghost use Rattle.rounds.specs.Rounds.{kept_rounds, kept_words, kept_entries, round_in, write_round, noted_of, again_of, decided_of, Counts, KeptTo, Kept};
 
 use entries::Entry;
-use recovery::{Decision, Sets};
+use recovery::Sets;
 use sets::Set;
 use table::SiteTable;
 
@@ -197,20 +197,20 @@ pub fn third(kept: &[u64], site: usize, round: usize) -> bool
     twice.has(site)
 }
 
-// The decision of a round at a log position.
-pub fn decision(kept: &[u64], round: usize, position: usize) -> Decision
+// The decision of a round at a log position; none where it is undecided.
+pub fn decision(kept: &[u64], round: usize, position: usize) -> Option<Sets>
     requires { (length kept.now ≡ kept_words) × (round < kept_rounds) }
     ensures { (t : SiteTable) (rows log : List ℕ) → Kept t rows log kept.now → position ≤ kept_entries kept.now
         → result ≡ decision_of (rows_system t rows) (decide (rows_system t rows) round (log_to log position)) }
 {
     let x = read_round(kept, round);
     if x.decided == 0 {
-        return Decision::Undecided;
+        return None;
     }
     if x.decided > position as u64 {
-        return Decision::Undecided;
+        return None;
     }
     let nc = x.nc;
     let c = x.c;
-    Decision::Decided(Sets { nc: nc, c: c })
+    Some(Sets { nc: nc, c: c })
 }

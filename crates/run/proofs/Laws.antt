@@ -1,6 +1,8 @@
 -- Laws of a run: its three parts are its print, by the verdict on it, and what the call answers.
 -- Assumes nothing.
 use mathlib.Core.Path.{◌≡◌, refl, sym, ap, subst, ◌∙◌}
+use Rattle.std.specs.Prelude.{Err, Ok, Option}
+use Rattle.steps.specs.declared.Step.{Step}
 use mathlib.Core.Bool.{Bool, true, false, ◌&&◌}
 use mathlib.Core.List.{List, ◌++◌}
 use Prim.Native.Nat.{ℕ, ◌+◌, ◌*◌, ◌-◌, ◌≤◌, ◌<◌}
@@ -9,9 +11,8 @@ use borrow.Author.Tests.{leb-true}
 use lib.Dec.{leb}
 use lib.ListN.{length, take, drop, replicate, length-take, length-drop, length-append}
 use lib.Seq.{length-take-le, take_at, drop_at}
-use Rattle.refusals.specs.Refusals.{number_of, is_taken}
+use Rattle.refusals.specs.Refusals.{number_of, is_taken, accepted}
 use Rattle.refusals.specs.declared.Refusal.{Refusal}
-use Rattle.refusals.specs.declared.Verdict.TheVariants.{Taken, Refused}
 use Rattle.theory.specs.Sets.{pick}
 use Rattle.theory.specs.Counting.{both as both_true, left, right, never}
 use Rattle.wire.specs.Wire.{read_le, splice}
@@ -28,12 +29,10 @@ use Rattle.protocol.specs.World.{World}
 use Rattle.system.specs.Dash.{dash}
 use Rattle.print.specs.Print.{Wrote}
 use Rattle.print.proofs.Laws.{both}
-use Rattle.steps.specs.declared.Reading.{Reading}
 use Rattle.steps.specs.Steps.{steps_of}
 use Rattle.lines.specs.Lines.{run_line, refused_line}
 use Rattle.lines.proofs.Laws.{run_short}
 use Rattle.header.specs.declared.Run.{Run}
-use Rattle.header.specs.declared.Opened.TheVariants as opened
 use Rattle.header.specs.Header.{judge_run, places_after}
 use Rattle.header.proofs.Laws.{Sound, judged_taken, places_noted, past_places}
 use Rattle.runs.specs.Run.{max_run, header_size, book_size, book_of, step_bytes, for_run, site_lines, played, print_as, print_of}
@@ -92,7 +91,7 @@ module _ (t : SiteTable) {w : Working} (good : is_good t ≡ true) (room : Roomy
   sites_room = let n = good_limits t good in omega (arith, room.sites)
 
   -- The three parts put back: they hold the last world, and what is past them is as it was.
-  pub worked : (book : List Command) (steps : List Reading) {sites log sent : List ℕ} → length sites ≡ length (take (t.sites * site_size) w.sites) → length log ≡ length (take log_bytes w.log)
+  pub worked : (book : List Command) (steps : List (Option Step)) {sites log sent : List ℕ} → length sites ≡ length (take (t.sites * site_size) w.sites) → length log ≡ length (take log_bytes w.log)
       → length sent ≡ length (take sent_size w.sent) → HoldsLast t book steps sites log sent
       → PastLeft t (take (t.sites * site_size) w.sites) sites
       → Worked t book steps w (working (sites ++ drop (t.sites * site_size) w.sites) (log ++ drop log_bytes w.log) (sent ++ drop sent_size w.sent))
@@ -118,19 +117,19 @@ module _ (run : List ℕ) where
   pub steps_short : Sound run → {end : ℕ} → end ≡ header_size + book_size run → length (take (length run - end) (drop end run)) < max_run
   steps_short s {end} e = simp (length-take, length-drop) (omega (arith, s.size, s.end))
 
-  pub print_refused : {s after : List ℕ} {end n : ℕ} (r : Refusal) → verdict (for_run run) ≡ Refused r → n ≡ number_of r
+  pub print_refused : {s after : List ℕ} {end n : ℕ} (r : Refusal) → verdict (for_run run) ≡ Err r → n ≡ number_of r
       → Wrote after end s 0 (refused_line n) → Wrote after end s 0 (print_of run)
   unfolding print_of
   print_refused {s} {after} {end} r e q w = subst (λ (l : List ℕ). Wrote after end s 0 l) (ap refused_line q ∙ sym (ap (print_as run) e)) w
 
-  pub print_taken : {s after : List ℕ} {end : ℕ} {t : SiteTable} {book steps : List ℕ} → verdict (for_run run) ≡ Taken → t ≡ marked_in run → book ≡ book_of run → steps ≡ step_bytes run
+  pub print_taken : {s after : List ℕ} {end : ℕ} {t : SiteTable} {book steps : List ℕ} → verdict (for_run run) ≡ accepted → t ≡ marked_in run → book ≡ book_of run → steps ≡ step_bytes run
       → Wrote after end s 0 (played t (commands_of book) (steps_of steps)) → Wrote after end s 0 (print_of run)
   unfolding print_of
   print_taken {s} {after} {end} e et eb es w =
       subst (λ (l : List ℕ). Wrote after end s 0 l) ((λ i. played (et i) (commands_of (eb i)) (steps_of (es i))) ∙ sym (ap (print_as run) e)) w
 
 -- The part that is the book of a run that is taken: its commands are counted and their places noted, and no row yet.
-pub placed_part : (run : List ℕ) {b q : List ℕ} {n : Run} → b ≡ book_of run → opened.Good n ≡ judge_run run → q ≡ places_after run none_noted
+pub placed_part : (run : List ℕ) {b q : List ℕ} {n : Run} → b ≡ book_of run → Ok n ≡ judge_run run → q ≡ places_after run none_noted
     → (rows_in q ≡ replicate max_commands 0) × (n.rules.commands ≡ length (commands_of b)) × Placed b q
 placed_part run {b} {q} e o w =
     let j = judged_taken run o in (
@@ -173,14 +172,14 @@ module _ (run : List ℕ) (w : Working) (out : List ℕ) where
       rw h (λ i. ran (e i) (x.bytes i))
 
   -- A run refused: its line is written, and it is not played.
-  pub refused_left : (r : Refusal) → verdict (for_run run) ≡ Refused r → Left run w out w
+  pub refused_left : (r : Refusal) → verdict (for_run run) ≡ Err r → Left run w out w
   refused_left r h =
       record {
         kept = λ e. refl;
         worked = λ e. absurd (never (is_taken (verdict (for_run run))) (right (is_roomy w out) (is_taken (verdict (for_run run))) e) (ap is_taken h));
       }
 
-  pub played_left : {t : SiteTable} {book steps : List ℕ} {after : Working} → is_roomy w out ≡ true → verdict (for_run run) ≡ Taken → t ≡ marked_in run → book ≡ book_of run
+  pub played_left : {t : SiteTable} {book steps : List ℕ} {after : Working} → is_roomy w out ≡ true → verdict (for_run run) ≡ accepted → t ≡ marked_in run → book ≡ book_of run
       → steps ≡ step_bytes run → Worked t (commands_of book) (steps_of steps) w after → Left run w out after
   played_left {t} {book} {steps} {after} room h et eb es x =
       record {

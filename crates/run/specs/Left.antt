@@ -1,12 +1,12 @@
 -- What a call with a run leaves of the working memory that it is lent.
 -- Assumes nothing.
-use Rattle.std.specs.Prelude.{◌≡◌, Bool, true, false, ◌&&◌, List, ℕ, ◌*◌, ◌<◌, take, drop}
+use Rattle.std.specs.Prelude.{◌≡◌, Bool, true, false, ◌&&◌, List, ℕ, ◌*◌, ◌<◌, take, drop, Option}
+use Rattle.steps.specs.declared.Step.{Step}
 use Rattle.refusals.specs.Refusals.{is_taken}
 use Rattle.table.specs.declared.SiteTable.{SiteTable}
 use Rattle.register.specs.declared.Command.{Command}
 use Rattle.commands.specs.Book.{commands_of}
 use Rattle.protocol.specs.System.{verdict}
-use Rattle.steps.specs.declared.Reading.{Reading}
 use Rattle.steps.specs.Steps.{steps_of}
 use Rattle.table.specs.Table.{marked_in}
 use Rattle.runs.specs.Run.{book_of, step_bytes, for_run}
@@ -22,7 +22,7 @@ PastLeft t before after =
     (i : ℕ) → i < t.sites
     → drop (row_at (read_le 2 (site_at after i) span_place)) (site_at after i) ≡ drop (row_at (read_le 2 (site_at after i) span_place)) (site_at before i)
 
-module _ (t : SiteTable) (book : List Command) (steps : List Reading) where
+module _ (t : SiteTable) (book : List Command) (steps : List (Option Step)) where
   -- The first bytes of the working memory hold the last world, and what is past them and past the rows of each site is as it was.
   pub record Worked (before after : Working) : Type 0 where
     pub world : HoldsLast t book steps (take (t.sites * site_size) after.sites) (take log_bytes after.log) (take sent_size after.sent)

@@ -12,7 +12,6 @@ ghost use Rattle.play.specs.Played.{HoldsLast};
 ghost use Rattle.run.specs.Left.{PastLeft, Worked, Left};
 ghost use Rattle.run.specs.Prepared.{Playable, Roomy, Sized};
 
-use header::Opened;
 use layout::Site;
 use table::Rules;
 
@@ -103,17 +102,16 @@ pub fn run(input: &[u8], sites: &mut [u8], log: &mut [u8], sent: &mut [u8], out:
         return 0;
     }
     let mut noted = [0u64; conflicts::NOTED];
-    let opened = header::judge_run(input, &mut noted);
-    match opened {
-        Opened::Good(run) => {
+    match header::judge_run(input, &mut noted) {
+        Ok(run) => {
             let rules = run.rules;
             let end = run.steps;
             let book = &input[header::HEADER..end];
             conflicts::conflict_rows(book, rules.commands, &mut noted);
             print_in(sites, log, sent, rules, book, &noted, &input[end..], out)
         }
-        Opened::Refused(refusal) => {
-            let cause = refusals::number(refusal) as usize;
+        Err(refusal) => {
+            let cause = u32::from(refusal) as usize;
             lines::put_refused_line(out, 0, cause)
         }
     }

@@ -1,9 +1,9 @@
 -- Cells of what was sent: bytes that agree on a cell say the same there, and what a write says of its own cell.
 -- Assumes nothing.
+use Rattle.std.specs.Prelude.{None, Some}
 use mathlib.Core.Path.{◌≡◌, refl, ap, ◌∙◌}
 use mathlib.Core.Logic.{◌⊎◌, inl, inr, ⊎_elim}
 use mathlib.Core.List.{List, [], ◌∷◌, ◌++◌}
-use mathlib.Core.Option.{none, some}
 use Prim.Native.Nat.{ℕ, zero, suc, ◌+◌, ◌*◌, ◌^◌, ◌≤◌, ◌<◌}
 use native.Mathlib.Omega.{arith}
 use native.Mathlib.Numerals.{add-one}
@@ -37,7 +37,7 @@ acks_agree k {b} {b'} e g h = ap (λ (n : ℕ). sets_from n (set_place k 0) b') 
 
 pub check_agree : (k : ℕ) {b b' : List ℕ} → flag_in b' k ≡ flag_in b k → Agree b b' (check_place k) (check_place k + set_bytes) → check_in b' k ≡ check_in b k
 unfolding check_in
-check_agree k e g = λ i. pick (eqb (e i) 1) (some (in_set (agree_set (check_place k) g (omega arith) (omega arith) i))) none
+check_agree k e g = λ i. pick (eqb (e i) 1) (Some (in_set (agree_set (check_place k) g (omega arith) (omega arith) i))) None
 
 -- One set more stands after those before it.
 pub sets_more : (n at : ℕ) (b : List ℕ) → sets_from (suc n) at b ≡ sets_from n at b ++ (in_set (read_set b (at + n * set_bytes)) ∷ [])
@@ -52,7 +52,7 @@ unfolding sets_from
 length-sets zero at b = refl
 length-sets (suc n) at b = ap suc (length-sets n (at + set_bytes) b)
 
-pub nth-set : (n at : ℕ) (b : List ℕ) (i : ℕ) → i < n → nth (sets_from n at b) i ≡ some (in_set (read_set b (at + i * set_bytes)))
+pub nth-set : (n at : ℕ) (b : List ℕ) (i : ℕ) → i < n → nth (sets_from n at b) i ≡ Some (in_set (read_set b (at + i * set_bytes)))
 unfolding sets_from
 nth-set zero at b i h = absurd (omega arith)
 nth-set (suc n) at b zero h = let e : at + 0 * set_bytes ≡ at = omega arith in rw e refl
@@ -131,11 +131,11 @@ module _ (b : List ℕ) (k : ℕ) (s : Set) (size : length b ≡ sent_size) (ins
   pub flag_checked : flag_in (checked_in b k s) k ≡ 1
   flag_checked = number_written b (check_place k) s (flag_place k) 1 (omega arith) (omega arith) (omega arith)
 
-  pub check_checked : s.bits < 2 ^ 64 → check_in (checked_in b k s) k ≡ some (in_set s)
+  pub check_checked : s.bits < 2 ^ 64 → check_in (checked_in b k s) k ≡ Some (in_set s)
   unfolding check_in
   check_checked h =
       let w = set-written b (check_place k) s (flag_place k) 1 (omega arith) (omega arith) (omega arith) h in
-      λ i. pick (eqb (flag_checked i) 1) (some (in_set (w i))) none
+      λ i. pick (eqb (flag_checked i) 1) (Some (in_set (w i))) None
 
   pub count-checked : count_in (checked_in b k s) k ≡ count_in b k
   count-checked =

@@ -1,10 +1,10 @@
 -- What was sent, over all sites and rounds: which have a cell, views that differ in one cell, and what a message read means.
 -- Assumes nothing.
 use mathlib.Core.Path.{◌≡◌, refl, sym, ap, ◌∙◌}
+use Rattle.std.specs.Prelude.{None, Some}
 use mathlib.Core.Bool.{Bool, true, false, ◌&&◌}
 use mathlib.Core.Logic.{⊎_elim}
 use mathlib.Core.List.{List, []}
-use mathlib.Core.Option.{none, some}
 use Prim.Native.Nat.{ℕ, zero, suc, pred, ◌+◌, ◌*◌, ◌-◌, ◌≤◌, ◌<◌}
 use native.Mathlib.Omega.{arith}
 use lib.Dec.{eqb, leb, ltb}
@@ -19,7 +19,6 @@ use Rattle.wire.specs.Wire.{read_le}
 use Rattle.sets.specs.declared.Set.{Set}
 use Rattle.sets.specs.Sets.{in_set, set_bytes, read_set}
 use Rattle.table.specs.Table.{max_sites}
-use Rattle.sent.specs.declared.SentMessage.TheVariants.{Sent, Never}
 use Rattle.sent.specs.Sent.{sent_rounds, max_acknowledgments, cells, cell_of, count_place, flag_place, set_place, check_place}
 use Rattle.sent.specs.Sent.{count_in, flag_in, acks_in, check_in, in_table, acks_of, checks_of, numbered, acknowledgment_of, check_of, GoodSent, Read}
 use Rattle.sent.proofs.Cells.{length-sets, nth-set}
@@ -99,26 +98,26 @@ module _ (b : List ℕ) (j r : ℕ) (t : in_table j r ≡ true) where
 
   pub checks_at : checks_of b j r ≡ check_in b (cell_of j r)
   unfolding checks_of
-  checks_at = λ k. pick (t k) (check_in b (cell_of j r)) none
+  checks_at = λ k. pick (t k) (check_in b (cell_of j r)) None
 
   -- There are as many acknowledgments as the cell counts.
   pub length_acks : length (acks_of b j r) ≡ count_in b (cell_of j r)
   unfolding acks_in
   length_acks = ap length acks_at ∙ length-sets (count_in b (cell_of j r)) (set_place (cell_of j r) 0) b
 
-  pub no_acknowledgment : (a : ℕ) {p n : ℕ} → p ≡ count_place (cell_of j r) → n ≡ read_le 1 b p → (1 ≤ a → n < a) → Read Never (acknowledgment_of b j r a) (numbered (acks_of b j r) a)
+  pub no_acknowledgment : (a : ℕ) {p n : ℕ} → p ≡ count_place (cell_of j r) → n ≡ read_le 1 b p → (1 ≤ a → n < a) → Read None (acknowledgment_of b j r a) (numbered (acks_of b j r) a)
   unfolding acks_in acknowledgment_of
   no_acknowledgment zero q c l = record { answer = refl; means = refl }
   no_acknowledgment (suc a) {p} {n} q c l =
       let d : n ≡ count_in b (cell_of j r) = c ∙ ap (read_le 1 b) q in
       let f : count_in b (cell_of j r) < suc a = omega (arith, l (omega arith)) in
       record {
-        answer = sym (λ i. pick (le-leb 1 (suc a) (omega arith) i && lt-leb (suc a) (count_in b (cell_of j r)) f i) (Sent (read_set b (set_place (cell_of j r) (suc a - 1)))) Never);
+        answer = sym (λ i. pick (le-leb 1 (suc a) (omega arith) i && lt-leb (suc a) (count_in b (cell_of j r)) f i) (Some (read_set b (set_place (cell_of j r) (suc a - 1)))) None);
         means = sym (ap (λ (x : List theory.Set). nth x a) acks_at ∙ nth_end (acks_in b (cell_of j r)) a (omega (arith, length-sets (count_in b (cell_of j r)) (set_place (cell_of j r) 0) b)));
       }
 
   pub some_acknowledgment : (a : ℕ) {p n at : ℕ} {s : Set} → p ≡ count_place (cell_of j r) → n ≡ read_le 1 b p → 1 ≤ a → a ≤ n → at ≡ set_place (cell_of j r) (a - 1) → s ≡ read_set b at
-      → Read (Sent s) (acknowledgment_of b j r a) (numbered (acks_of b j r) a)
+      → Read (Some s) (acknowledgment_of b j r a) (numbered (acks_of b j r) a)
   unfolding acks_in acknowledgment_of
   some_acknowledgment zero q c h l o m = absurd (omega arith)
   some_acknowledgment (suc a) {p} {n} {at} {s} q c h l o m =
@@ -127,41 +126,41 @@ module _ (b : List ℕ) (j r : ℕ) (t : in_table j r ≡ true) where
       let w : s ≡ read_set b (set_place (cell_of j r) (suc a - 1)) = m ∙ ap (read_set b) o in
       record {
         answer =
-            ap Sent w
-            ∙ sym (λ i. pick (le-leb 1 (suc a) (omega arith) i && le-leb (suc a) (count_in b (cell_of j r)) (omega arith) i) (Sent (read_set b (set_place (cell_of j r) (suc a - 1)))) Never);
+            ap Some w
+            ∙ sym (λ i. pick (le-leb 1 (suc a) (omega arith) i && le-leb (suc a) (count_in b (cell_of j r)) (omega arith) i) (Some (read_set b (set_place (cell_of j r) (suc a - 1)))) None);
         means =
-            ap (λ (x : Set). some (in_set x)) (w ∙ ap (read_set b) e)
+            ap (λ (x : Set). Some (in_set x)) (w ∙ ap (read_set b) e)
             ∙ sym (ap (λ (x : List theory.Set). nth x a) acks_at ∙ nth-set (count_in b (cell_of j r)) (set_place (cell_of j r) 0) b a (omega arith));
       }
 
   -- The number of an acknowledgment that was sent.
-  pub sent_number : (a : ℕ) {s : Set} → GoodSent b → Sent s ≡ acknowledgment_of b j r a → (1 ≤ a) × (a ≤ max_acknowledgments)
+  pub sent_number : (a : ℕ) {s : Set} → GoodSent b → Some s ≡ acknowledgment_of b j r a → (1 ≤ a) × (a ≤ max_acknowledgments)
   unfolding acknowledgment_of
   sent_number a {s} good h = go (leb 1 a && leb a (count_in b (cell_of j r))) refl h
     where
-      go : (x : Bool) → (leb 1 a && leb a (count_in b (cell_of j r))) ≡ x → Sent s ≡ pick x (Sent (read_set b (set_place (cell_of j r) (a - 1)))) Never
+      go : (x : Bool) → (leb 1 a && leb a (count_in b (cell_of j r))) ≡ x → Some s ≡ pick x (Some (read_set b (set_place (cell_of j r) (a - 1)))) None
           → (1 ≤ a) × (a ≤ max_acknowledgments)
       go true e l =
           let few = leb-true a (count_in b (cell_of j r)) (right (leb 1 a) (leb a (count_in b (cell_of j r))) e) in
           (leb-true 1 a (left (leb 1 a) (leb a (count_in b (cell_of j r))) e), omega (arith, good.counts (cell_of j r) (cell_inside j r t)))
       go false e l = absurd (let z : ◌≡◌ {A = ℕ} 0 1 = cc in omega arith)
 
-  pub no_check : {p n : ℕ} → p ≡ flag_place (cell_of j r) → n ≡ read_le 1 b p → (n ≡ 1 → ⊥) → Read Never (check_of b j r) (checks_of b j r)
+  pub no_check : {p n : ℕ} → p ≡ flag_place (cell_of j r) → n ≡ read_le 1 b p → (n ≡ 1 → ⊥) → Read None (check_of b j r) (checks_of b j r)
   unfolding check_in check_of
   no_check q c h =
       let f = ne_eqb (flag_in b (cell_of j r)) 1 (λ x. h (c ∙ ap (read_le 1 b) q ∙ x)) in
       record {
-        answer = sym (λ i. pick (f i) (Sent (read_set b (check_place (cell_of j r)))) Never);
-        means = sym (checks_at ∙ (λ i. pick (f i) (some (in_set (read_set b (check_place (cell_of j r))))) none));
+        answer = sym (λ i. pick (f i) (Some (read_set b (check_place (cell_of j r)))) None);
+        means = sym (checks_at ∙ (λ i. pick (f i) (Some (in_set (read_set b (check_place (cell_of j r))))) None));
       }
 
   pub some_check : {p n at : ℕ} {s : Set} → p ≡ flag_place (cell_of j r) → n ≡ read_le 1 b p → n ≡ 1 → at ≡ check_place (cell_of j r) → s ≡ read_set b at
-      → Read (Sent s) (check_of b j r) (checks_of b j r)
+      → Read (Some s) (check_of b j r) (checks_of b j r)
   unfolding check_in check_of
   some_check {p} {n} {at} {s} q c h o m =
       let f = eq-eqb (flag_in b (cell_of j r)) 1 (sym (c ∙ ap (read_le 1 b) q) ∙ h) in
       let w : s ≡ read_set b (check_place (cell_of j r)) = m ∙ ap (read_set b) o in
       record {
-        answer = ap Sent w ∙ sym (λ i. pick (f i) (Sent (read_set b (check_place (cell_of j r)))) Never);
-        means = ap (λ (x : Set). some (in_set x)) w ∙ sym (checks_at ∙ (λ i. pick (f i) (some (in_set (read_set b (check_place (cell_of j r))))) none));
+        answer = ap Some w ∙ sym (λ i. pick (f i) (Some (read_set b (check_place (cell_of j r)))) None);
+        means = ap (λ (x : Set). Some (in_set x)) w ∙ sym (checks_at ∙ (λ i. pick (f i) (Some (in_set (read_set b (check_place (cell_of j r))))) None));
       }

@@ -1,10 +1,10 @@
 -- What was sent after each write: the bytes are good, and the views differ in one cell, or say that nothing was sent.
 -- Assumes nothing.
+use Rattle.std.specs.Prelude.{None, Some}
 use mathlib.Core.Path.{◌≡◌, refl, sym, ap, subst, ◌∙◌}
 use mathlib.Core.Bool.{true}
 use mathlib.Core.Logic.{◌⊎◌, inl, inr, ⊎_elim}
 use mathlib.Core.List.{List, [], ◌∷◌, ◌++◌}
-use mathlib.Core.Option.{none, some}
 use Prim.Native.Nat.{ℕ, ◌+◌, ◌*◌, ◌^◌, ◌≤◌, ◌<◌}
 use native.Mathlib.Omega.{arith}
 use native.Mathlib.Decide.{ℕ_discrete}
@@ -57,7 +57,7 @@ module _ (k : ℕ) {b b' : List ℕ} (old : GoodSent b) (size : length b' ≡ se
   unfolding checks_of
   checks_same h =
       λ i j r.
-      same_view (check_in b') (check_in b) none
+      same_view (check_in b') (check_in b) None
       (λ m l. elim (ℕ_discrete m k) [ yes e ↦ ap (check_in b') e ∙ h ∙ ap (check_in b) (sym e) | no n ↦ same_check m (there m l n) ]) j r i
 
   acks_same : acks_in b' k ≡ acks_in b k → acks_of b' ≡ acks_of b
@@ -140,7 +140,7 @@ module _ (b : List ℕ) (j r : ℕ) (s : Set) (old : GoodSent b) (t : in_table j
         acks = acks_same k old size there (acks_checked b k s z inside (old.counts k inside));
         checks =
             λ i j' r'.
-            other_view (check_in new) (check_in b) none (λ l. some (in_set s)) j r t (check_checked b k s z inside fits)
+            other_view (check_in new) (check_in b) None (λ l. Some (in_set s)) j r t (check_checked b k s z inside fits)
             (λ m l n. same_check m (there m l n)) j' r' i;
         good = good_after k old size there c (omega arith);
       })
@@ -164,12 +164,12 @@ unfolding cleared
 cleared_at b size at h l = read_zeros 1 b counts_offset (2 * cells) at (omega arith) h (omega arith)
 
 -- Nothing is sent once all counts and flags are cleared.
-pub cleared_holds : (b : List ℕ) {b' : List ℕ} → length b ≡ sent_size → b' ≡ splice b counts_offset (replicate (2 * cells) 0) → Holds b' (cleared b) (λ j r. []) (λ j r. none)
+pub cleared_holds : (b : List ℕ) {b' : List ℕ} → length b ≡ sent_size → b' ≡ splice b counts_offset (replicate (2 * cells) 0) → Holds b' (cleared b) (λ j r. []) (λ j r. None)
 unfolding cleared acks_of checks_of acks_in check_in sets_from
 cleared_holds b h e =
     let new = cleared b in
     let at = cleared_at b h in
-    subst (λ (x : List ℕ). Holds x new (λ j r. []) (λ j r. none)) (sym e)
+    subst (λ (x : List ℕ). Holds x new (λ j r. []) (λ j r. None)) (sym e)
     (record {
       bytes = refl;
       acks =
@@ -177,9 +177,9 @@ cleared_holds b h e =
           (same_view (acks_in new) (λ m. []) [] (λ m l. ap (λ (n : ℕ). sets_from n (set_place m 0) new) (at (count_place m) (omega arith) (omega arith))) j r ∙ pick_same (in_table j r) []) i;
       checks =
           λ i j r.
-          (same_view (check_in new) (λ m. none) none
-          (λ m l. ap (λ (n : ℕ). pick (eqb n 1) (some (in_set (read_set new (check_place m)))) none) (at (flag_place m) (omega arith) (omega arith))) j r
-          ∙ pick_same (in_table j r) none) i;
+          (same_view (check_in new) (λ m. None) None
+          (λ m l. ap (λ (n : ℕ). pick (eqb n 1) (Some (in_set (read_set new (check_place m)))) None) (at (flag_place m) (omega arith) (omega arith))) j r
+          ∙ pick_same (in_table j r) None) i;
       good =
           record {
             size = length-splice b counts_offset (replicate (2 * cells) 0) (omega (arith, length-replicate {A = ℕ} (2 * cells) 0)) ∙ h;

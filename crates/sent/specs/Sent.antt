@@ -3,8 +3,7 @@
 -- The acknowledgments' sets come first, 512 bytes a cell, then the check messages' sets of all cells, 8 bytes each, so that each set stands at a multiple of 8.
 -- Then come the counts of all cells and then all flags, so that what a start clears stands together.
 -- Assumes nothing.
-use Rattle.std.specs.Prelude.{◌≡◌, Bool, ◌&&◌, List, [], ◌∷◌, ◌++◌, ℕ, zero, suc, ◌+◌, ◌*◌, ◌-◌, ◌≤◌, ◌<◌, eqb, leb, ltb, length, replicate}
-use Rattle.std.proofs.Math.Option.{Option, none, some}
+use Rattle.std.specs.Prelude.{◌≡◌, Bool, ◌&&◌, List, [], ◌∷◌, ◌++◌, ℕ, zero, suc, ◌+◌, ◌*◌, ◌-◌, ◌≤◌, ◌<◌, eqb, leb, ltb, length, replicate, None, Option, Some}
 use Rattle.theory.specs.Sets as theory
 use Rattle.theory.specs.Sets.{pick}
 use Rattle.theory.specs.Lists.{nth}
@@ -12,8 +11,6 @@ use Rattle.wire.specs.Wire.{bytes, read_le, splice}
 use Rattle.sets.specs.declared.Set.{Set}
 use Rattle.sets.specs.Sets.{in_set, set_bytes, read_set, write_set}
 use Rattle.table.specs.Table.{max_sites}
-use Rattle.sent.specs.declared.SentMessage.{SentMessage}
-use Rattle.sent.specs.declared.SentMessage.TheVariants.{Sent, Never}
 
 -- Messages are sent in rounds 1 to 33.
 abbrev pub sent_rounds : ℕ
@@ -87,7 +84,7 @@ unfoldable pub acks_in : List ℕ → ℕ → List theory.Set
 acks_in b k = sets_from (count_in b k) (set_place k 0) b
 
 unfoldable pub check_in : List ℕ → ℕ → Option theory.Set
-check_in b k = pick (eqb (flag_in b k) 1) (some (in_set (read_set b (check_place k)))) none
+check_in b k = pick (eqb (flag_in b k) 1) (Some (in_set (read_set b (check_place k)))) None
 
 -- A site and a round that have a cell.
 abbrev pub in_table : ℕ → ℕ → Bool
@@ -99,7 +96,7 @@ acks_of b j r = pick (in_table j r) (acks_in b (cell_of j r)) []
 
 -- The check message that site j sent in round r.
 unfoldable pub checks_of : List ℕ → ℕ → ℕ → Option theory.Set
-checks_of b j r = pick (in_table j r) (check_in b (cell_of j r)) none
+checks_of b j r = pick (in_table j r) (check_in b (cell_of j r)) None
 
 -- Bytes that are what sites have sent.
 pub record GoodSent (b : List ℕ) : Type 0 where
@@ -110,25 +107,25 @@ pub record GoodSent (b : List ℕ) : Type 0 where
 -- ---- messages
 
 -- A message as a set, where there is one.
-abbrev pub said : SentMessage → Option theory.Set
-said (Sent s) = some (in_set s)
-said Never = none
+abbrev pub said : Option Set → Option theory.Set
+said (Some s) = Some (in_set s)
+said None = None
 
 -- The a-th of a list, a from 1: there is no 0-th.
 abbrev pub numbered : List theory.Set → ℕ → Option theory.Set
-numbered l zero = none
+numbered l zero = None
 numbered l (suc n) = nth l n
 
 -- The a-th acknowledgment of site j and round r, a from 1: the 0-th was never sent.
-unfoldable pub acknowledgment_of : List ℕ → ℕ → ℕ → ℕ → SentMessage
-acknowledgment_of b j r a = pick (leb 1 a && leb a (count_in b (cell_of j r))) (Sent (read_set b (set_place (cell_of j r) (a - 1)))) Never
+unfoldable pub acknowledgment_of : List ℕ → ℕ → ℕ → ℕ → Option Set
+acknowledgment_of b j r a = pick (leb 1 a && leb a (count_in b (cell_of j r))) (Some (read_set b (set_place (cell_of j r) (a - 1)))) None
 
 -- The check message of site j and round r.
-unfoldable pub check_of : List ℕ → ℕ → ℕ → SentMessage
-check_of b j r = pick (eqb (flag_in b (cell_of j r)) 1) (Sent (read_set b (check_place (cell_of j r)))) Never
+unfoldable pub check_of : List ℕ → ℕ → ℕ → Option Set
+check_of b j r = pick (eqb (flag_in b (cell_of j r)) 1) (Some (read_set b (check_place (cell_of j r)))) None
 
 -- A message read: which one it is, and what it means.
-pub record Read (m exact : SentMessage) (meant : Option theory.Set) : Type 0 where
+pub record Read (m exact : Option Set) (meant : Option theory.Set) : Type 0 where
   pub answer : m ≡ exact
   pub means : said m ≡ meant
 
@@ -156,7 +153,7 @@ one_more i k x acks j r = pick (eqb j i && eqb r k) (acks j r ++ (x ∷ [])) (ac
 
 -- A check message, as the protocol sends it.
 abbrev pub checked : ℕ → ℕ → theory.Set → (ℕ → ℕ → Option theory.Set) → ℕ → ℕ → Option theory.Set
-checked i k x checks j r = pick (eqb j i && eqb r k) (some x) (checks j r)
+checked i k x checks j r = pick (eqb j i && eqb r k) (Some x) (checks j r)
 
 -- Bytes after a write: which they are, what they say, and that they are good.
 pub record Holds (b exact : List ℕ) (sent_acks : ℕ → ℕ → List theory.Set) (sent_checks : ℕ → ℕ → Option theory.Set) : Type 0 where

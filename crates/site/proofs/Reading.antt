@@ -1,6 +1,7 @@
 -- A log entry read: the position is raised where the protocol takes the step.
 -- Assumes nothing.
 use mathlib.Core.Path.{◌≡◌, refl, sym, ap, ◌∙◌}
+use Rattle.std.specs.Prelude.{Err, Ok}
 use mathlib.Core.Bool.{Bool, true, false, not}
 use mathlib.Core.List.{List}
 use Prim.Native.Nat.{ℕ, ◌+◌, ◌<◌}
@@ -8,7 +9,7 @@ use native.Mathlib.Numerals.{add-one}
 use native.Mathlib.Omega.{arith}
 use lib.ListN.{get_or, take}
 use Rattle.refusals.specs.declared.Refusal.TheVariants.{Disabled, ThirdEntry}
-use Rattle.refusals.specs.declared.Verdict.TheVariants.{Taken, Refused}
+use Rattle.refusals.specs.Refusals.{accepted}
 use Rattle.wire.specs.Wire.{bytes, splice}
 use Rattle.sets.specs.Sets.{in_set}
 use Rattle.protocol.specs.System.{granted, ◌else◌⨾◌, verdict}
@@ -26,18 +27,18 @@ pub position_fits : (b : List ℕ) {h : Site} → h ≡ head_of b → (head_of b
 position_fits b e l = let p = ap (λ (x : Site). x.position) e in omega arith
 
 module _ (b : List ℕ) (small : (i : ℕ) → get_or b i 0 < 256) (left third : Bool) where
-  pub nothing_left : left ≡ false → ReadEntry left third b (Refused Disabled) b
+  pub nothing_left : left ≡ false → ReadEntry left third b (Err Disabled) b
   nothing_left e t book log g el et =
       refused t book _ Disabled
       (λ i. verdict ((sym el ∙ e) i else Disabled ⨾ protocol.no_third (dash t book) (take (view t book b).position log) (protocol.next (dash t book) (view t book b) log) else ThirdEntry ⨾ granted))
       g small
 
-  pub third_left : left ≡ true → third ≡ true → ReadEntry left third b (Refused ThirdEntry) b
+  pub third_left : left ≡ true → third ≡ true → ReadEntry left third b (Err ThirdEntry) b
   third_left e h t book log g el et =
       refused t book _ ThirdEntry (λ i. verdict ((sym el ∙ e) i else Disabled ⨾ (sym et ∙ ap not h) i else ThirdEntry ⨾ granted)) g small
 
   pub entry_read : {n : ℕ} {b' : List ℕ} → left ≡ true → third ≡ false → n ≡ (head_of b).position + 1 → n < 65536 → b' ≡ splice b position_place (bytes 2 n)
-      → ((i : ℕ) → get_or b' i 0 < 256) → ReadEntry left third b Taken b'
+      → ((i : ℕ) → get_or b' i 0 < 256) → ReadEntry left third b accepted b'
   unfolding head_of
   entry_read {n = n} e h en l eb small' t book log g el et =
       let f = fit b small g.size in

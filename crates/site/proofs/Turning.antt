@@ -1,6 +1,8 @@
 -- A turn: the code's choice is the protocol's verdict, and the header after it is that of the protocol's site.
 -- Assumes nothing.
 use mathlib.Core.Path.{◌≡◌, refl, sym, ap, subst, ◌∙◌}
+use Rattle.refusals.specs.declared.Refusal.{Refusal}
+use Rattle.std.specs.Prelude.{Err, Ok, Result}
 use mathlib.Core.Bool.{Bool, true, false, ◌&&◌, ◌||◌, not}
 use mathlib.Core.Logic.{◌⊎◌, inl, inr, ⊎_elim}
 use mathlib.Core.List.{List}
@@ -10,8 +12,7 @@ use lib.ListN.{length, get_or}
 use borrow.Author.Tests.{lt-ltb, le-ltb, le-leb, lt-leb}
 use Rattle.refusals.specs.Refusals.{settled}
 use Rattle.refusals.specs.declared.Refusal.TheVariants.{Disabled, ThirdEntry, LastRound}
-use Rattle.refusals.specs.declared.Verdict.{Verdict}
-use Rattle.refusals.specs.declared.Verdict.TheVariants.{Taken, Refused}
+use Rattle.refusals.specs.Refusals.{Verdict}
 use Rattle.theory.specs.Sets.{pick, any}
 use Rattle.theory.specs.Counting.{never, same_test, lt_or_le, any_some, any_at, any_ext, not-not}
 use Rattle.sets.specs.declared.Set.{Set}
@@ -41,7 +42,7 @@ use Rattle.site.specs.Steps.{undelivered_of, new_of, chosen_in, chosen, answer_t
 -- ---- the paths of the code
 
 module _ (h : Site) (free third : Bool) where
-  pub choose_waiting : (p : Proposal) → h.phase ≡ Waiting p → turn.Refused Disabled ≡ chosen h free third
+  pub choose_waiting : (p : Proposal) → h.phase ≡ Waiting p → Err Disabled ≡ chosen h free third
   unfolding chosen
   choose_waiting p e = ap (λ (x : Phase). chosen_in x h free third) (sym e)
 
@@ -53,40 +54,40 @@ module _ (h : Site) (free third : Bool) where
     empty_is : {x : Bool} → v ≡ x → is_empty_of (new_of h) ≡ x
     empty_is ex = ap is_empty_of (sym new_is) ∙ sym ev ∙ ex
 
-    pub choose_nothing : v ≡ true → turn.Refused Disabled ≡ chosen h free third
+    pub choose_nothing : v ≡ true → Err Disabled ≡ chosen h free third
     unfolding chosen
     choose_nothing ex = simp (e, empty_is ex)
 
     module _ (ex : v ≡ false) where
-      pub choose_free : free ≡ true → turn.Acknowledged u ≡ chosen h free third
+      pub choose_free : free ≡ true → Ok (turn.Acknowledged u) ≡ chosen h free third
       unfolding chosen
       choose_free f = simp (e, empty_is ex, f, eu)
 
-      pub choose_third : free ≡ false → third ≡ true → turn.Refused ThirdEntry ≡ chosen h free third
+      pub choose_third : free ≡ false → third ≡ true → Err ThirdEntry ≡ chosen h free third
       unfolding chosen
       choose_third f o = simp (e, empty_is ex, f, o)
 
       module _ (f : free ≡ false) (o : third ≡ false) where
-        pub choose_last : last_round < h.round → turn.Refused LastRound ≡ chosen h free third
+        pub choose_last : last_round < h.round → Err LastRound ≡ chosen h free third
         unfolding chosen
         choose_last l = simp (e, empty_is ex, f, o, lt-leb h.round last_round l)
 
-        pub choose_propose : h.round ≤ last_round → turn.Proposed u (record { nc = h.pending; c = n }) ≡ chosen h free third
+        pub choose_propose : h.round ≤ last_round → Ok (turn.Proposed u (record { nc = h.pending; c = n })) ≡ chosen h free third
         unfolding chosen
         choose_propose l =
-            (λ i. turn.Proposed (eu i) (record { nc = h.pending; c = new_is i })) ∙ simp (e, empty_is ex, f, o, le-leb h.round last_round l)
+            (λ i. Ok (turn.Proposed (eu i) (record { nc = h.pending; c = new_is i }))) ∙ simp (e, empty_is ex, f, o, le-leb h.round last_round l)
 
 -- ---- the choice is the verdict
 
 -- What a turn answers, given the sets that it sends.
-answered : Verdict → Bool → Set → Proposal → Turn
-answered Taken true u p = turn.Acknowledged u
-answered Taken false u p = turn.Proposed u p
-answered (Refused r) free u p = turn.Refused r
+answered : Verdict → Bool → Set → Proposal → Result Turn Refusal
+answered (Ok _) true u p = Ok (turn.Acknowledged u)
+answered (Ok _) false u p = Ok (turn.Proposed u p)
+answered (Err r) free u p = Err r
 
 -- By the tests of an acknowledging site alone.
 by_tests : (empty free third low : Bool) (u : Set) (p : Proposal)
-    → pick empty (turn.Refused Disabled) (pick free (turn.Acknowledged u) (pick third (turn.Refused ThirdEntry) (pick low (turn.Proposed u p) (turn.Refused LastRound))))
+    → pick empty (Err Disabled) (pick free (Ok (turn.Acknowledged u)) (pick third (Err ThirdEntry) (pick low (Ok (turn.Proposed u p)) (Err LastRound))))
     ≡ answered (verdict (not empty else Disabled ⨾ free || not third else ThirdEntry ⨾ free || low else LastRound ⨾ granted)) free u p
 unfolding answered
 by_tests true free third low u p = refl
@@ -181,21 +182,17 @@ module _ (t : SiteTable) (book : List Command) (h : Site) (heard : ℕ → ℕ �
 
   sent : (v : Verdict) (free : Bool) → answered v free (undelivered_of h) entry ≡ answer_to t book v free (site_of t book h heard ledger)
   unfolding answered entry
-  sent Taken true = ap turn.Acknowledged undelivered-set
-  sent Taken false = λ k. turn.Proposed (undelivered-set k) (record { nc = sym (set_of-members h.pending f.pending) k; c = new-set k })
-  sent (Refused r) free = refl
+  sent (Ok _) true = ap (λ x. Ok (turn.Acknowledged x)) undelivered-set
+  sent (Ok _) false = λ k. Ok (turn.Proposed (undelivered-set k) (record { nc = sym (set_of-members h.pending f.pending) k; c = new-set k }))
+  sent (Err r) free = refl
 
 -- ---- the bytes after a turn
 
 -- What a turn that answers so writes.
-abbrev pub written_by : Turn → List ℕ → List ℕ
-written_by (turn.Acknowledged x) b = write_set b pending_place x
-written_by (turn.Proposed x p) b = phased b (Waiting p)
-written_by (turn.Refused r) b = b
-
--- An answer that is known.
-pub written : (b : List ℕ) {b' : List ℕ} {r r' : Turn} → r ≡ r' → b' ≡ written_by r' b → b' ≡ written_by r b
-written b er eb = eb ∙ ap (λ (r : Turn). written_by r b) (sym er)
+abbrev pub written_by : Result Turn Refusal → List ℕ → List ℕ
+written_by (Ok (turn.Acknowledged x)) b = write_set b pending_place x
+written_by (Ok (turn.Proposed x p)) b = phased b (Waiting p)
+written_by (Err r) b = b
 
 module _ (t : SiteTable) (book : List Command) (b : List ℕ) (small : (i : ℕ) → get_or b i 0 < 256) (good : Good t.sites (length book) b) where
   module _ {b' : List ℕ} (small' : (i : ℕ) → get_or b' i 0 < 256) where
@@ -203,7 +200,7 @@ module _ (t : SiteTable) (book : List Command) (b : List ℕ) (small : (i : ℕ)
         → b' ≡ written_by (answered v free u p) b
         → HoldsOver t book b b' (settled v (pick free (protocol.acknowledge (dash t book) (view t book b)) (protocol.propose (dash t book) (view t book b))) (view t book b))
     unfolding answered head_of
-    turn_site Taken true u p eu ep eb =
+    turn_site (Ok _) true u p eu ep eb =
         let f = fit b small good.size in
         let g = good.head in
         let h = head_of b in
@@ -246,7 +243,7 @@ module _ (t : SiteTable) (book : List Command) (b : List ℕ) (small : (i : ℕ)
           heard = heard_of b;
           ledger = (view t book b).ledger;
         })
-    turn_site Taken false u p eu ep eb =
+    turn_site (Ok _) false u p eu ep eb =
         let f = fit b small good.size in
         let g = good.head in
         let h = head_of b in
@@ -290,10 +287,10 @@ module _ (t : SiteTable) (book : List Command) (b : List ℕ) (small : (i : ℕ)
           heard = heard_of b;
           ledger = (view t book b).ledger;
         })
-    turn_site (Refused r) free u p eu ep eb =
+    turn_site (Err r) free u p eu ep eb =
         subst (λ (l : List ℕ). HoldsOver t book b l (view t book b)) (sym eb) (unchanged t book good small)
 
-  pub turn_holds : {r : Turn} {b' : List ℕ} (free third : Bool) (i : ℕ) (log : Log) → r ≡ chosen (head_of b) free third → b' ≡ written_by r b
+  pub turn_holds : {r : Result Turn Refusal} {b' : List ℕ} (free third : Bool) (i : ℕ) (log : Log) → r ≡ chosen (head_of b) free third → b' ≡ written_by r b
       → ((i : ℕ) → get_or b' i 0 < 256) → free ≡ protocol.acknowledges (dash t book) (view t book b) → not third ≡ ltb (entries i (view t book b).round log) 2
       → Turned t book i log (view t book b) b r b'
   turn_holds {r = r} free third i log er eb small' ef eo =
@@ -307,5 +304,5 @@ module _ (t : SiteTable) (book : List Command) (b : List ℕ) (small : (i : ℕ)
         answer = e ∙ sent t book (head_of b) heard ledger f good.head v k;
         site =
             turn_site small' v k (undelivered_of (head_of b)) (entry t book (head_of b) heard ledger f good.head) refl (entry_is t book (head_of b) heard ledger f good.head)
-            (eb ∙ ap (λ (x : Turn). written_by x b) e);
+            (eb ∙ ap (λ (x : Result Turn Refusal). written_by x b) e);
       }

@@ -1,10 +1,10 @@
 -- What each step of one site promises, at every site table and every book in which the lent bytes are good.
 -- Assumes nothing.
-use Rattle.std.specs.Prelude.{◌≡◌, Bool, true, false, not, List, ℕ, ◌<◌, leb, ltb, length, take}
+use Rattle.std.specs.Prelude.{◌≡◌, Bool, true, false, not, List, ℕ, ◌<◌, leb, ltb, length, take, Err, Ok, Result}
+use Rattle.refusals.specs.declared.Refusal.{Refusal}
 use Rattle.refusals.specs.Refusals.{settled}
 use Rattle.refusals.specs.declared.Refusal.TheVariants.{Disabled, ThirdEntry, LastRound}
-use Rattle.refusals.specs.declared.Verdict.{Verdict}
-use Rattle.refusals.specs.declared.Verdict.TheVariants.{Taken, Refused}
+use Rattle.refusals.specs.Refusals.{Verdict}
 use Rattle.theory.specs.Sets.{pick, only}
 use Rattle.sets.specs.declared.Set.{Set}
 use Rattle.sets.specs.Sets.{capacity, in_set, set_of, without_of, is_empty_of, within_of}
@@ -34,16 +34,16 @@ abbrev pub new_of : Site → Set
 new_of h = without_of (undelivered_of h) h.pending
 
 -- What a turn answers in a phase, by the header, the conflict test and whether the site has two entries of its round.
-abbrev pub chosen_in : Phase → Site → Bool → Bool → Turn
-chosen_in (Waiting p) h free third = turn.Refused Disabled
+abbrev pub chosen_in : Phase → Site → Bool → Bool → Result Turn Refusal
+chosen_in (Waiting p) h free third = Err Disabled
 chosen_in Acknowledging h free third =
-    pick (is_empty_of (new_of h)) (turn.Refused Disabled)
-    (pick free (turn.Acknowledged (undelivered_of h))
-    (pick third (turn.Refused ThirdEntry)
-    (pick (leb h.round last_round) (turn.Proposed (undelivered_of h) (record { nc = h.pending; c = new_of h })) (turn.Refused LastRound))))
+    pick (is_empty_of (new_of h)) (Err Disabled)
+    (pick free (Ok (turn.Acknowledged (undelivered_of h)))
+    (pick third (Err ThirdEntry)
+    (pick (leb h.round last_round) (Ok (turn.Proposed (undelivered_of h) (record { nc = h.pending; c = new_of h }))) (Err LastRound))))
 
 -- The phase is the header's.
-unfoldable pub chosen : Site → Bool → Bool → Turn
+unfoldable pub chosen : Site → Bool → Bool → Result Turn Refusal
 chosen h free third = chosen_in h.phase h free third
 
 -- ---- the steps
@@ -68,15 +68,15 @@ Heard j r x b b' =
 
 module _ (t : SiteTable) (book : List Command) where
   -- What a turn sends: an acknowledgment, or a check message and an entry's two sets.
-  abbrev pub answer_to : Verdict → Bool → protocol.Site (dash t book) → Turn
-  answer_to Taken true s = turn.Acknowledged (set_of capacity (protocol.undelivered (dash t book) s))
-  answer_to Taken false s =
-      turn.Proposed (set_of capacity (protocol.undelivered (dash t book) s))
-      (record { nc = set_of capacity s.pending; c = set_of capacity (protocol.unacknowledged (dash t book) s) })
-  answer_to (Refused r) free s = turn.Refused r
+  abbrev pub answer_to : Verdict → Bool → protocol.Site (dash t book) → Result Turn Refusal
+  answer_to (Ok _) true s = Ok (turn.Acknowledged (set_of capacity (protocol.undelivered (dash t book) s)))
+  answer_to (Ok _) false s =
+      Ok (turn.Proposed (set_of capacity (protocol.undelivered (dash t book) s))
+      (record { nc = set_of capacity s.pending; c = set_of capacity (protocol.unacknowledged (dash t book) s) }))
+  answer_to (Err r) free s = Err r
 
   -- A turn of site i, with its append judged by the whole log.
-  pub record Turned (i : ℕ) (log : Log) (s : protocol.Site (dash t book)) (before : List ℕ) (r : Turn) (b : List ℕ) : Type 0 where
+  pub record Turned (i : ℕ) (log : Log) (s : protocol.Site (dash t book)) (before : List ℕ) (r : Result Turn Refusal) (b : List ℕ) : Type 0 where
     pub answer : r ≡ answer_to (verdict (protocol.for_turn (dash t book) i s log)) (protocol.acknowledges (dash t book) s) s
     pub site :
         HoldsOver t book before b
@@ -85,7 +85,7 @@ module _ (t : SiteTable) (book : List Command) where
         s)
 
 -- The turn of any site i, where the conflict test of what is undelivered says `free`, and `third` that the log has two entries of the site and its round.
-abbrev pub TookTurn : Bool → Bool → List ℕ → Turn → List ℕ → Type 0
+abbrev pub TookTurn : Bool → Bool → List ℕ → Result Turn Refusal → List ℕ → Type 0
 TookTurn free third b r b' =
     (t : SiteTable) (book : List Command) (i : ℕ) (log : Log) → Good t.sites (length book) b
     → free ≡ protocol.acknowledges (dash t book) (view t book b) → not third ≡ ltb (entries i (view t book b).round log) 2

@@ -16,7 +16,6 @@ use sets::Set;
 pub enum Turn {
     Acknowledged(Set),
     Proposed { check: Set, entry: Proposal },
-    Refused(Refusal),
 }
 
 // The last round that the log takes.
@@ -61,57 +60,51 @@ pub fn undelivered(header: Site) -> Set
 }
 
 // What a turn does, by the conflict test of what is undelivered and whether the site has two entries of its round.
-fn choose(header: Site, free: bool, third: bool) -> Turn
+fn choose(header: Site, free: bool, third: bool) -> Result<Turn, Refusal>
     ensures { result ≡ chosen header free third }
 {
     let phase = header.phase;
     let pending = header.pending;
     match phase {
-        Phase::Waiting(_) => Turn::Refused(Refusal::Disabled),
+        Phase::Waiting(_) => Err(Refusal::Disabled),
         Phase::Acknowledging => {
             let check = undelivered(header);
             let new = check.without(pending);
             if new.is_empty() {
-                return Turn::Refused(Refusal::Disabled);
+                return Err(Refusal::Disabled);
             }
             if free {
-                return Turn::Acknowledged(check);
+                return Ok(Turn::Acknowledged(check));
             }
             if third {
-                return Turn::Refused(Refusal::ThirdEntry);
+                return Err(Refusal::ThirdEntry);
             }
             if header.round > LAST_ROUND {
-                return Turn::Refused(Refusal::LastRound);
+                return Err(Refusal::LastRound);
             }
-            Turn::Proposed {
+            Ok(Turn::Proposed {
                 check,
                 entry: Proposal {
                     nc: pending,
                     c: new,
                 },
-            }
+            })
         }
     }
 }
 
 // A turn: the site acknowledges what it received, or proposes where that has a conflict, or is refused.
-pub fn take_turn(site: &mut [u8], free: bool, third: bool) -> Turn
+pub fn take_turn(site: &mut [u8], free: bool, third: bool) -> Result<Turn, Refusal>
     requires { length site.old ≡ site_size }
     ensures { TookTurn free third site.old result site.new }
 {
     let header = Site::read(&site[..]);
-    let answer = choose(header, free, third);
-    match answer {
-        Turn::Acknowledged(raised) => {
-            layout::set_pending(site, raised);
-            answer
-        }
-        Turn::Proposed { check: _, entry } => {
-            layout::set_phase(site, Phase::Waiting(entry));
-            answer
-        }
-        Turn::Refused(_) => answer,
+    let turn = choose(header, free, third)?;
+    match turn {
+        Turn::Acknowledged(raised) => layout::set_pending(site, raised),
+        Turn::Proposed { entry, .. } => layout::set_phase(site, Phase::Waiting(entry)),
     }
+    Ok(turn)
 }
 
 // The next entry of the log is read, in either phase: whether one is left, and whether it is a third of its site and round, is told.
@@ -120,12 +113,12 @@ pub fn read_entry(site: &mut [u8], left: bool, third: bool) -> Verdict
     ensures { ReadEntry left third site.old result site.new }
 {
     if !left {
-        return Verdict::Refused(Refusal::Disabled);
+        return Err(Refusal::Disabled);
     }
     if third {
-        return Verdict::Refused(Refusal::ThirdEntry);
+        return Err(Refusal::ThirdEntry);
     }
     let header = Site::read(&site[..]);
     layout::set_position(site, header.position + 1);
-    Verdict::Taken
+    Ok(())
 }

@@ -1,9 +1,9 @@
 -- The standing as sets of sites agrees with the protocol's: which sources are seen and valid, whether the round is decided, and where.
 -- Assumes nothing.
+use Rattle.std.specs.Prelude.{None, Some}
 use mathlib.Core.Path.{◌≡◌, refl, sym, ap, ◌∙◌, subst}
 use mathlib.Core.Bool.{Bool, true, false, ◌&&◌, ◌||◌}
 use mathlib.Core.List.{List}
-use mathlib.Core.Option.{none, some}
 use Prim.Native.Nat.{ℕ, zero, suc, ◌+◌, ◌-◌, ◌≤◌, ◌<◌}
 use native.Mathlib.Decide.{ℕ_discrete}
 use native.Mathlib.Omega.{arith}
@@ -101,7 +101,7 @@ module _ (t : SiteTable) (rows : List ℕ) where
   module _ (r : ℕ) (b : List ℕ) where
     -- The standing s after k entries agrees with the protocol's.
     pub record Agrees (k : ℕ) (s : Standing) : Type 0 where
-      pub decides : decide (rows_system t rows) r (log_to b k) ≡ pick s.decided (some (tally_to (rows_system t rows) r b s.entries)) none
+      pub decides : decide (rows_system t rows) r (log_to b k) ≡ pick s.decided (Some (tally_to (rows_system t rows) r b s.entries)) None
       pub place : s.decided ≡ true → s.entries ≤ k
       pub marks : Marks s (tally_to (rows_system t rows) r b (pick s.decided s.entries k))
       pub waits : s.decided ≡ false → eqb (valid_count (rows_system t rows) (tally_to (rows_system t rows) r b k)) (n_chk_of t) ≡ false
@@ -111,16 +111,16 @@ module _ (t : SiteTable) (rows : List ℕ) where
     agrees_decided k s e h =
         let d : Tally = tally_to (rows_system t rows) r b s.entries in
         record {
-          decides = decide_stays (rows_system t rows) r b k d (h.decides ∙ ap (λ (x : Bool). pick x (some d) none) e)
-              ∙ ap (λ (x : Bool). pick x (some d) none) (sym e);
+          decides = decide_stays (rows_system t rows) r b k d (h.decides ∙ ap (λ (x : Bool). pick x (Some d) None) e)
+              ∙ ap (λ (x : Bool). pick x (Some d) None) (sym e);
           place = λ q. omega (arith, h.place q);
           marks = subst (λ (x : Bool). Marks s (tally_to (rows_system t rows) r b (pick x s.entries (suc k)))) (sym e)
               (subst (λ (x : Bool). Marks s (tally_to (rows_system t rows) r b (pick x s.entries k))) e h.marks);
           waits = λ q. absurd (never s.decided e q);
         }
 
-    undecided : (k : ℕ) (s : Standing) → s.decided ≡ false → Agrees k s → decide (rows_system t rows) r (log_to b k) ≡ none
-    undecided k s e h = h.decides ∙ ap (λ (x : Bool). pick x (some (tally_to (rows_system t rows) r b s.entries)) none) e
+    undecided : (k : ℕ) (s : Standing) → s.decided ≡ false → Agrees k s → decide (rows_system t rows) r (log_to b k) ≡ None
+    undecided k s e h = h.decides ∙ ap (λ (x : Bool). pick x (Some (tally_to (rows_system t rows) r b s.entries)) None) e
 
     marks_now : (k : ℕ) (s : Standing) → s.decided ≡ false → Agrees k s → Marks s (tally_to (rows_system t rows) r b k)
     marks_now k s e h = subst (λ (x : Bool). Marks s (tally_to (rows_system t rows) r b (pick x s.entries k))) e h.marks
@@ -149,8 +149,8 @@ module _ (t : SiteTable) (rows : List ℕ) where
         ap (λ (n : ℕ). eqb n (n_chk_of t)) same ∙ h.waits e in
         record {
           decides = decide-more (rows_system t rows) r b k (undecided k s e h)
-              ∙ ap (λ (x : Bool). pick x (some (tally_to (rows_system t rows) r b (suc k))) none) w
-              ∙ ap (λ (x : Bool). pick x (some (tally_to (rows_system t rows) r b s.entries)) none) (sym e);
+              ∙ ap (λ (x : Bool). pick x (Some (tally_to (rows_system t rows) r b (suc k))) None) w
+              ∙ ap (λ (x : Bool). pick x (Some (tally_to (rows_system t rows) r b s.entries)) None) (sym e);
           place = λ q. absurd (never s.decided q e);
           marks = subst (λ (x : Bool). Marks s (tally_to (rows_system t rows) r b (pick x s.entries (suc k)))) (sym e)
               (record {
@@ -201,7 +201,7 @@ module _ (t : SiteTable) (rows : List ℕ) where
         let same = valid_size s' (tally_to (rows_system t rows) r b (suc k)) few m in
         record {
           decides = decide-more (rows_system t rows) r b k (undecided k s e h)
-              ∙ ap (λ (n : ℕ). pick (eqb n (n_chk_of t)) (some (tally_to (rows_system t rows) r b (suc k))) none) (sym same);
+              ∙ ap (λ (n : ℕ). pick (eqb n (n_chk_of t)) (Some (tally_to (rows_system t rows) r b (suc k))) None) (sym same);
           place = λ q. omega arith;
           marks = subst (λ (n : ℕ). Marks s' (tally_to (rows_system t rows) r b n)) (sym (pick_same s'.decided (suc k))) m;
           waits = λ q. ap (λ (n : ℕ). eqb n (n_chk_of t)) (sym same) ∙ q;

@@ -1,10 +1,10 @@
 -- The protocol's standing after the first k entries of bytes, and how one entry more changes it and the decision.
 -- Assumes nothing.
+use Rattle.std.specs.Prelude.{None, Option, Some}
 use mathlib.Core.Path.{◌≡◌, refl, sym, ap, ◌∙◌}
 use mathlib.Core.Bool.{Bool, true, false, ◌&&◌}
 use mathlib.Core.List.{List, [], ◌∷◌, ◌++◌, foldl}
 use mathlib.Core.Logic.{◌⊎◌, inl, inr}
-use mathlib.Core.Option.{Option, none, some}
 use Prim.Native.Nat.{ℕ, zero, suc, ◌≤◌, ◌<◌}
 use native.Mathlib.Omega.{arith}
 use lib.Dec.{eqb}
@@ -19,23 +19,23 @@ use Rattle.entries.specs.Entries.{entry_of, view_entry, log_to}
 module _ (S : System) (r : ℕ) where
   -- A standing decides where nChk sources are valid.
   abbrev pub decided_by : Tally → Option Tally
-  decided_by t = pick (eqb (valid_count S t) S.n_chk) (some t) none
+  decided_by t = pick (eqb (valid_count S t) S.n_chk) (Some t) None
 
   fold_last : (t : Tally) (l : Log) (e : Entry) → foldl (add S r) t (l ++ (e ∷ [])) ≡ add S r (foldl (add S r) t l) e
   fold_last t [] e = refl
   fold_last t (x ∷ l) e = fold_last (add S r t x) l e
 
   -- A log that does not decide, with one entry more.
-  decide_last : (t : Tally) (l : Log) (e : Entry) → decide_from S r t l ≡ none
+  decide_last : (t : Tally) (l : Log) (e : Entry) → decide_from S r t l ≡ None
       → decide_from S r t (l ++ (e ∷ [])) ≡ decided_by (foldl (add S r) t (l ++ (e ∷ [])))
   unfolding decide_from
   decide_last t [] e h = refl
   decide_last t (x ∷ l) e h = go (eqb (valid_count S (add S r t x)) S.n_chk) h (decide_last (add S r t x) l e)
     where
-      go : (b : Bool) → pick b (some (add S r t x)) (decide_from S r (add S r t x) l) ≡ none
-          → (decide_from S r (add S r t x) l ≡ none
+      go : (b : Bool) → pick b (Some (add S r t x)) (decide_from S r (add S r t x) l) ≡ None
+          → (decide_from S r (add S r t x) l ≡ None
           → decide_from S r (add S r t x) (l ++ (e ∷ [])) ≡ decided_by (foldl (add S r) (add S r t x) (l ++ (e ∷ []))))
-          → pick b (some (add S r t x)) (decide_from S r (add S r t x) (l ++ (e ∷ []))) ≡ decided_by (foldl (add S r) (add S r t x) (l ++ (e ∷ [])))
+          → pick b (Some (add S r t x)) (decide_from S r (add S r t x) (l ++ (e ∷ []))) ≡ decided_by (foldl (add S r) (add S r t x) (l ++ (e ∷ [])))
       go true h ih = none-some (sym h)
       go false h ih = ih h
 
@@ -51,15 +51,15 @@ module _ (S : System) (r : ℕ) where
     tally_to_lem (suc k) =
         fold_last nobody (log_to b k) (view_entry (entry_of b k)) ∙ ap (λ (t : Tally). add S r t (view_entry (entry_of b k))) (tally_to_lem k)
 
-    pub decide-none : decide S r (log_to b 0) ≡ none
+    pub decide-none : decide S r (log_to b 0) ≡ None
     unfolding log_to decide_from
     decide-none = refl
 
-    pub decide-more : (k : ℕ) → decide S r (log_to b k) ≡ none → decide S r (log_to b (suc k)) ≡ decided_by (tally_to (suc k))
+    pub decide-more : (k : ℕ) → decide S r (log_to b k) ≡ None → decide S r (log_to b (suc k)) ≡ decided_by (tally_to (suc k))
     unfolding log_to
     decide-more k h = decide_last nobody (log_to b k) (view_entry (entry_of b k)) h ∙ ap decided_by (tally_to_lem (suc k))
 
-    pub decide_stays : (k : ℕ) (d : Tally) → decide S r (log_to b k) ≡ some d → decide S r (log_to b (suc k)) ≡ some d
+    pub decide_stays : (k : ℕ) (d : Tally) → decide S r (log_to b k) ≡ Some d → decide S r (log_to b (suc k)) ≡ Some d
     unfolding log_to
     decide_stays k d h = decide_grows S r (log_to b k) (view_entry (entry_of b k) ∷ []) d h
 

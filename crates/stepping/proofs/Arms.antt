@@ -8,7 +8,7 @@ use native.Mathlib.Omega.{arith}
 use lib.ListN.{length, get_or}
 use denote.Enum.Declared as Declared
 use types.Run.{OneOf, miss}
-use Rattle.refusals.specs.declared.Verdict.{Verdict}
+use Rattle.refusals.specs.Refusals.{Verdict}
 use Rattle.theory.specs.Counting.{never}
 use Rattle.sets.specs.Sets.{capacity}
 use Rattle.table.specs.declared.SiteTable.{SiteTable}

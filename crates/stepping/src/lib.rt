@@ -45,7 +45,7 @@ fn arrive(sites: &mut [u8], sent: &[u8], rules: Rules, step: Step) -> Verdict
             round,
             set,
         } => arrivals::false_check(sites, rules, site, from, round, set),
-        _ => Verdict::Refused(Refusal::Form),
+        _ => Err(Refusal::Form),
     }
 }
 

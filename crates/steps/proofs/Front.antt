@@ -1,6 +1,7 @@
 -- What a whole reading tells of the bytes it was read from.
 -- Assumes nothing.
 use mathlib.Core.Bool.{Bool, true, false}
+use Rattle.std.specs.Prelude.{None, Some}
 use mathlib.Core.Path.{◌≡◌, refl, sym, ap, subst, ◌∙◌}
 use mathlib.Core.List.{List, ◌∷◌, ◌++◌, append_assoc}
 use Prim.Native.Nat.{ℕ, zero, suc, ◌+◌, ◌*◌, ◌≤◌, ◌<◌}
@@ -13,7 +14,6 @@ use Rattle.wire.specs.Wire.{read_le, bytes}
 use Rattle.wire.proofs.Laws.{read_lt, peel}
 use Rattle.sets.specs.Sets.{set_bytes, read_set}
 use Rattle.steps.specs.declared.Step.{Step}
-use Rattle.steps.specs.declared.Reading.TheVariants.{Whole, Unreadable}
 use Rattle.steps.specs.Steps.{size_of, byte, given, uncut, read_as, read_step, encode_step, InRange}
 
 -- Every byte is below 256.
@@ -59,21 +59,21 @@ module _ (s : List ℕ) where
         ∙ peel s small set_bytes 3 (omega arith))
         ∙ back_3 (omega arith)
 
-given-true : (b : Bool) (u : Step) {t : Step} → given b u ≡ Whole t → (b ≡ true) × (u ≡ t)
+given-true : (b : Bool) (u : Step) {t : Step} → given b u ≡ Some t → (b ≡ true) × (u ≡ t)
 given-true true u {t} h = (refl, let q : u ≡ t = cc in q)
 given-true false u h = absurd (let z : ◌≡◌ {A = ℕ} 0 1 = cc in omega arith)
 
-not_whole : {t : Step} → Unreadable ≡ Whole t → ⊥
+not_whole : {t : Step} → None ≡ Some t → ⊥
 not_whole e = let z : ◌≡◌ {A = ℕ} 0 1 = cc in omega arith
 
 -- An uncut reading that is whole.
-from_uncut : (s : List ℕ) (u : Step) {t : Step} → (size_of u ≤ length s → Front s u) → uncut s u ≡ Whole t → Front s t
+from_uncut : (s : List ℕ) (u : Step) {t : Step} → (size_of u ≤ length s → Front s u) → uncut s u ≡ Some t → Front s t
 unfolding uncut
 from_uncut s u f q =
     let g = given-true (leb (size_of u) (length s)) u q in
     subst (λ (d : Step). Front s d) g.1 (f (leb-true (size_of u) (length s) g.0))
 
-by_code : (k : ℕ) (s : List ℕ) {t : Step} → byte s 0 ≡ k → read_as k s ≡ Whole t → Front s t
+by_code : (k : ℕ) (s : List ℕ) {t : Step} → byte s 0 ≡ k → read_as k s ≡ Some t → Front s t
 unfolding read_as read_set
 by_code zero s e q = absurd (not_whole q)
 by_code (suc zero) s e q = from_uncut s _ (λ h. record { size = h; range = λ small. tt; back = λ small. back_3 s e h }) q
@@ -88,6 +88,6 @@ by_code (suc (suc (suc (suc (suc (suc (suc (suc (suc zero))))))))) s e q = from_
 by_code (suc (suc (suc (suc (suc (suc (suc (suc (suc (suc zero)))))))))) s e q = from_uncut s _ (λ h. record { size = h; range = λ small. tt; back = λ small. back_2 s e h }) q
 by_code (suc (suc (suc (suc (suc (suc (suc (suc (suc (suc (suc k))))))))))) s e q = absurd (not_whole q)
 
-pub front : (s : List ℕ) {t : Step} → read_step s ≡ Whole t → Front s t
+pub front : (s : List ℕ) {t : Step} → read_step s ≡ Some t → Front s t
 unfolding read_step
 front s q = by_code (byte s 0) s refl q

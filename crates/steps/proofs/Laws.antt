@@ -1,6 +1,7 @@
 -- Laws of the code that reads and writes a step.
 -- Assumes nothing.
 use mathlib.Core.Path.{◌≡◌, refl, sym, ap, subst, ◌∙◌}
+use Rattle.std.specs.Prelude.{None, Option, Some}
 use mathlib.Core.List.{List, [], ◌∷◌, ◌++◌}
 use Prim.Native.Nat.{ℕ, zero, suc, ◌+◌, ◌-◌, ◌≤◌, ◌<◌}
 use native.Mathlib.Decide.{dec_lt}
@@ -13,17 +14,15 @@ use Rattle.sets.specs.declared.Set.{Set}
 use Rattle.sets.specs.Sets.{set_bytes}
 use Rattle.steps.specs.declared.Step.{Step}
 use Rattle.steps.specs.declared.Step.TheVariants.{FalseEntry}
-use Rattle.steps.specs.declared.Reading.{Reading}
-use Rattle.steps.specs.declared.Reading.TheVariants.{Whole, Unreadable}
 use Rattle.steps.specs.Steps.{size_of, byte, uncut, by_code, read_as, read_step, set_operand, encode_step}
 
 -- ---- reading
 
-pub whole : (s : List ℕ) (t : Step) → size_of t ≤ length s → Whole t ≡ uncut s t
+pub whole : (s : List ℕ) (t : Step) → size_of t ≤ length s → Some t ≡ uncut s t
 unfolding uncut
 whole s t h = rw (le-leb (size_of t) (length s) h) refl
 
-pub cut : (s : List ℕ) (t : Step) → length s < size_of t → Unreadable ≡ uncut s t
+pub cut : (s : List ℕ) (t : Step) → length s < size_of t → None ≡ uncut s t
 unfolding uncut
 cut s t h = rw (lt-leb (size_of t) (length s) h) refl
 
@@ -39,15 +38,15 @@ next : {n k : ℕ} → n < k → (k ≡ suc n → ⊥) → suc n < k
 next h e = omega arith
 
 -- The codes are 01 to 0A.
-pub no_code : (s : List ℕ) (k : ℕ) → (k ≡ 1 → ⊥) → (k ≡ 2 → ⊥) → (k ≡ 3 → ⊥) → (k ≡ 4 → ⊥) → (k ≡ 5 → ⊥) → (k ≡ 6 → ⊥) → (k ≡ 7 → ⊥) → (k ≡ 8 → ⊥) → (k ≡ 9 → ⊥) → (k ≡ 10 → ⊥) → Unreadable ≡ read_as k s
+pub no_code : (s : List ℕ) (k : ℕ) → (k ≡ 1 → ⊥) → (k ≡ 2 → ⊥) → (k ≡ 3 → ⊥) → (k ≡ 4 → ⊥) → (k ≡ 5 → ⊥) → (k ≡ 6 → ⊥) → (k ≡ 7 → ⊥) → (k ≡ 8 → ⊥) → (k ≡ 9 → ⊥) → (k ≡ 10 → ⊥) → None ≡ read_as k s
 unfolding read_as
 no_code s zero n₁ n₂ n₃ n₄ n₅ n₆ n₇ n₈ n₉ n₁₀ = refl
-no_code s (suc k) n₁ n₂ n₃ n₄ n₅ n₆ n₇ n₈ n₉ n₁₀ = sym (get_or-eq_default (by_code s) Unreadable (next (next (next (next (next (next (next (next (next (next (omega arith) n₁) n₂) n₃) n₄) n₅) n₆) n₇) n₈) n₉) n₁₀))
+no_code s (suc k) n₁ n₂ n₃ n₄ n₅ n₆ n₇ n₈ n₉ n₁₀ = sym (get_or-eq_default (by_code s) None (next (next (next (next (next (next (next (next (next (next (omega arith) n₁) n₂) n₃) n₄) n₅) n₆) n₇) n₈) n₉) n₁₀))
 
 -- The step that stands at a position is read from the bytes from there on.
 module _ (s : List ℕ) (at : ℕ) where
   -- In code these are the elements of a part of the bytes.
-  pub part_read : {r : Reading} {code : ℕ} (k : ℕ) → code ≡ byte (take (length s - at) (drop at s)) 0 → code ≡ k → r ≡ read_as k (take (length s - at) (drop at s)) → r ≡ read_step (drop at s)
+  pub part_read : {r : Option Step} {code : ℕ} (k : ℕ) → code ≡ byte (take (length s - at) (drop at s)) 0 → code ≡ k → r ≡ read_as k (take (length s - at) (drop at s)) → r ≡ read_step (drop at s)
   unfolding read_step
   part_read k e h q =
       let p = part_all s at in

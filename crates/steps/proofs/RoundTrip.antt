@@ -1,6 +1,7 @@
 -- Both round trips, of a step and of a list of steps: what is written reads back, and what was read is written as it was.
 -- Assumes nothing.
 use mathlib.Core.Path.{◌≡◌, refl, sym, ap, ◌∙◌}
+use Rattle.std.specs.Prelude.{None, Option, Some}
 use mathlib.Core.List.{List, [], ◌∷◌, ◌++◌, map}
 use Prim.Native.Nat.{ℕ, ◌+◌}
 use native.Mathlib.Omega.{arith}
@@ -12,8 +13,6 @@ use Rattle.sets.specs.declared.Set.{Set}
 use Rattle.sets.specs.Sets.{set_bytes, read_set}
 use Rattle.steps.specs.declared.Step.{Step}
 use Rattle.steps.specs.declared.Step.TheVariants.{Command, Acknowledgment, Check, FalseAcknowledgment, FalseCheck, FalseEntry, Turn, FastDelivery, LogRead, RoundEnd}
-use Rattle.steps.specs.declared.Reading.{Reading}
-use Rattle.steps.specs.declared.Reading.TheVariants.{Whole, Unreadable}
 use Rattle.steps.specs.Steps.{size_of, uncut, read_as, read_step, and_then, readings, steps_of, set_operand, encode_step, encode_steps, SetFits, InRange, AllInRange}
 use Rattle.steps.proofs.Laws.{whole}
 use Rattle.steps.proofs.Front.{Small, front}
@@ -36,11 +35,11 @@ set_back : (x : Set) → SetFits x → record { bits = value (set_operand x) } �
 set_back x h = λ i. record { bits = value-bytes set_bytes x.bits h i }
 
 -- What is read of a step's bytes, whatever stands after them, is not cut.
-uncut_back : (t : Step) (s : List ℕ) {r : Reading} → r ≡ uncut (encode_step t ++ s) t → r ≡ Whole t
+uncut_back : (t : Step) (s : List ℕ) {r : Option Step} → r ≡ uncut (encode_step t ++ s) t → r ≡ Some t
 uncut_back t s e = e ∙ sym (whole (encode_step t ++ s) t (omega (arith, length-append (encode_step t) s, length-step t)))
 
 -- A written step reads back, whatever stands after it.
-pub read-written : (t : Step) (s : List ℕ) → InRange t → read_step (encode_step t ++ s) ≡ Whole t
+pub read-written : (t : Step) (s : List ℕ) → InRange t → read_step (encode_step t ++ s) ≡ Some t
 unfolding read_step read_as read_set read_le bytes
 read-written (Command i m) s f = uncut_back (Command i m) s refl
 read-written (Acknowledgment i j r a) s f = uncut_back (Acknowledgment i j r a) s refl
@@ -57,17 +56,17 @@ read-written (LogRead i) s f = uncut_back (LogRead i) s refl
 read-written (RoundEnd i) s f = uncut_back (RoundEnd i) s refl
 
 -- A step that was read, written in front of what is left, gives the bytes.
-pub written_read : (s : List ℕ) {t : Step} → Small s → read_step s ≡ Whole t → encode_step t ++ drop (size_of t) s ≡ s
+pub written_read : (s : List ℕ) {t : Step} → Small s → read_step s ≡ Some t → encode_step t ++ drop (size_of t) s ≡ s
 written_read s small e = (front s e).back small
 
 -- Written steps read back.
-pub steps_back : (ts : List Step) → AllInRange ts → steps_of (encode_steps ts) ≡ map Whole ts
+pub steps_back : (ts : List Step) → AllInRange ts → steps_of (encode_steps ts) ≡ map Some ts
 unfolding steps_of
 steps_back [] f = refl
 steps_back (t ∷ ts) f =
     steps_more (encode_step t ++ encode_steps ts) (read-written t (encode_steps ts) f.0)
-    ∙ ap (λ (l : List ℕ). Whole t ∷ steps_of l) (drop_at (encode_step t) (encode_steps ts) (size_of t) (length-step t))
-    ∙ ap (λ (l : List Reading). Whole t ∷ l) (steps_back ts f.1)
+    ∙ ap (λ (l : List ℕ). Some t ∷ steps_of l) (drop_at (encode_step t) (encode_steps ts) (size_of t) (length-step t))
+    ∙ ap (λ (l : List (Option Step)). Some t ∷ l) (steps_back ts f.1)
 
 -- No step is read only where there are no bytes.
 no_steps : (s : List ℕ) → steps_of s ≡ [] → s ≡ []
@@ -75,28 +74,28 @@ unfolding steps_of
 no_steps [] e = refl
 no_steps (b ∷ s) e = absurd (by_reading (read_step (b ∷ s)) e)
   where
-    by_reading : (r : Reading) → and_then r (λ k. readings s k) ≡ [] → ⊥
-    by_reading (Whole t) q = let z : ◌≡◌ {A = ℕ} 0 1 = cc in omega arith
-    by_reading Unreadable q = let z : ◌≡◌ {A = ℕ} 0 1 = cc in omega arith
+    by_reading : (r : Option Step) → and_then r (λ k. readings s k) ≡ [] → ⊥
+    by_reading (Some t) q = let z : ◌≡◌ {A = ℕ} 0 1 = cc in omega arith
+    by_reading None q = let z : ◌≡◌ {A = ℕ} 0 1 = cc in omega arith
 
 -- The first of some steps, and those after it.
-first_step : (s : List ℕ) {t : Step} {rs : List Reading} → steps_of s ≡ Whole t ∷ rs → (read_step s ≡ Whole t) × (steps_of (drop (size_of t) s) ≡ rs)
+first_step : (s : List ℕ) {t : Step} {rs : List (Option Step)} → steps_of s ≡ Some t ∷ rs → (read_step s ≡ Some t) × (steps_of (drop (size_of t) s) ≡ rs)
 unfolding steps_of
 first_step [] e = absurd (let z : ◌≡◌ {A = ℕ} 0 1 = cc in omega arith)
 first_step (b ∷ s) {t} {rs} e = by_reading (read_step (b ∷ s)) refl e
   where
-    by_reading : (r : Reading) → read_step (b ∷ s) ≡ r → and_then r (λ k. readings s k) ≡ Whole t ∷ rs → (read_step (b ∷ s) ≡ Whole t) × (steps_of (drop (size_of t) (b ∷ s)) ≡ rs)
-    by_reading Unreadable p q = absurd (let z : ◌≡◌ {A = ℕ} 0 1 = cc in omega arith)
-    by_reading (Whole u) p q =
+    by_reading : (r : Option Step) → read_step (b ∷ s) ≡ r → and_then r (λ k. readings s k) ≡ Some t ∷ rs → (read_step (b ∷ s) ≡ Some t) × (steps_of (drop (size_of t) (b ∷ s)) ≡ rs)
+    by_reading None p q = absurd (let z : ◌≡◌ {A = ℕ} 0 1 = cc in omega arith)
+    by_reading (Some u) p q =
         let w : u ≡ t = cc in
-        let v = p ∙ ap Whole w in
+        let v = p ∙ ap Some w in
         (v, let m : steps_of (drop (size_of t) (b ∷ s)) ≡ rs = cc (sym (steps_more (b ∷ s) v) ∙ e) in m)
 
 small_drop : (k : ℕ) (s : List ℕ) → Small s → Small (drop k s)
 small_drop k s h i = rw (get_or-drop k s i 0) (h (k + i))
 
 -- Bytes that hold only whole steps are those of the steps.
-pub steps_written : (s : List ℕ) → Small s → (ts : List Step) → steps_of s ≡ map Whole ts → (encode_steps ts ≡ s) × AllInRange ts
+pub steps_written : (s : List ℕ) → Small s → (ts : List Step) → steps_of s ≡ map Some ts → (encode_steps ts ≡ s) × AllInRange ts
 steps_written s small [] e = (sym (no_steps s e), tt)
 steps_written s small (t ∷ ts) e =
     let f = first_step s e in

@@ -1,6 +1,7 @@
 -- Laws of a loop over steps: what is left of some bytes is a step and then less, or cannot be read, or is nothing.
 -- Assumes nothing.
 use mathlib.Core.Path.{◌≡◌, refl, sym, ap, ◌∙◌}
+use Rattle.std.specs.Prelude.{None, Option, Some}
 use mathlib.Core.List.{List, [], ◌∷◌}
 use Prim.Native.Nat.{ℕ, zero, suc, ◌+◌, ◌-◌, ◌≤◌, ◌<◌}
 use native.Mathlib.Omega.{arith}
@@ -8,8 +9,6 @@ use lib.ListN.{length, drop, length-drop}
 use lib.Seq.{drop-drop}
 use Rattle.steps.specs.declared.Step.{Step}
 use Rattle.steps.specs.declared.Step.TheVariants.{Command, Acknowledgment, Check, FalseAcknowledgment, FalseCheck, FalseEntry, Turn, FastDelivery, LogRead, RoundEnd}
-use Rattle.steps.specs.declared.Reading.{Reading}
-use Rattle.steps.specs.declared.Reading.TheVariants.{Whole, Unreadable}
 use Rattle.steps.specs.Steps.{size_of, read_step, and_then, readings, steps_of}
 use Rattle.steps.proofs.Front.{front}
 
@@ -33,19 +32,19 @@ readings_skip (b ∷ s) zero = refl
 readings_skip (b ∷ s) (suc k) = readings_skip s k
 
 -- A step in front.
-pub steps_more : (s : List ℕ) {t : Step} → read_step s ≡ Whole t → steps_of s ≡ Whole t ∷ steps_of (drop (size_of t) s)
+pub steps_more : (s : List ℕ) {t : Step} → read_step s ≡ Some t → steps_of s ≡ Some t ∷ steps_of (drop (size_of t) s)
 unfolding steps_of
 steps_more [] {t} e = absurd (let f = (front [] e).size in omega (arith, size_least t))
 steps_more (b ∷ s) {t} e =
     let q : suc (size_of t - 1) ≡ size_of t = omega (arith, size_least t) in
-    ap (λ (r : Reading). and_then r (λ k. readings s k)) e
-    ∙ ap (λ (l : List Reading). Whole t ∷ l) (readings_skip s (size_of t - 1) ∙ ap (λ (n : ℕ). readings (drop n (b ∷ s)) 0) q)
+    ap (λ (r : Option Step). and_then r (λ k. readings s k)) e
+    ∙ ap (λ (l : List (Option Step)). Some t ∷ l) (readings_skip s (size_of t - 1) ∙ ap (λ (n : ℕ). readings (drop n (b ∷ s)) 0) q)
 
 -- Bytes that cannot be read.
-pub steps_bad : (s : List ℕ) → 0 < length s → read_step s ≡ Unreadable → steps_of s ≡ Unreadable ∷ []
+pub steps_bad : (s : List ℕ) → 0 < length s → read_step s ≡ None → steps_of s ≡ None ∷ []
 unfolding steps_of
 steps_bad [] h e = absurd (omega arith)
-steps_bad (b ∷ s) h e = ap (λ (r : Reading). and_then r (λ k. readings s k)) e
+steps_bad (b ∷ s) h e = ap (λ (r : Option Step). and_then r (λ k. readings s k)) e
 
 -- No bytes.
 pub steps_end : (s : List ℕ) → length s ≡ 0 → steps_of s ≡ []
@@ -55,17 +54,17 @@ steps_end (b ∷ s) h = absurd (omega arith)
 
 -- The same of what is left from a position on, where z is the size of the step that stands there.
 module _ (s : List ℕ) (at : ℕ) where
-  pub more_at : {t : Step} {z : ℕ} → read_step (drop at s) ≡ Whole t → z ≡ size_of t → steps_of (drop at s) ≡ Whole t ∷ steps_of (drop (at + z) s)
+  pub more_at : {t : Step} {z : ℕ} → read_step (drop at s) ≡ Some t → z ≡ size_of t → steps_of (drop at s) ≡ Some t ∷ steps_of (drop (at + z) s)
   more_at {t} e q =
       steps_more (drop at s) e
-      ∙ ap (λ (l : List ℕ). Whole t ∷ steps_of l) (drop-drop (size_of t) at s ∙ ap (λ (n : ℕ). drop (at + n) s) (sym q))
+      ∙ ap (λ (l : List ℕ). Some t ∷ steps_of l) (drop-drop (size_of t) at s ∙ ap (λ (n : ℕ). drop (at + n) s) (sym q))
 
-  pub bad_at : at < length s → read_step (drop at s) ≡ Unreadable → steps_of (drop at s) ≡ Unreadable ∷ []
+  pub bad_at : at < length s → read_step (drop at s) ≡ None → steps_of (drop at s) ≡ None ∷ []
   bad_at h e = steps_bad (drop at s) (omega (arith, length-drop at s)) e
 
   pub end_at : length s ≤ at → steps_of (drop at s) ≡ []
   end_at h = steps_end (drop at s) (omega (arith, length-drop at s))
 
   -- A step that was read lies inside the bytes.
-  pub inside : {t : Step} {z : ℕ} → at ≤ length s → read_step (drop at s) ≡ Whole t → z ≡ size_of t → (2 ≤ z) × (at + z ≤ length s)
+  pub inside : {t : Step} {z : ℕ} → at ≤ length s → read_step (drop at s) ≡ Some t → z ≡ size_of t → (2 ≤ z) × (at + z ≤ length s)
   inside {t} h e q = (omega (arith, size_least t), omega (arith, (front (drop at s) e).size, size_least t, length-drop at s))

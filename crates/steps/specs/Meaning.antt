@@ -1,14 +1,12 @@
 -- What a step in bytes means: a step of the protocol, and the verdict on what cannot be read.
 -- Assumes nothing.
-use Rattle.refusals.specs.declared.Verdict.{Verdict}
-use Rattle.refusals.specs.declared.Verdict.TheVariants.{Taken, Refused}
+use Rattle.refusals.specs.Refusals.{Verdict, accepted}
+use Rattle.std.specs.Prelude.{Err, None, Ok, Option, Some}
 use Rattle.refusals.specs.declared.Refusal.TheVariants.{Form}
 use Rattle.sets.specs.Sets.{in_set}
 use Rattle.protocol.specs.World as protocol
 use Rattle.steps.specs.declared.Step.{Step}
 use Rattle.steps.specs.declared.Step.TheVariants.{Command, Acknowledgment, Check, FalseAcknowledgment, FalseCheck, FalseEntry, Turn, FastDelivery, LogRead, RoundEnd}
-use Rattle.steps.specs.declared.Reading.{Reading}
-use Rattle.steps.specs.declared.Reading.TheVariants.{Whole, Unreadable}
 
 -- The protocol's step: a set of command numbers is the test of membership.
 abbrev pub meaning : Step → protocol.Step
@@ -24,6 +22,6 @@ meaning (LogRead i) = protocol.log_read i
 meaning (RoundEnd i) = protocol.round_end i
 
 -- An unknown code or cut operands are refusal 3.
-abbrev pub form_of : Reading → Verdict
-form_of (Whole t) = Taken
-form_of Unreadable = Refused Form
+abbrev pub form_of : Option Step → Verdict
+form_of (Some t) = accepted
+form_of None = Err Form

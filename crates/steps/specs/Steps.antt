@@ -1,13 +1,11 @@
 -- The steps of a run in bytes: document 01, "A run and its print". Operands are 1 byte, sets 8 bytes.
 -- Assumes nothing.
-use Rattle.std.specs.Prelude.{Bool, true, false, List, [], ◌∷◌, ◌++◌, ℕ, zero, suc, ◌+◌, ◌-◌, ◌*◌, ◌^◌, ◌<◌, leb, length, get_or}
+use Rattle.std.specs.Prelude.{Bool, true, false, List, [], ◌∷◌, ◌++◌, ℕ, zero, suc, ◌+◌, ◌-◌, ◌*◌, ◌^◌, ◌<◌, leb, length, get_or, None, Option, Some}
 use Rattle.wire.specs.Wire.{bytes}
 use Rattle.sets.specs.declared.Set.{Set}
 use Rattle.sets.specs.Sets.{set_bytes, read_set}
 use Rattle.steps.specs.declared.Step.{Step}
 use Rattle.steps.specs.declared.Step.TheVariants.{Command, Acknowledgment, Check, FalseAcknowledgment, FalseCheck, FalseEntry, Turn, FastDelivery, LogRead, RoundEnd}
-use Rattle.steps.specs.declared.Reading.{Reading}
-use Rattle.steps.specs.declared.Reading.TheVariants.{Whole, Unreadable}
 
 -- The bytes of a step: its code, its operands of 1 byte, its sets.
 abbrev pub size_of : Step → ℕ
@@ -27,18 +25,18 @@ abbrev pub byte : List ℕ → ℕ → ℕ
 byte s k = get_or s k 0
 
 -- A step that is whole where a test holds.
-abbrev pub given : Bool → Step → Reading
-given true t = Whole t
-given false t = Unreadable
+abbrev pub given : Bool → Step → Option Step
+given true t = Some t
+given false t = None
 
 -- A step whose operands are those of some bytes: unreadable where the bytes are cut.
-unfoldable pub uncut : List ℕ → Step → Reading
+unfoldable pub uncut : List ℕ → Step → Option Step
 uncut s t = given (leb (size_of t) (length s)) t
 
 -- What some bytes are by each code from 00 on.
-abbrev pub by_code : List ℕ → List Reading
+abbrev pub by_code : List ℕ → List (Option Step)
 by_code s =
-    Unreadable
+    None
     ∷ uncut s (Command (byte s 1) (byte s 2))
     ∷ uncut s (Acknowledgment (byte s 1) (byte s 2) (byte s 3) (byte s 4))
     ∷ uncut s (Check (byte s 1) (byte s 2) (byte s 3))
@@ -52,26 +50,26 @@ by_code s =
     ∷ []
 
 -- What some bytes are by a code.
-unfoldable pub read_as : ℕ → List ℕ → Reading
-read_as code s = get_or (by_code s) code Unreadable
+unfoldable pub read_as : ℕ → List ℕ → Option Step
+read_as code s = get_or (by_code s) code None
 
 -- The step at the front of some bytes: unreadable where its code is unknown or its operands are cut.
-unfoldable pub read_step : List ℕ → Reading
+unfoldable pub read_step : List ℕ → Option Step
 read_step s = read_as (byte s 0) s
 
 -- A reading, and those after it where it is a step.
-abbrev pub and_then : Reading → (ℕ → List Reading) → List Reading
-and_then (Whole t) rest = Whole t ∷ rest (size_of t - 1)
-and_then Unreadable rest = Unreadable ∷ []
+abbrev pub and_then : Option Step → (ℕ → List (Option Step)) → List (Option Step)
+and_then (Some t) rest = Some t ∷ rest (size_of t - 1)
+and_then None rest = None ∷ []
 
 -- The steps of some bytes, of which the first k are passed over.
-abbrev pub readings : List ℕ → ℕ → List Reading
+abbrev pub readings : List ℕ → ℕ → List (Option Step)
 readings [] k = []
 readings (b ∷ s) (suc k) = readings s k
 readings (b ∷ s) zero = and_then (read_step (b ∷ s)) (λ k. readings s k)
 
 -- The steps that stand end to end in some bytes. What cannot be read ends them.
-unfoldable pub steps_of : List ℕ → List Reading
+unfoldable pub steps_of : List ℕ → List (Option Step)
 steps_of s = readings s 0
 
 -- The bytes of a set.

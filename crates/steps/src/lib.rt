@@ -69,13 +69,6 @@ pub enum Step {
     },
 }
 
-// What stands at a position of some bytes. Unreadable is refusal 3.
-#[derive(Clone, Copy)]
-pub enum Reading {
-    Whole(Step),
-    Unreadable,
-}
-
 // The bytes of a step.
 pub fn size(step: Step) -> usize
     ensures { result ≡ size_of step }
@@ -116,13 +109,13 @@ fn set_operand(bytes: &[u8], k: usize) -> Set
 }
 
 // The step, where the bytes that its operands were read from are not cut.
-fn uncut_step(bytes: &[u8], step: Step) -> Reading
+fn uncut_step(bytes: &[u8], step: Step) -> Option<Step>
     ensures { result ≡ uncut bytes.now step }
 {
     if bytes.len() < size(step) {
-        return Reading::Unreadable;
+        return None;
     }
-    Reading::Whole(step)
+    Some(step)
 }
 
 // 02 to 05: a message, i j r and a number or a set.
@@ -167,8 +160,8 @@ fn entry(bytes: &[u8]) -> Step
     Step::FalseEntry { from, round, nc, c }
 }
 
-// The step that stands at a position.
-pub fn read_step(bytes: &[u8], at: usize) -> Reading
+// The step that stands at a position; none where it cannot be read, which is refusal 3.
+pub fn read_step(bytes: &[u8], at: usize) -> Option<Step>
     requires { at ≤ length bytes.now }
     ensures { result ≡ read_step (drop at bytes.now) }
 {
@@ -187,7 +180,7 @@ pub fn read_step(bytes: &[u8], at: usize) -> Reading
         8 => uncut_step(rest, Step::FastDelivery { site, command }),
         9 => uncut_step(rest, Step::LogRead { site }),
         10 => uncut_step(rest, Step::RoundEnd { site }),
-        _ => Reading::Unreadable,
+        _ => None,
     }
 }
 

@@ -1,6 +1,7 @@
 -- What the limits of a site table give: the quorum inequalities, and few faulty sites; and what a table that is read of bytes is judged to be.
 -- Assumes nothing.
 use mathlib.Core.Path.{◌≡◌, refl, sym, subst, ◌∙◌}
+use Rattle.std.specs.Prelude.{Err, Ok}
 use mathlib.Core.Bool.{Bool, true, false, ◌&&◌}
 use mathlib.Core.List.{List}
 use Prim.Native.Nat.{ℕ, ◌+◌, ◌-◌, ◌*◌, ◌/◌, ◌^◌, ◌≤◌, ◌<◌}
@@ -20,7 +21,6 @@ use Rattle.sets.specs.Sets.{has}
 use Rattle.sets.proofs.Laws.{ones-count}
 use Rattle.refusals.specs.declared.Refusal.{Refusal}
 use Rattle.refusals.specs.declared.Refusal.TheVariants.{Table}
-use Rattle.table.specs.declared.Judged.TheVariants.{Good, Refused}
 use Rattle.table.specs.Table.{max_sites, max_faults, good_table, is_good, table_with, table_as, rounded_up_half, faulty_count_of, n_ack_of, n_chk_of, majority_of}
 use Rattle.table.specs.declared.SiteTable.{SiteTable}
 
@@ -73,27 +73,27 @@ pub good_few : (t : SiteTable) → is_good t ≡ true → faulty_count_of t ≤ 
 good_few t h = (good_limits t h).few
 
 -- A table that was judged good is good, and the table that is told.
-pub judged_good : (g : Bool) (u : SiteTable) {t : SiteTable} → table_as g u ≡ Good t → (g ≡ true) × (t ≡ u)
+pub judged_good : (g : Bool) (u : SiteTable) {t : SiteTable} → table_as g u ≡ Ok t → (g ≡ true) × (t ≡ u)
 judged_good true u h = (refl, cc)
 judged_good false u h = absurd (let z : ◌≡◌ {A = ℕ} 0 1 = cc in omega arith)
 
 -- One that was refused is not, and the refusal is that of a table.
-pub judged_refused : (g : Bool) (u : SiteTable) {r : Refusal} → table_as g u ≡ Refused r → (g ≡ false) × (r ≡ Table)
+pub judged_refused : (g : Bool) (u : SiteTable) {r : Refusal} → table_as g u ≡ Err r → (g ≡ false) × (r ≡ Table)
 judged_refused true u h = absurd (let z : ◌≡◌ {A = ℕ} 0 1 = cc in omega arith)
 judged_refused false u h = (refl, cc)
 
 -- ---- the table in bytes
 
 module _ (b : List ℕ) (mask : ℕ) {n f : ℕ} (en : n ≡ read_le 1 b 0) (ef : f ≡ read_le 1 b 1) where
-  pub within_good : good_table n f mask ≡ true → Good (record { sites = n; faults = f; mask = mask }) ≡ table_as (is_good (table_with b mask)) (table_with b mask)
+  pub within_good : good_table n f mask ≡ true → Ok (record { sites = n; faults = f; mask = mask }) ≡ table_as (is_good (table_with b mask)) (table_with b mask)
   within_good h = (λ i. table_as (sym h i) (record { sites = n; faults = f; mask = mask })) ∙ (λ i. table_as (good_table (en i) (ef i) mask) (record { sites = en i; faults = ef i; mask = mask }))
 
-  pub within_bad : good_table n f mask ≡ false → Refused Table ≡ table_as (is_good (table_with b mask)) (table_with b mask)
+  pub within_bad : good_table n f mask ≡ false → Err Table ≡ table_as (is_good (table_with b mask)) (table_with b mask)
   within_bad h = (λ i. table_as (sym h i) (table_with b mask)) ∙ (λ i. table_as (good_table (en i) (ef i) mask) (table_with b mask))
 
 -- Bytes that are too short for a table have none that is good; in others it is the limits alone that count.
 module _ (size : ℕ) (b : List ℕ) (t : SiteTable) where
-  pub table_cut : length b < size → Refused Table ≡ table_as (leb size (length b) && is_good t) t
+  pub table_cut : length b < size → Err Table ≡ table_as (leb size (length b) && is_good t) t
   table_cut h = rw (lt-leb size (length b) h) refl
 
   pub table_whole : size ≤ length b → table_as (is_good t) t ≡ table_as (leb size (length b) && is_good t) t

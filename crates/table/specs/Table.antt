@@ -1,13 +1,12 @@
 -- The site table: its limits, what it is refused for, and the thresholds that follow from it (document 01, "Site table and thresholds").
 -- Assumes nothing.
-use Rattle.std.specs.Prelude.{Bool, cond, ◌&&◌, List, ℕ, ◌+◌, ◌-◌, ◌*◌, ◌/◌, ◌^◌, leb, ltb, length}
+use Rattle.std.specs.Prelude.{Bool, cond, ◌&&◌, List, ℕ, ◌+◌, ◌-◌, ◌*◌, ◌/◌, ◌^◌, leb, ltb, length, Err, Ok, Result}
+use Rattle.refusals.specs.declared.Refusal.{Refusal}
 use Rattle.wire.specs.Wire.{read_le}
 use Rattle.theory.specs.Sets.{count}
 use Rattle.sets.specs.Sets.{has}
 use Rattle.refusals.specs.declared.Refusal.TheVariants.{Table}
 use Rattle.table.specs.declared.SiteTable.{SiteTable}
-use Rattle.table.specs.declared.Judged.{Judged}
-use Rattle.table.specs.declared.Judged.TheVariants.{Good, Refused}
 
 -- The greatest number of sites.
 abbrev pub max_sites : ℕ
@@ -56,13 +55,13 @@ abbrev pub good_marked_in : List ℕ → Bool
 good_marked_in b = leb marked_size (length b) && is_good (marked_in b)
 
 -- The table where it is good, else the refusal.
-abbrev pub table_as : Bool → SiteTable → Judged
-table_as good t = cond good (Good t) (Refused Table)
+abbrev pub table_as : Bool → SiteTable → Result SiteTable Refusal
+table_as good t = cond good (Ok t) (Err Table)
 
-abbrev pub read_table : List ℕ → Judged
+abbrev pub read_table : List ℕ → Result SiteTable Refusal
 read_table b = table_as (good_table_in b) (table_in b)
 
-abbrev pub read_marked : List ℕ → Judged
+abbrev pub read_marked : List ℕ → Result SiteTable Refusal
 read_marked b = table_as (good_marked_in b) (marked_in b)
 
 -- ---- the thresholds

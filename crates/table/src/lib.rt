@@ -5,6 +5,8 @@ ghost use Rattle.std.specs.Prelude.{true, ◌≡◌, ◌≤◌, length};
 ghost use Rattle.table.specs.Table.{good_table, is_good, table_size, table_with, table_as, read_table, read_marked};
 ghost use Rattle.table.specs.Table.{n_ack_of, n_chk_of, majority_of, faulty_of, faulty_count_of};
 
+use refusals::Refusal;
+
 // A site table. Bit i of the mask marks site i as faulty.
 #[derive(Clone, Copy)]
 pub struct SiteTable {
@@ -20,13 +22,6 @@ pub struct Rules {
     pub commands: usize,
 }
 
-// What a site table is judged to be.
-#[derive(Clone, Copy)]
-pub enum Judged {
-    Good(SiteTable),
-    Refused(refusals::Refusal),
-}
-
 impl SiteTable {
     // The greatest number of sites.
     pub const MAX_SITES: usize = 11;
@@ -40,41 +35,41 @@ impl SiteTable {
     pub const MARKED_BYTES: usize = SiteTable::BYTES + 2;
 
     // The site table that lent bytes begin with, no site marked as faulty; a cut one is refused.
-    pub fn read(bytes: &[u8]) -> Judged
+    pub fn read(bytes: &[u8]) -> Result<SiteTable, Refusal>
         ensures { result ≡ read_table bytes.now }
     {
         if bytes.len() < SiteTable::BYTES {
-            return Judged::Refused(refusals::Refusal::Table);
+            return Err(Refusal::Table);
         }
         SiteTable::read_with(bytes, 0)
     }
 
     // The same with its mask.
-    pub fn read_marked(bytes: &[u8]) -> Judged
+    pub fn read_marked(bytes: &[u8]) -> Result<SiteTable, Refusal>
         ensures { result ≡ read_marked bytes.now }
     {
         if bytes.len() < SiteTable::MARKED_BYTES {
-            return Judged::Refused(refusals::Refusal::Table);
+            return Err(Refusal::Table);
         }
         let mask: u16 = wire::get(bytes, SiteTable::BYTES);
         SiteTable::read_with(bytes, mask)
     }
 
     // The table of n, f and a mask, or the refusal where it is against the limits.
-    fn read_with(bytes: &[u8], mask: u16) -> Judged
+    fn read_with(bytes: &[u8], mask: u16) -> Result<SiteTable, Refusal>
         requires { table_size ≤ length bytes.now }
         ensures { result ≡ table_as (is_good (table_with bytes.now mask)) (table_with bytes.now mask) }
     {
         let sites = wire::get::<u8>(bytes, 0) as usize;
         let faults = wire::get::<u8>(bytes, 1) as usize;
         if SiteTable::is_within_limits(sites, faults, mask) {
-            Judged::Good(SiteTable {
+            Ok(SiteTable {
                 sites,
                 faults,
                 mask,
             })
         } else {
-            Judged::Refused(refusals::Refusal::Table)
+            Err(Refusal::Table)
         }
     }
 

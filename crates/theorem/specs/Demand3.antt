@@ -1,8 +1,8 @@
 -- Demand 3 at the dash register and document 01's thresholds: the theorem over parameters, instantiated.
 -- Rests on agreement's Theorem and NeverRefused, the register's exchange law and the table's quorum inequalities.
-use Rattle.std.specs.Prelude.{◌≡◌, true, List, ℕ, suc, ◌≤◌}
+use Rattle.std.specs.Prelude.{◌≡◌, true, List, ℕ, suc, ◌≤◌, Ok}
+use Rattle.refusals.specs.Refusals.{accepted}
 use Rattle.std.proofs.Common.{arith}
-use Rattle.refusals.specs.declared.Verdict.TheVariants.{Taken}
 use Rattle.table.specs.declared.SiteTable.{SiteTable}
 use Rattle.table.specs.Table.{is_good}
 use Rattle.table.proofs.Laws.{good_quorums, good_few}
@@ -27,7 +27,7 @@ abbrev pub Demand3 : Type 0
 Demand3 =
     (table : SiteTable) (book : List ℕ)
     → is_good table ≡ true
-    → judge_book book ≡ Taken
+    → judge_book book ≡ accepted
     → (steps : List Step)
     → CommonSequence (dash table (commands_of book)) steps
 

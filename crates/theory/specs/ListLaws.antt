@@ -1,8 +1,7 @@
 -- Laws of contents, distinct, before, sift and nth.
 -- Assumes nothing.
-use Rattle.std.specs.Prelude.{◌≡◌, refl, Bool, true, false, ◌&&◌, ◌||◌, not, List, [], ◌∷◌, ◌++◌, ◌⊎◌, ℕ, zero, suc, ◌≤◌, ◌<◌, length, eqb}
+use Rattle.std.specs.Prelude.{◌≡◌, refl, Bool, true, false, ◌&&◌, ◌||◌, not, List, [], ◌∷◌, ◌++◌, ◌⊎◌, ℕ, zero, suc, ◌≤◌, ◌<◌, length, eqb, None, Some}
 use Rattle.std.proofs.Common.{sym, ◌∙◌, ap, inl, inr, ⊎_elim, arith, eqb-true, eq-eqb}
-use Rattle.std.proofs.Math.Option.{none, some}
 use Rattle.theory.specs.Sets.{Set, pick}
 use Rattle.theory.specs.Counting.{both, left, right, true_or, or_true, either, neither, not-true, never}
 use Rattle.theory.specs.Lists.{contents, distinct, before, sift, nth}
@@ -131,12 +130,12 @@ nth-append [] more i h = absurd (omega arith)
 nth-append (x ∷ l) more zero h = refl
 nth-append (x ∷ l) more (suc i) h = nth-append l more i (omega arith)
 
-pub nth_last : {A : Type 0} (l : List A) (x : A) (i : ℕ) → i ≡ length l → nth (l ++ (x ∷ [])) i ≡ some x
+pub nth_last : {A : Type 0} (l : List A) (x : A) (i : ℕ) → i ≡ length l → nth (l ++ (x ∷ [])) i ≡ Some x
 nth_last [] x i h = rw h refl
 nth_last (y ∷ l) x zero h = absurd (omega arith)
 nth_last (y ∷ l) x (suc i) h = nth_last l x i (omega arith)
 
-pub nth_end : {A : Type 0} (l : List A) (i : ℕ) → length l ≤ i → nth l i ≡ none
+pub nth_end : {A : Type 0} (l : List A) (i : ℕ) → length l ≤ i → nth l i ≡ None
 nth_end [] i h = refl
 nth_end (x ∷ l) zero h = absurd (omega arith)
 nth_end (x ∷ l) (suc i) h = nth_end l i (omega arith)

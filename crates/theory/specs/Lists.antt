@@ -1,7 +1,6 @@
 -- Lists of command numbers: contents, no repetition, order, and what is left of a list by a set.
 -- Assumes nothing.
-use Rattle.std.specs.Prelude.{Bool, true, false, ◌&&◌, ◌||◌, not, List, [], ◌∷◌, ℕ, zero, suc, eqb}
-use Rattle.std.proofs.Math.Option.{Option, none, some}
+use Rattle.std.specs.Prelude.{Bool, true, false, ◌&&◌, ◌||◌, not, List, [], ◌∷◌, ℕ, zero, suc, eqb, None, Option, Some}
 use Rattle.theory.specs.Sets.{Set, pick}
 
 -- The numbers that stand in a list.
@@ -26,6 +25,6 @@ sift p (x ∷ l) = pick (p x) (x ∷ sift p l) (sift p l)
 
 -- What stands at a position, counted from 0.
 abbrev pub nth : {A : Type 0} → List A → ℕ → Option A
-nth [] k = none
-nth (x ∷ l) zero = some x
+nth [] k = None
+nth (x ∷ l) zero = Some x
 nth (x ∷ l) (suc k) = nth l k

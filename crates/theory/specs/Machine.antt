@@ -1,7 +1,6 @@
 -- A deterministic machine over numbered commands, what a sequence of commands does and answers, and the law of exchange.
 -- Assumes nothing.
-use Rattle.std.specs.Prelude.{◌≡◌, Bool, false, List, [], ◌∷◌, ◌≢◌, ℕ, eqb}
-use Rattle.std.proofs.Math.Option.{Option, none, some}
+use Rattle.std.specs.Prelude.{◌≡◌, Bool, false, List, [], ◌∷◌, ◌≢◌, ℕ, eqb, None, Option, Some}
 use Rattle.theory.specs.Sets.{pick}
 
 pub record Machine : Type 1 where
@@ -32,8 +31,8 @@ module _ (M : Machine) where
 
   -- The answer that one command gets in a list; none where it does not stand there.
   abbrev pub answer_in : State → List ℕ → ℕ → Option Answer
-  answer_in s [] m = none
-  answer_in s (x ∷ l) m = pick (eqb m x) (some (answer s x)) (answer_in (execute s x) l m)
+  answer_in s [] m = None
+  answer_in s (x ∷ l) m = pick (eqb m x) (Some (answer s x)) (answer_in (execute s x) l m)
 
   -- Two different commands that do not conflict give, in either order, the same state and the same two answers.
   pub record Exchange : Type 0 where

@@ -1,8 +1,7 @@
 -- Command sequences that differ by exchanges of neighbours without conflict: they give the same state and the same answers.
 -- Assumes nothing.
-use Rattle.std.specs.Prelude.{◌≡◌, refl, Bool, true, false, List, ◌∷◌, ◌≢◌, ℕ, eqb}
+use Rattle.std.specs.Prelude.{◌≡◌, refl, Bool, true, false, List, ◌∷◌, ◌≢◌, ℕ, eqb, Option, Some}
 use Rattle.std.proofs.Common.{sym, ◌∙◌, ap, eqb-true}
-use Rattle.std.proofs.Math.Option.{Option, some}
 use Rattle.theory.specs.Sets.{pick}
 use Rattle.theory.specs.Machine.{Machine, Exchange, run, answer_in}
 
@@ -30,11 +29,11 @@ module _ (M : Machine) where
     alike-answer s m (swap {x} {y} {l} n h) = go (eqb m x) refl (eqb m y) refl
       where
         go : (p : Bool) → eqb m x ≡ p → (q : Bool) → eqb m y ≡ q →
-            pick p (some (answer s x)) (pick q (some (answer (execute s x) y)) (answer_in M (execute (execute s x) y) l m))
-            ≡ pick q (some (answer s y)) (pick p (some (answer (execute s y) x)) (answer_in M (execute (execute s y) x) l m))
+            pick p (Some (answer s x)) (pick q (Some (answer (execute s x) y)) (answer_in M (execute (execute s x) y) l m))
+            ≡ pick q (Some (answer s y)) (pick p (Some (answer (execute s y) x)) (answer_in M (execute (execute s y) x) l m))
         go true ep true eq = absurd (n (sym (eqb-true m x ep) ∙ eqb-true m y eq))
-        go true ep false eq = ap some (sym (law.answers s y x (λ e. n (sym e)) (law.symmetric y x ∙ h)))
-        go false ep true eq = ap some (law.answers s x y n h)
+        go true ep false eq = ap Some (sym (law.answers s y x (λ e. n (sym e)) (law.symmetric y x ∙ h)))
+        go false ep true eq = ap Some (law.answers s x y n h)
         go false ep false eq = ap (λ (t : State). answer_in M t l m) (law.state s x y n h)
-    alike-answer s m (keep {x} {a} {b} k) = ap (λ (o : Option Answer). pick (eqb m x) (some (answer s x)) o) (alike-answer (execute s x) m k)
+    alike-answer s m (keep {x} {a} {b} k) = ap (λ (o : Option Answer). pick (eqb m x) (Some (answer s x)) o) (alike-answer (execute s x) m k)
     alike-answer s m (chain k h) = alike-answer s m k ∙ alike-answer s m h

@@ -1,6 +1,7 @@
 -- What a turn writes, and what its call answers: one law an answer.
 -- Assumes nothing.
 use mathlib.Core.Path.{◌≡◌, refl, sym, ap, ◌∙◌}
+use Rattle.std.specs.Prelude.{Err, Ok, Result}
 use mathlib.Core.Bool.{Bool, true, false, ◌&&◌}
 use mathlib.Core.List.{List, ◌++◌}
 use Prim.Native.Nat.{ℕ, ◌/◌, ◌≤◌, ◌<◌}
@@ -13,8 +14,7 @@ use Rattle.theory.specs.Counting.{left, right}
 use Rattle.wire.specs.Wire.{splice}
 use Rattle.refusals.specs.declared.Refusal.{Refusal}
 use Rattle.refusals.specs.declared.Refusal.TheVariants.{Range}
-use Rattle.refusals.specs.declared.Verdict.{Verdict}
-use Rattle.refusals.specs.declared.Verdict.TheVariants.{Taken, Refused}
+use Rattle.refusals.specs.Refusals.{Verdict}
 use Rattle.refusals.specs.Refusals.{number_of, code_of, settled}
 use Rattle.sets.specs.declared.Set.{Set}
 use Rattle.sets.specs.Sets.{capacity, in_set, set_of}
@@ -42,18 +42,16 @@ use Rattle.site.specs.declared.Turn.{Turn}
 use Rattle.site.specs.declared.Turn.TheVariants as turn
 use Rattle.site.specs.Steps.{undelivered_of, answer_to, TookTurn}
 use Rattle.site.proofs.Turning.{third_entry}
-use Rattle.judging.specs.Outcomes.{outcome, answered, ◌then◌}
-use Rattle.judging.specs.declared.Judgement.{Judgement}
-use Rattle.judging.specs.declared.Judgement.TheVariants as judgement
-use Rattle.judging.specs.Judging.{system_of, span_in, site_in, with_site, rules_of, judged_as, number_in, for_site_and_log, places_after}
+use Rattle.judging.specs.Outcomes.{Outcome, outcome, answered, ◌then◌}
+use Rattle.judging.specs.Judging.{system_of, span_in, site_in, with_site, rules_of, judged_as, for_site_and_log, places_after}
 use Rattle.judging.proofs.Demands.{then_taken, then_refused, answered_refused}
 use Rattle.judging.proofs.Laws.{Judged, log_judged, log_placed, good_code, good_sites, refused_code}
 use Rattle.judging.proofs.Steps.{written, as_before}
-use Rattle.turning.specs.Turning.{sendings, buffers, TurnTaken, entry_for, entry_of, sent_by, turned, sent, turn_call}
+use Rattle.turning.specs.Turning.{Sendings, sendings, buffers, TurnTaken, entry_for, entry_of, sent_by, turned, sent, turn_call}
 
 -- ---- the turn of a site
 
-pub take_told : (rows log : List ℕ) (own : ℕ) (b : List ℕ) {u : Set} {free : Bool} {round k : ℕ} {answer : Turn} {b' : List ℕ} → u ≡ undelivered_of (head_of b) → free ≡ free_by rows (in_set u)
+pub take_told : (rows log : List ℕ) (own : ℕ) (b : List ℕ) {u : Set} {free : Bool} {round k : ℕ} {answer : Result Turn Refusal} {b' : List ℕ} → u ≡ undelivered_of (head_of b) → free ≡ free_by rows (in_set u)
     → round ≡ (head_of b).round → k ≡ entries own round (log_to log (length log / entry_size)) → TookTurn free (leb 2 k) b answer b' → TurnTaken rows log own b answer b'
 unfolding head_of log_of
 take_told rows log own b {k = k} eu ef er ek o t book e good =
@@ -64,7 +62,7 @@ take_told rows log own b {k = k} eu ef er ek o t book e good =
     ∙ ap (protocols.free (dash t (commands_of book))) (λ i m. in_without (head_of b).received (head_of b).delivered m i))
     (third_entry k ∙ ap (λ (n : ℕ). ltb n 2) (ek ∙ ap (λ (r : ℕ). entries own r (log_to log (length log / entry_size))) er))
 
--- ---- what is sent, by the step's answer
+-- ---- what is sent, by the turn
 
 -- An entry at the start of a buffer.
 pub entry_first : (b : List ℕ) (e : Entry) {l : List ℕ} → l ≡ write_entry b 0 e → l ≡ splice b 0 (entry_bytes e)
@@ -73,24 +71,25 @@ entry_first b e h = h
 
 module _ (own round : ℕ) (m e : List ℕ) where
   pub sent_acknowledged : (x : Set) {a : Turn} {l : List ℕ} → a ≡ turn.Acknowledged x → l ≡ splice m 0 (message_bytes (record { kind = Acknowledgment; round = round; set = x }))
-      → outcome 0 (sendings l e) ≡ sent own round a m e
+      → sendings l e ≡ sent own round a m e
   unfolding sent
-  sent_acknowledged x {a} ea el = (λ i. outcome 0 (sendings (el i) e)) ∙ ap (λ (y : Turn). sent own round y m e) (sym ea)
+  sent_acknowledged x {a} ea el = (λ i. sendings (el i) e) ∙ ap (λ (y : Turn). sent own round y m e) (sym ea)
 
   pub sent-proposed : (x : Set) (p : Proposal) {a : Turn} {y : Entry} {l k : List ℕ} → a ≡ turn.Proposed x p → y ≡ entry_of own round p
-      → l ≡ splice m 0 (message_bytes (record { kind = Check; round = round; set = x })) → k ≡ write_entry e 0 y → outcome 0 (sendings l k) ≡ sent own round a m e
+      → l ≡ splice m 0 (message_bytes (record { kind = Check; round = round; set = x })) → k ≡ write_entry e 0 y → sendings l k ≡ sent own round a m e
   unfolding sent
   sent-proposed x p {y = y} ea ey el ek =
-      (λ i. outcome 0 (sendings (el i) ((entry_first e y ek ∙ ap (λ (z : Entry). splice e 0 (entry_bytes z)) ey) i)))
+      (λ i. sendings (el i) ((entry_first e y ek ∙ ap (λ (z : Entry). splice e 0 (entry_bytes z)) ey) i))
       ∙ ap (λ (y : Turn). sent own round y m e) (sym ea)
 
-  pub sent_refused : (r : Refusal) {a : Turn} {k : ℕ} → a ≡ turn.Refused r → k ≡ number_of r → outcome k (sendings m e) ≡ sent own round a m e
-  unfolding sent
-  sent_refused r ea ek = (λ i. outcome (ek i) (sendings m e)) ∙ ap (λ (y : Turn). sent own round y m e) (sym ea)
+  -- What a call answers and sends, by the turn or its refusal.
+  abbrev pub answered_turn : Result Turn Refusal → Outcome Sendings
+  answered_turn (Ok x) = outcome 0 (sent own round x m e)
+  answered_turn (Err r) = outcome (number_of r) (sendings m e)
 
 -- ---- the call
 
-module _ (table book site log : List ℕ) (own : ℕ) (m e : List ℕ) {j : Judgement}
+module _ (table book site log : List ℕ) (own : ℕ) (m e : List ℕ) {j : Result Rules Refusal}
     (q : j ≡ judged_as (verdict (for_site_and_log table book (leb message_size (length m) && leb entry_size (length e)) site log)) (rules_of table book)) where
   abbrev enough : Bool
   enough = leb message_size (length m) && leb entry_size (length e)
@@ -107,13 +106,13 @@ module _ (table book site log : List ℕ) (own : ℕ) (m e : List ℕ) {j : Judg
   abbrev rest : Demands
   rest = ltb own (table_in table).sites else Range ⨾ protocol.for_turn S own s (log_of log)
 
-  pub turn_refused : {r : Refusal} {k : ℕ} → j ≡ judgement.Refused r → k ≡ number_in j → outcome k (buffers site m e) ≡ turn_call table book site log own m e
+  pub turn_refused : {r : Refusal} {k : ℕ} → j ≡ Err r → k ≡ number_of r → outcome k (buffers site m e) ≡ turn_call table book site log own m e
   unfolding turn_call
   turn_refused h ek =
       let w = refused_code (verdict judge) (rules_of table book) q h ek in
       then_refused judge rest _ (buffers site m e) w.0 w.1
 
-  module _ {x : Rules} (h : j ≡ judgement.Good x) where
+  module _ {x : Rules} (h : j ≡ Ok x) where
     code : 0 ≡ code_of (verdict judge)
     code = good_code (verdict judge) (rules_of table book) q h
 
@@ -155,7 +154,7 @@ module _ (table book site log : List ℕ) (own : ℕ) (m e : List ℕ) {j : Judg
 
       module _ (small : (i : ℕ) → get_or site i 0 < 256) {round code₁ : ℕ} {b l k : List ℕ} (er : round ≡ (head_of (take site_size site)).round) where
         -- By the verdict and by what the turn does.
-        done : (v : Verdict) (a : Bool) → outcome code₁ (sendings l k) ≡ sent own round (answer_to (table_in table) (commands_of book) v a s) m e
+        done : (v : Verdict) (a : Bool) → outcome code₁ (sendings l k) ≡ answered_turn own round m e (answer_to (table_in table) (commands_of book) v a s)
             → HoldsOver (table_in table) (commands_of book) (take site_size site) b (settled v (pick a (protocol.acknowledge S s) (protocol.propose S s)) s)
             → outcome code₁ (buffers (b ++ drop site_size site) l k)
             ≡ answered v
@@ -167,14 +166,14 @@ module _ (table book site log : List ℕ) (own : ℕ) (m e : List ℕ) {j : Judg
             })
             (buffers site m e)
         unfolding sent
-        done Taken true z w =
+        done (Ok _) true z w =
             (λ i. outcome (z i).code (record { site = written site judged.sized (table_in table) (commands_of book) w i; sent = (z i).left }))
             ∙ (λ i. outcome 0
             (record {
               site = with_site table book (span_in site) site (protocol.acknowledge S s);
               sent = sendings (splice m 0 (message_bytes (record { kind = Acknowledgment; round = er i; set = set_of capacity (protocol.undelivered S s) }))) e;
             }))
-        done Taken false z w =
+        done (Ok _) false z w =
             (λ i. outcome (z i).code (record { site = written site judged.sized (table_in table) (commands_of book) w i; sent = (z i).left }))
             ∙ (λ i. outcome 0
             (record {
@@ -183,13 +182,13 @@ module _ (table book site log : List ℕ) (own : ℕ) (m e : List ℕ) {j : Judg
                   sendings (splice m 0 (message_bytes (record { kind = Check; round = er i; set = set_of capacity (protocol.undelivered S s) })))
                   (splice e 0 (entry_bytes (record { site = own; round = er i; nc = set_of capacity s.pending; c = set_of capacity (protocol.unacknowledged S s) })));
             }))
-        done (Refused r) a z w = λ i. outcome (z i).code (record { site = as_before table book site judged.good small w i; sent = (z i).left })
+        done (Err r) a z w = λ i. outcome (z i).code (record { site = as_before table book site judged.good small w i; sent = (z i).left })
 
-        pub turn_done : {rows : List ℕ} {answer : Turn} → rows ≡ conflict_rows book → TurnTaken rows log own (take site_size site) answer b
-            → outcome code₁ (sendings l k) ≡ sent own round answer m e → outcome code₁ (buffers (b ++ drop site_size site) l k) ≡ turn_call table book site log own m e
+        pub turn_done : {rows : List ℕ} {answer : Result Turn Refusal} → rows ≡ conflict_rows book → TurnTaken rows log own (take site_size site) answer b
+            → outcome code₁ (sendings l k) ≡ answered_turn own round m e answer → outcome code₁ (buffers (b ++ drop site_size site) l k) ≡ turn_call table book site log own m e
         unfolding turn_call
         turn_done ew o z =
             let w = o (table_in table) book ew judged.good in
-            done (verdict (protocol.for_turn S own s (log_of log))) (protocol.acknowledges S s) (z ∙ ap (λ (y : Turn). sent own round y m e) w.answer) w.site
+            done (verdict (protocol.for_turn S own s (log_of log))) (protocol.acknowledges S s) (z ∙ ap (answered_turn own round m e) w.answer) w.site
             ∙ (λ i. answered (sym (first true (let r = ruled in lt-ltb own (table_in table).sites (omega arith))) i)
             (record { site = with_site table book (span_in site) site (turned S s); sent = sent_by S own s m e }) (buffers site m e))

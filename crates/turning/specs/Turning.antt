@@ -1,10 +1,10 @@
 -- The call of a turn: what it asks for, in document 01's order 9, 2, 1, 3, 4, 6, 7, 8, and what it leaves of the site's bytes and of the buffers for what is sent.
 -- Assumes nothing.
-use Rattle.std.specs.Prelude.{◌≡◌, ◌&&◌, List, ℕ, leb, ltb, length}
+use Rattle.std.specs.Prelude.{◌≡◌, ◌&&◌, List, ℕ, leb, ltb, length, Result}
 use Rattle.theory.specs.Sets.{pick}
 use Rattle.wire.specs.Wire.{splice}
+use Rattle.refusals.specs.declared.Refusal.{Refusal}
 use Rattle.refusals.specs.declared.Refusal.TheVariants.{Range}
-use Rattle.refusals.specs.Refusals.{number_of}
 use Rattle.sets.specs.Sets.{capacity, set_of}
 use Rattle.table.specs.declared.SiteTable.{SiteTable}
 use Rattle.table.specs.Table.{table_in}
@@ -42,7 +42,7 @@ abbrev pub buffers : List ℕ → List ℕ → List ℕ → Buffers
 buffers s m e = record { site = s; sent = sendings m e }
 
 -- The turn of site number `own` with the bytes b, by the rows of a book and a whole log.
-abbrev pub TurnTaken : (rows log : List ℕ) (own : ℕ) (b : List ℕ) → Turn → List ℕ → Type 0
+abbrev pub TurnTaken : (rows log : List ℕ) (own : ℕ) (b : List ℕ) → Result Turn Refusal → List ℕ → Type 0
 TurnTaken rows log own b r b' =
     (t : SiteTable) (book : List ℕ) → rows ≡ conflict_rows book → Good t.sites (length (commands_of book)) b
     → Turned t (commands_of book) own (log_of log) (view t (commands_of book) b) b r b'
@@ -68,14 +68,12 @@ turned S s = pick (acknowledges S s) (acknowledge S s) (propose S s)
 abbrev pub entry_of : (own round : ℕ) → Proposal → Entry
 entry_of own round p = record { site = own; round = round; nc = p.nc; c = p.c }
 
--- The answer of a step, and the buffers with what is sent.
-unfoldable pub sent : (own round : ℕ) → Turn → (message entry : List ℕ) → Outcome Sendings
+-- The buffers with what is sent.
+unfoldable pub sent : (own round : ℕ) → Turn → (message entry : List ℕ) → Sendings
 sent own round (turn.Acknowledged x) message entry =
-    outcome 0 (sendings (splice message 0 (message_bytes (record { kind = Acknowledgment; round = round; set = x }))) entry)
+    sendings (splice message 0 (message_bytes (record { kind = Acknowledgment; round = round; set = x }))) entry
 sent own round (turn.Proposed x p) message entry =
-    outcome 0
-    (sendings (splice message 0 (message_bytes (record { kind = Check; round = round; set = x }))) (splice entry 0 (entry_bytes (entry_of own round p))))
-sent own round (turn.Refused r) message entry = outcome (number_of r) (sendings message entry)
+    sendings (splice message 0 (message_bytes (record { kind = Check; round = round; set = x }))) (splice entry 0 (entry_bytes (entry_of own round p)))
 
 module _ (table book : List ℕ) where
   -- The turn of site number `own`.

@@ -3,6 +3,7 @@
 
 ghost use Rattle.std.specs.Prelude.{◌≡◌, ◌≤◌, ◌<◌, length};
 ghost use Rattle.sets.specs.Sets.{capacity};
+ghost use Rattle.refusals.specs.Refusals.{code_of};
 ghost use Rattle.entries.specs.Entries.{entry_size};
 ghost use Rattle.layout.specs.Layout.{site_size};
 ghost use Rattle.message.specs.Messages.{message_size};
@@ -10,17 +11,13 @@ ghost use Rattle.judging.specs.Outcomes.{outcome};
 ghost use Rattle.turning.specs.Turning.{sendings, buffers, TurnTaken, entry_of, sent, turn_call};
 
 use entries::Entry;
-use judging::Judgement;
 use layout::{Proposal, Site};
 use message::{Kind, Message};
-use refusals::Refusal;
+use refusals::{Refusal, Verdict};
 use site::Turn;
 
-// A turn that is taken answers this.
-const TAKEN: u32 = 0;
-
 // The site takes its turn: conflicts are looked for among its undelivered commands, its entries of the round in the whole log.
-fn take_turn(site: &mut [u8], log: &[u8], rows: &[u64], own: usize) -> Turn
+fn take_turn(site: &mut [u8], log: &[u8], rows: &[u64], own: usize) -> Result<Turn, Refusal>
     requires { (length site.old ≡ site_size) × (length rows.now ≡ capacity) }
     ensures { TurnTaken rows.now log.now own site.old result site.new }
 {
@@ -45,16 +42,15 @@ fn entry_of(own: usize, round: u8, proposed: Proposal) -> Entry
     }
 }
 
-// What a turn sends is written: the message, and of a proposal also the log entry. A refusal writes nothing. The answer is 0 or the refusal's number.
-fn send(turn: Turn, own: usize, round: u8, message: &mut [u8], entry: &mut [u8]) -> u32
+// What a turn sends is written: the message, and of a proposal also the log entry.
+fn send(turn: Turn, own: usize, round: u8, message: &mut [u8], entry: &mut [u8])
     requires { (message_size ≤ length message.old) × (entry_size ≤ length entry.old) × (own < 256) }
-    ensures { outcome result (sendings message.new entry.new) ≡ sent own round turn message.old entry.old }
+    ensures { sendings message.new entry.new ≡ sent own round turn message.old entry.old }
 {
     match turn {
         Turn::Acknowledged(set) => {
             let kind = Kind::Acknowledgment;
             Message { kind, round, set }.write(message);
-            TAKEN
         }
         Turn::Proposed {
             check,
@@ -68,9 +64,7 @@ fn send(turn: Turn, own: usize, round: u8, message: &mut [u8], entry: &mut [u8])
             }
             .write(message);
             entries::write_entry(entry, 0, entry_of(own, round, proposed));
-            TAKEN
         }
-        Turn::Refused(refusal) => refusals::number(refusal),
     }
 }
 
@@ -83,26 +77,24 @@ pub fn turn(
     own: usize,
     message: &mut [u8],
     entry: &mut [u8],
-) -> u32
-    ensures { outcome result (buffers site.new message.new entry.new)
+) -> Verdict
+    ensures { outcome (code_of result) (buffers site.new message.new entry.new)
         ≡ turn_call table.now book.now site.old log.now own message.old entry.old }
 {
     let enough = (message.len() >= Message::BYTES) & (entry.len() >= Entry::BYTES);
     let mut noted = [0u64; conflicts::NOTED];
-    let judged = judging::judge_site_and_log(enough, table, book, &site[..], log, &mut noted);
-    let Judgement::Good(rules) = judged else {
-        return judging::number(judged);
-    };
+    let rules = judging::judge_site_and_log(enough, table, book, &site[..], log, &mut noted)?;
     if own >= rules.table.sites {
-        return refusals::number(Refusal::Range);
+        return Err(Refusal::Range);
     }
     conflicts::conflict_rows(book, rules.commands, &mut noted);
     let header = Site::read(&site[..Site::SIZE]);
-    let answer = take_turn(
+    let turn = take_turn(
         &mut site[..Site::SIZE],
         log,
         &noted[commands::MAX_COMMANDS..],
         own,
-    );
-    send(answer, own, header.round, message, entry)
+    )?;
+    send(turn, own, header.round, message, entry);
+    Ok(())
 }

@@ -1,9 +1,9 @@
 -- All sites fresh and nothing sent: the start of a run.
 -- Assumes nothing.
+use Rattle.std.specs.Prelude.{None}
 use mathlib.Core.Path.{◌≡◌, refl, sym, ap, subst, ◌∙◌}
 use mathlib.Core.Bool.{Bool, true, false}
 use mathlib.Core.List.{List, []}
-use mathlib.Core.Option.{none}
 use Prim.Native.Nat.{ℕ, ◌+◌, ◌*◌, ◌≤◌, ◌<◌}
 use native.Mathlib.Omega.{arith}
 use native.Mathlib.Decide.{ℕ_discrete}
@@ -68,7 +68,7 @@ fresh-more earlier sites n k ys e room size f h =
 
 -- All sites are fresh and nothing is sent.
 pub started : (t : SiteTable) (n : ℕ) {earlier sites now before : List ℕ} → n ≡ t.sites → length sites ≡ t.sites * site_size → FreshTo n earlier sites
-    → sent.Holds now (cleared before) (λ j r. []) (λ j r. none) → Started t sites now earlier before
+    → sent.Holds now (cleared before) (λ j r. []) (λ j r. None) → Started t sites now earlier before
 started t n {earlier} {sites} {now} {before} e size f h =
     record {
       holds =

@@ -1,9 +1,9 @@
 -- What the buffers hold with one log entry, one acknowledgment or one check message more.
 -- Assumes nothing.
+use Rattle.std.specs.Prelude.{Some}
 use mathlib.Core.Path.{◌≡◌, refl, sym, ap, subst, ◌∙◌}
 use mathlib.Core.Bool.{Bool, true, false, ◌&&◌}
 use mathlib.Core.List.{List, [], ◌∷◌, ◌++◌}
-use mathlib.Core.Option.{some}
 use mathlib.Core.Logic.{⊎_elim}
 use Prim.Native.Nat.{ℕ, zero, suc, ◌+◌, ◌*◌, ◌^◌, ◌≤◌, ◌<◌}
 use native.Mathlib.Omega.{arith}
@@ -41,7 +41,7 @@ pub entry_back : (e : Entry) → e.nc.bits < 2 ^ 64 → e.c.bits < 2 ^ 64 → en
 entry_back e n c = λ i. record { site = e.site; round = e.round; nc = set_of-members e.nc n i; c = set_of-members e.c c i }
 
 -- One message more, of commands that are known, leaves all messages known.
-known_more : (c : ℕ) (l : List theory.Set) (x : theory.Set) → ((n : ℕ) → known_to c (nth l n) ≡ true) → known_to c (some x) ≡ true
+known_more : (c : ℕ) (l : List theory.Set) (x : theory.Set) → ((n : ℕ) → known_to c (nth l n) ≡ true) → known_to c (Some x) ≡ true
     → (n : ℕ) → known_to c (nth (l ++ (x ∷ [])) n) ≡ true
 known_more c [] x h k zero = k
 known_more c [] x h k (suc n) = refl
@@ -103,7 +103,7 @@ module _ (t : SiteTable) (book : List Command) (b : Buffers) {w : World (dash t 
             };
       }
 
-  module _ (i k : ℕ) (x : theory.Set) (known : known_to (length book) (some x) ≡ true) {after exact : List ℕ} where
+  module _ (i k : ℕ) (x : theory.Set) (known : known_to (length book) (Some x) ≡ true) {after exact : List ℕ} where
     pub acknowledgment_holds : sent.Holds after exact (one_more i k x (acks_of b.sent)) (checks_of b.sent)
         → HoldsWorld t book (lent b.sites b.log b.entries after) (send_acknowledgment (dash t book) i k x w)
     acknowledgment_holds s =
@@ -164,6 +164,6 @@ module _ (t : SiteTable) (book : List Command) (b : Buffers) {w : World (dash t 
               };
         }
       where
-        there : (j r : ℕ) (q : Bool) → known_to (length book) (pick q (some x) (checks_of b.sent j r)) ≡ true
+        there : (j r : ℕ) (q : Bool) → known_to (length book) (pick q (Some x) (checks_of b.sent j r)) ≡ true
         there j r true = known
         there j r false = h.good.checks j r

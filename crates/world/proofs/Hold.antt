@@ -1,6 +1,7 @@
 -- What the buffers hold after a step: nothing changed, or one site did.
 -- Assumes nothing.
 use mathlib.Core.Path.{◌≡◌, refl, sym, ap, subst, ◌∙◌}
+use Rattle.std.specs.Prelude.{Err, Ok}
 use mathlib.Core.Bool.{Bool}
 use mathlib.Core.List.{List}
 use Prim.Native.Nat.{ℕ, ◌+◌, ◌*◌, ◌≤◌, ◌<◌}
@@ -9,10 +10,9 @@ use native.Mathlib.Decide.{ℕ_discrete}
 use lib.Dec.{eqb, ltb}
 use lib.ListN.{length, get_or}
 use borrow.Author.Tests.{lt-ltb, eq-eqb, ne_eqb}
-use Rattle.refusals.specs.Refusals.{is_taken, settled}
+use Rattle.refusals.specs.Refusals.{is_taken, settled, accepted}
 use Rattle.refusals.specs.declared.Refusal.{Refusal}
-use Rattle.refusals.specs.declared.Verdict.{Verdict}
-use Rattle.refusals.specs.declared.Verdict.TheVariants.{Taken, Refused}
+use Rattle.refusals.specs.Refusals.{Verdict}
 use Rattle.theory.specs.Sets.{pick}
 use Rattle.wire.specs.Wire.{read_le, splice}
 use Rattle.wire.proofs.Laws.{length-splice}
@@ -137,7 +137,7 @@ module _ (t : SiteTable) (book : List Command) (b : Buffers) (good : GoodWorld t
   -- ---- how a step ends
 
   module _ (u : Step) where
-    pub refused : (r : Refusal) → judge (dash t book) (world_of t book b) u ≡ Refused r → ((k : ℕ) → get_or b.sites k 0 < 256) → Outcome t book u b (Refused r) b
+    pub refused : (r : Refusal) → judge (dash t book) (world_of t book b) u ≡ Err r → ((k : ℕ) → get_or b.sites k 0 < 256) → Outcome t book u b (Err r) b
     refused r e small =
         record {
           verdict = sym e;
@@ -149,11 +149,11 @@ module _ (t : SiteTable) (book : List Command) (b : Buffers) (good : GoodWorld t
           past = λ i l. past_same (site_at b.sites i);
         }
 
-    pub taken : {after : Buffers} → judge (dash t book) (world_of t book b) u ≡ Taken
+    pub taken : {after : Buffers} → judge (dash t book) (world_of t book b) u ≡ accepted
         → HoldsWorld t book after (change (dash t book) (world_of t book b) u)
         → after.log ≡ log_written t book (world_of t book b) u b → after.sent ≡ sent_written t book (world_of t book b) u b
         → PastRows t.sites b.sites after.sites
-        → Outcome t book u b Taken after
+        → Outcome t book u b accepted after
     taken {after} e h el es ep =
         record {
           verdict = sym e;
@@ -176,12 +176,12 @@ module _ (t : SiteTable) (book : List Command) (b : Buffers) (good : GoodWorld t
         → read_le 2 (site_at b.sites i) span_place ≤ rows
         → Holds t book rows (site_at b.sites i) h.new (f (view t book (site_at b.sites i)))
         → (f (view t book (site_at b.sites i))).position ≤ b.entries
-        → judge (dash t book) (world_of t book b) u ≡ Taken
+        → judge (dash t book) (world_of t book b) u ≡ accepted
         → change (dash t book) (world_of t book b) u ≡ put (dash t book) i (f ((world_of t book b).site i)) (world_of t book b)
         → b.log ≡ log_written t book (world_of t book b) u b → b.sent ≡ sent_written t book (world_of t book b) u b
-        → Outcome t book u b Taken (lent sites b.log b.entries b.sent)
+        → Outcome t book u b accepted (lent sites b.log b.entries b.sent)
     one_site small i inside h f more holds read e ec el es =
-        subst (λ (y : List ℕ). Outcome t book u b Taken (lent y b.log b.entries b.sent)) (sym h.bytes)
+        subst (λ (y : List ℕ). Outcome t book u b accepted (lent y b.log b.entries b.sent)) (sym h.bytes)
         (taken e
         (subst (HoldsWorld t book (put_site b i h.new)) (sym ec)
         (put_holds small i inside (subst (λ (s : protocol.Site (dash t book)). HoldsOver t book h.new h.new (f s)) (sym (seen i inside)) (alone t book holds))
@@ -192,8 +192,8 @@ module _ (t : SiteTable) (book : List Command) (b : Buffers) (good : GoodWorld t
     -- A step that is refused after one site was written as it was.
     pub refused_site : ((k : ℕ) → get_or b.sites k 0 < 256) → (i : ℕ) → i < t.sites → {promise : List ℕ → List ℕ → Type 0} {sites : List ℕ}
         → (h : AtSite i promise b.sites sites) → HoldsOver t book (site_at b.sites i) h.new ((world_of t book b).site i)
-        → (r : Refusal) → judge (dash t book) (world_of t book b) u ≡ Refused r
-        → Outcome t book u b (Refused r) (lent sites b.log b.entries b.sent)
+        → (r : Refusal) → judge (dash t book) (world_of t book b) u ≡ Err r
+        → Outcome t book u b (Err r) (lent sites b.log b.entries b.sent)
     refused_site small i inside {sites = sites} h holds r e =
         record {
           verdict = sym e;
@@ -212,14 +212,14 @@ module _ (t : SiteTable) (book : List Command) (b : Buffers) (good : GoodWorld t
     pub carried_site : ((k : ℕ) → get_or b.sites k 0 < 256) → (i : ℕ) → i < t.sites → {promise : List ℕ → List ℕ → Type 0} {sites : List ℕ}
         → (h : AtSite i promise b.sites sites) → (f : protocol.Site (dash t book) → protocol.Site (dash t book)) (v : Verdict) {r : Verdict}
         → Carried t book v (f (view t book (site_at b.sites i))) (view t book (site_at b.sites i)) (site_at b.sites i) r h.new
-        → (v ≡ Taken → (f (view t book (site_at b.sites i))).position ≤ b.entries)
+        → (v ≡ accepted → (f (view t book (site_at b.sites i))).position ≤ b.entries)
         → judge (dash t book) (world_of t book b) u ≡ v
         → change (dash t book) (world_of t book b) u ≡ put (dash t book) i (f ((world_of t book b).site i)) (world_of t book b)
         → b.log ≡ log_written t book (world_of t book b) u b → b.sent ≡ sent_written t book (world_of t book b) u b
         → Outcome t book u b r (lent sites b.log b.entries b.sent)
-    carried_site small i inside {sites = sites} h f Taken k read e ec el es =
+    carried_site small i inside {sites = sites} h f (Ok _) k read e ec el es =
         subst (λ (y : Verdict). Outcome t book u b y (lent sites b.log b.entries b.sent)) (sym k.answer)
         (one_site small i inside h f (omega arith) k.site (read refl) e ec el es)
-    carried_site small i inside {sites = sites} h f (Refused x) k read e ec el es =
+    carried_site small i inside {sites = sites} h f (Err x) k read e ec el es =
         subst (λ (y : Verdict). Outcome t book u b y (lent sites b.log b.entries b.sent)) (sym k.answer)
         (refused_site small i inside h (subst (HoldsOver t book (site_at b.sites i) h.new) (sym (seen i inside)) k.site) x e)

@@ -1,9 +1,8 @@
 -- The world of all sites in three lent buffers: the sites, the log, and what correct sites have sent. What the buffers say, which are good, and what a step promises of them.
 -- Assumes nothing.
-use Rattle.std.specs.Prelude.{◌≡◌, Bool, true, not, ◌||◌, List, ℕ, ◌*◌, ◌≤◌, ◌<◌, ltb, length, drop}
-use Rattle.std.proofs.Math.Option.{Option, none, some}
+use Rattle.std.specs.Prelude.{◌≡◌, Bool, true, not, ◌||◌, List, ℕ, ◌*◌, ◌≤◌, ◌<◌, ltb, length, drop, None, Option, Some}
 use Rattle.refusals.specs.Refusals.{is_taken}
-use Rattle.refusals.specs.declared.Verdict.{Verdict}
+use Rattle.refusals.specs.Refusals.{Verdict}
 use Rattle.theory.specs.Sets as theory
 use Rattle.theory.specs.Sets.{pick, all}
 use Rattle.theory.specs.Lists.{nth}
@@ -44,8 +43,8 @@ PastRows n before after = (i : ℕ) → i < n → PastKept (site_at before i) (s
 
 -- The commands of a message are in a book of so many.
 abbrev pub known_to : ℕ → Option theory.Set → Bool
-known_to commands none = true
-known_to commands (some x) = all capacity (λ m. not (x m) || ltb m commands)
+known_to commands None = true
+known_to commands (Some x) = all capacity (λ m. not (x m) || ltb m commands)
 
 -- Buffers that a step is carried out on, for a site table and so many commands.
 pub record GoodWorld (t : SiteTable) (commands : ℕ) (b : Buffers) : Type 0 where

@@ -12,12 +12,12 @@ offset_bounds-places-k c = omega (arith, few_commands c.args.book.now)
 pub returns-in_default : goal.returns-in_default
 returns-in_default c =
     let s = c in
-    absurd (not_whole (sym (read_at s.args.book.now _ c.read_command-reading.ensures c.in_default.is) ∙ place_read s.args.book.now s.args.places.now s.args.k s.requires.0 s.requires.1))
+    absurd (not_whole (sym (read_at s.args.book.now _ c.read_command.ensures c.in_default.is) ∙ place_read s.args.book.now s.args.places.now s.args.k s.requires.0 s.requires.1))
 
 pub returns : goal.returns
 returns c =
     let s = c in
-    whole_is (sym (read_at s.args.book.now _ c.read_command-reading.ensures c.in-Whole.is) ∙ place_read s.args.book.now s.args.places.now s.args.k s.requires.0 s.requires.1)
+    whole_is (sym (read_at s.args.book.now _ c.read_command.ensures c.in-Some.is) ∙ place_read s.args.book.now s.args.places.now s.args.k s.requires.0 s.requires.1)
 
 pub bounds-places-k : goal.bounds-places-k
 bounds-places-k c = let s = c in place_noted s.args.book.now s.args.places.now s.args.k s.requires.0 s.requires.1

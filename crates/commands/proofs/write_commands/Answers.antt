@@ -15,13 +15,13 @@ pub returns-in_default : goal.returns-in_default
 returns-in_default c =
     let s = c.args.book.now in
     let l = c.loop in
-    absurd (not_bad s l.counter l.from (omega arith) (omega arith) (read_at s l.from c.read_command-reading.ensures c.in_default.is))
+    absurd (not_bad s l.counter l.from (omega arith) (omega arith) (read_at s l.from c.read_command.ensures c.in_default.is))
 
 pub write_command-to-requires : goal.write_command-to-requires
 write_command-to-requires c =
     let s = c.args.book.now in
     let l = c.loop in
-    let t = took s l.counter l.from (omega arith) (omega arith) (read_at s l.from c.read_command-reading.ensures c.in-Whole.is) refl in
+    let t = took s l.counter l.from (omega arith) (omega arith) (read_at s l.from c.read_command.ensures c.in-Some.is) refl in
     omega (arith, left_length s l.counter l.from t)
 
 pub loop-preserved : goal.loop-preserved
@@ -29,7 +29,7 @@ loop-preserved c =
     let s = c.args.book.now in
     let l = c.loop in
     let w = c.write_command-to.ensures in
-    let t = took s l.counter l.from (omega arith) (omega arith) (read_at s l.from c.read_command-reading.ensures c.in-Whole.is) c.size-from.ensures in
+    let t = took s l.counter l.from (omega arith) (omega arith) (read_at s l.from c.read_command.ensures c.in-Some.is) c.size-from.ensures in
     let e = left_length s l.counter l.from t in
     (omega (arith, ap length t.left), t.inside, c.write_command-to.auto.out ∙ l.invariant.2, omega (arith, e, w.0), left_more s l.counter l.from l.out t (omega (arith, e)) w.0 w.1 ∙ l.invariant.4)
 

@@ -3,6 +3,7 @@
 use mathlib.Core.Path.{◌∙◌}
 use native.Mathlib.Omega.{arith}
 use lib.ListN.{length}
+use Rattle.std.proofs.lemmas.Result.{err_from_is_err_and}
 use Rattle.commands.specs.Book.{commands_of}
 use Rattle.commands.proofs.Walk.{few_commands}
 use Rattle.ending.proofs.Next.{read_head}
@@ -14,15 +15,17 @@ returns-in_default c =
     let a = c.args in
     round_undecided (commands_of a.book.now) a.site.now (λ i. (c.type_inv.site i).fits) c.in_default.is
 
-pub returns-in-Refused : goal.returns-in-Refused
-returns-in-Refused c =
+pub returns-in_err-judge : goal.returns-in_err-judge
+returns-in_err-judge c =
     let s = c in
     let a = s.args in
-    let known = c.in-Decided.known_told-1-own.given.0.1.1 in
-    let w = decided_within c.in-Decided.sets c.in-Decided.is s.requires.2 s.requires.3 in
-    λ t log g told.
-    round_refused t (commands_of a.book.now) (few_commands a.book.now) a.site.now (λ i. (c.slice_known-1.given i).fits) g c.in-Decided.sets
-    known.0.1.1.0.1 known.1.0.1.1.0.1 w.0 w.1 c.in-Decided.is log told s.requires.2 c.read-header.ensures c.judge-judged.ensures _ c.in-Refused.is
+    let known = c.in-Some.known_told-1-own.given.0.1.1 in
+    let w = decided_within c.in-Some.sets c.in-Some.is s.requires.2 s.requires.3 in
+    let p = err_from_is_err_and c.from_residual.result c.from_residual.ensures.1 in
+    rw (p.1, p.2)
+    (λ t log g told.
+    round_refused t (commands_of a.book.now) (few_commands a.book.now) a.site.now (λ i. (c.slice_known-1.given i).fits) g c.in-Some.sets
+    known.0.1.1.0.1 known.1.0.1.1.0.1 w.0 w.1 c.in-Some.is log told s.requires.2 c.read-header.ensures c.judge.ensures _ c.in_err-judge.was)
 
 pub deliver_all-between-requires : goal.deliver_all-between-requires
 deliver_all-between-requires c =
@@ -32,11 +35,11 @@ deliver_all-between-requires c =
     let few = few_commands a.book.now in
     let g = s.requires.0.1 in
     let en = s.requires.2 in
-    let room = ready h a.commands c.in-Decided.sets c.judge-judged.ensures c.in_default-judged.is c.due-first.ensures c.due-second.ensures in (
+    let room = ready h a.commands c.in-Some.sets c.judge.ensures c.in_ok-judge.was c.due-first.ensures c.due-second.ensures in (
       g.size,
       g.tables.readings,
       s.requires.1,
-      within-due h c.in-Decided.sets.nc (length (commands_of a.book.now)) c.due-first.ensures (decided_within c.in-Decided.sets c.in-Decided.is en s.requires.3).0,
+      within-due h c.in-Some.sets.nc (length (commands_of a.book.now)) c.due-first.ensures (decided_within c.in-Some.sets c.in-Some.is en s.requires.3).0,
       omega arith,
     )
 
@@ -47,13 +50,13 @@ deliver_all-total-requires c =
     let h = c.read-header.result in
     let few = few_commands a.book.now in
     let en = s.requires.2 in
-    let room = ready h a.commands c.in-Decided.sets c.judge-judged.ensures c.in_default-judged.is c.due-first.ensures c.due-second.ensures in
+    let room = ready h a.commands c.in-Some.sets c.judge.ensures c.in_ok-judge.was c.due-first.ensures c.due-second.ensures in
     let d = c.deliver_all-between.ensures in
     let e = d.0 in (
       d.1.size,
       d.1.readings,
       s.requires.1,
-      within-due h c.in-Decided.sets.c (length (commands_of a.book.now)) c.due-second.ensures (decided_within c.in-Decided.sets c.in-Decided.is en s.requires.3).1,
+      within-due h c.in-Some.sets.c (length (commands_of a.book.now)) c.due-second.ensures (decided_within c.in-Some.sets c.in-Some.is en s.requires.3).1,
       omega arith,
     )
 
@@ -68,11 +71,11 @@ pub returns : goal.returns
 returns c =
     let s = c in
     let a = s.args in
-    let known = c.in-Decided.known_told-1-own.given.0.1.1 in
-    let w = decided_within c.in-Decided.sets c.in-Decided.is s.requires.2 s.requires.3 in
+    let known = c.in-Some.known_told-1-own.given.0.1.1 in
+    let w = decided_within c.in-Some.sets c.in-Some.is s.requires.2 s.requires.3 in
     λ t log g told.
-    round-taken t (commands_of a.book.now) (few_commands a.book.now) a.site.now (λ i. (c.slice_known-1.given i).fits) g c.in-Decided.sets
-    known.0.1.1.0.1 known.1.0.1.1.0.1 w.0 w.1 c.in-Decided.is log told s.requires.2 c.read-header.ensures c.judge-judged.ensures c.in_default-judged.is
+    round-taken t (commands_of a.book.now) (few_commands a.book.now) a.site.now (λ i. (c.slice_known-1.given i).fits) g c.in-Some.sets
+    known.0.1.1.0.1 known.1.0.1.1.0.1 w.0 w.1 c.in-Some.is log told s.requires.2 c.read-header.ensures c.judge.ensures c.in_ok-judge.was
     c.due-first.ensures c.due-second.ensures c.deliver_all-between.ensures.0 c.deliver_all-between.ensures.1 c.deliver_all-total.ensures.0 c.deliver_all-total.ensures.1
     c.next_round.ensures (λ i. (c.type_inv.site i).fits)
 
@@ -82,7 +85,7 @@ overflow_cast-total c =
     let a = s.args in
     let few = few_commands a.book.now in
     let en = s.requires.2 in
-    let room = ready c.read-header.result a.commands c.in-Decided.sets c.judge-judged.ensures c.in_default-judged.is c.due-first.ensures c.due-second.ensures in
+    let room = ready c.read-header.result a.commands c.in-Some.sets c.judge.ensures c.in_ok-judge.was c.due-first.ensures c.due-second.ensures in
     let d = c.deliver_all-between.ensures.0 in
     let e = c.deliver_all-total.ensures.0 in
     record { fits = omega arith }

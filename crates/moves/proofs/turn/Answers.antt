@@ -4,6 +4,8 @@ use native.Mathlib.Omega.{arith}
 use mathlib.Core.Path.{refl, ap, ◌∙◌}
 use Prim.Native.Nat.{◌+◌, ◌*◌, ◌-◌, ◌<◌}
 use lib.ListN.{length}
+use Rattle.std.specs.Prelude.{Ok}
+use Rattle.std.proofs.lemmas.Result.{err_from_is_err_and}
 use Rattle.layout.specs.declared.Site.{Site}
 use Rattle.layout.specs.Layout.{site_size}
 use Rattle.rounds.specs.Rounds.{kept_entries}
@@ -34,8 +36,8 @@ read-header-requires c =
     let a = o.args in
     length_part a.sites.now a.site ((a.site * site_size + site_size) - a.site * site_size) (omega arith) (omega (arith, o.requires.0.1.world.size))
 
-pub turn_by-answer-requires : goal.turn_by-answer-requires
-turn_by-answer-requires c =
+pub turn_by-requires : goal.turn_by-requires
+turn_by-requires c =
     let o = c in
     let a = o.args in
     let b = lent a.sites.now a.log.now (kept_entries a.kept.now) a.sent.now in
@@ -57,13 +59,13 @@ add_acknowledgment-requires c =
     let i : a.site < a.rules.table.sites = omega (arith, c.if-i-table.false) in
     let e = ap (λ (h : Site). h.round) (c.read-header.ensures ∙ head_at a.sites.now a.site ((a.site * site_size + site_size) - a.site * site_size) (omega arith)) in
     let p = round_told a.rules.table o.requires.0.0 a.rows.now b a.site o.requires.0.1 (λ k. (c.slice_known-1.given k).fits) i e in
-    let h = at_site (TurnedBy a.rows.now a.kept.now a.site c.turn_by-answer.result) a.sites.now a.site ((a.site * site_size + site_size) - a.site * site_size) _ (omega arith)
-    (omega (arith, i, o.requires.0.1.world.size)) c.turn_by-answer.auto.site c.turn_by-answer.ensures in (
+    let h = at_site (TurnedBy a.rows.now a.kept.now a.site c.turn_by.result) a.sites.now a.site ((a.site * site_size + site_size) - a.site * site_size) _ (omega arith)
+    (omega (arith, i, o.requires.0.1.world.size)) c.turn_by.auto.site c.turn_by.ensures in (
       o.requires.0.1.world.sent,
       p.2,
       p.0,
       p.1,
-      room_told a.rules.table o.requires.0.0 a.rows.now b a.site o.requires.0.1 (λ k. (c.slice_known-1.given k).fits) i c.is_faulty.ensures c.if-is_faulty.false refl o.requires.1 h _ c.in-Acknowledged.is _ e,
+      room_told a.rules.table o.requires.0.0 a.rows.now b a.site o.requires.0.1 (λ k. (c.slice_known-1.given k).fits) i c.is_faulty.ensures c.if-is_faulty.false refl o.requires.1 h _ (c.in_ok-turn.was ∙ ap Ok c.in-Acknowledged.is) _ e,
     )
 
 pub put_check-requires : goal.put_check-requires
@@ -86,15 +88,16 @@ append-requires c =
     let p = round_told a.rules.table o.requires.0.0 a.rows.now b a.site o.requires.0.1 (λ k. (c.slice_known-1.given k).fits) i e in
     (o.requires.0.1.table, o.requires.1, omega (arith, o.requires.0.1.room), ap length o.requires.0.1.conflicts ∙ rows_size o.requires.0.0, i, omega (arith, p.1))
 
-pub returns-in-Refused : goal.returns-in-Refused
-returns-in-Refused c =
+pub returns-in_err-turn : goal.returns-in_err-turn
+returns-in_err-turn c =
     let o = c in
     let a = o.args in
     let b = lent a.sites.now a.log.now (kept_entries a.kept.now) a.sent.now in
     let i : a.site < a.rules.table.sites = omega (arith, c.if-i-table.false) in
-    let h = at_site (TurnedBy a.rows.now a.kept.now a.site c.turn_by-answer.result) a.sites.now a.site ((a.site * site_size + site_size) - a.site * site_size) _ (omega arith)
-    (omega (arith, i, o.requires.0.1.world.size)) c.turn_by-answer.auto.site c.turn_by-answer.ensures in
-    ((λ book ready. turn_refused a.rules.table book a.rows.now b a.site ready (λ k. (c.slice_known-1.given k).fits) i c.is_faulty.ensures c.if-is_faulty.false refl o.requires.1 h _ c.in-Refused.is), o.requires.1)
+    let h = at_site (TurnedBy a.rows.now a.kept.now a.site c.turn_by.result) a.sites.now a.site ((a.site * site_size + site_size) - a.site * site_size) _ (omega arith)
+    (omega (arith, i, o.requires.0.1.world.size)) c.turn_by.auto.site c.turn_by.ensures in
+    let p = err_from_is_err_and c.from_residual.result c.from_residual.ensures.1 in
+    rw (p.1, p.2) ((λ book ready. turn_refused a.rules.table book a.rows.now b a.site ready (λ k. (c.slice_known-1.given k).fits) i c.is_faulty.ensures c.if-is_faulty.false refl o.requires.1 h _ c.in_err-turn.was), o.requires.1)
 
 pub returns-in-Acknowledged : goal.returns-in-Acknowledged
 returns-in-Acknowledged c =
@@ -103,9 +106,9 @@ returns-in-Acknowledged c =
     let b = lent a.sites.now a.log.now (kept_entries a.kept.now) a.sent.now in
     let i : a.site < a.rules.table.sites = omega (arith, c.if-i-table.false) in
     let e = ap (λ (h : Site). h.round) (c.read-header.ensures ∙ head_at a.sites.now a.site ((a.site * site_size + site_size) - a.site * site_size) (omega arith)) in
-    let h = at_site (TurnedBy a.rows.now a.kept.now a.site c.turn_by-answer.result) a.sites.now a.site ((a.site * site_size + site_size) - a.site * site_size) _ (omega arith)
-    (omega (arith, i, o.requires.0.1.world.size)) c.turn_by-answer.auto.site c.turn_by-answer.ensures in (
-      (λ book ready. acknowledged a.rules.table book a.rows.now b a.site ready (λ k. (c.slice_known-1.given k).fits) i c.is_faulty.ensures c.if-is_faulty.false refl o.requires.1 h _ c.in-Acknowledged.is _ e
+    let h = at_site (TurnedBy a.rows.now a.kept.now a.site c.turn_by.result) a.sites.now a.site ((a.site * site_size + site_size) - a.site * site_size) _ (omega arith)
+    (omega (arith, i, o.requires.0.1.world.size)) c.turn_by.auto.site c.turn_by.ensures in (
+      (λ book ready. acknowledged a.rules.table book a.rows.now b a.site ready (λ k. (c.slice_known-1.given k).fits) i c.is_faulty.ensures c.if-is_faulty.false refl o.requires.1 h _ (c.in_ok-turn.was ∙ ap Ok c.in-Acknowledged.is) _ e
           c.add_acknowledgment.ensures),
       o.requires.1,
     )
@@ -117,10 +120,10 @@ returns-in-Proposed c =
     let b = lent a.sites.now a.log.now (kept_entries a.kept.now) a.sent.now in
     let i : a.site < a.rules.table.sites = omega (arith, c.if-i-table.false) in
     let e = ap (λ (h : Site). h.round) (c.read-header.ensures ∙ head_at a.sites.now a.site ((a.site * site_size + site_size) - a.site * site_size) (omega arith)) in
-    let h = at_site (TurnedBy a.rows.now a.kept.now a.site c.turn_by-answer.result) a.sites.now a.site ((a.site * site_size + site_size) - a.site * site_size) _ (omega arith)
-    (omega (arith, i, o.requires.0.1.world.size)) c.turn_by-answer.auto.site c.turn_by-answer.ensures in
+    let h = at_site (TurnedBy a.rows.now a.kept.now a.site c.turn_by.result) a.sites.now a.site ((a.site * site_size + site_size) - a.site * site_size) _ (omega arith)
+    (omega (arith, i, o.requires.0.1.world.size)) c.turn_by.auto.site c.turn_by.ensures in
     let w = c.append.ensures in (
-      (λ book ready. proposed a.rules.table book a.rows.now b a.site ready (λ k. (c.slice_known-1.given k).fits) i c.is_faulty.ensures c.if-is_faulty.false refl o.requires.1 h _ _ c.in-Proposed.is _ e
+      (λ book ready. proposed a.rules.table book a.rows.now b a.site ready (λ k. (c.slice_known-1.given k).fits) i c.is_faulty.ensures c.if-is_faulty.false refl o.requires.1 h _ _ (c.in_ok-turn.was ∙ ap Ok c.in-Proposed.is) _ e
           c.put_check.ensures w.0 w.1),
       w.2,
     )

@@ -26,8 +26,8 @@ loop-at-init c =
       o.requires.1,
     )
 
-pub read_step-reading-requires : goal.read_step-reading-requires
-read_step-reading-requires c = c.loop-at.invariant.0
+pub read_step-requires : goal.read_step-requires
+read_step-requires c = c.loop-at.invariant.0
 
 pub put_refusal-requires : goal.put_refusal-requires
 put_refusal-requires c =
@@ -45,7 +45,7 @@ returns-in_default c =
     let g : l.at < length a.steps.now = omega (arith, c.loop-at-test.true) in
     let far : l.end ≤ length l.out = omega (arith, o.requires.0.room, o.requires.0.short, l.invariant.0, l.invariant.1, l.invariant.2, l.invariant.6, c.loop-at-test.true) in
     playing_end a.rules.table (commands_of a.book.now) a.steps.now a.out.now a.from
-    (playing_last a.rules.table (commands_of a.book.now) a.steps.now a.out.now a.from l.invariant.7 far g (sym c.read_step-reading.ensures ∙ c.in_default.is) refl w.0)
+    (playing_last a.rules.table (commands_of a.book.now) a.steps.now a.out.now a.from l.invariant.7 far g (sym c.read_step.ensures ∙ c.in_default.is) refl w.0)
     (omega arith) (omega (arith, o.requires.0.short, l.invariant.1, l.invariant.2, w.1, g))
 
 pub step-verdict-requires : goal.step-verdict-requires
@@ -63,7 +63,7 @@ step-verdict-requires c =
         conflicts = q.noted.rows;
         world = p.world.good;
         room = omega (arith, q.log, l.invariant.4);
-        acks = acks_few t k q.good p.past p.world (meaning c.in-Whole.step);
+        acks = acks_few t k q.good p.past p.world (meaning c.in-Some.step);
       }),
       q.noted.places,
       q.counted,
@@ -82,7 +82,7 @@ loop-at-smaller c =
     let o = c in
     let a = o.args in
     let l = c.loop-at in
-    let e = sym c.read_step-reading.ensures ∙ c.in-Whole.is in
+    let e = sym c.read_step.ensures ∙ c.in-Some.is in
     let i = inside a.steps.now l.at l.invariant.0 e c.size-size.ensures in
     omega (arith, i.0, i.1)
 
@@ -93,7 +93,7 @@ loop-at-preserved c =
     let l = c.loop-at in
     let b = c.step-verdict in
     let w = c.report-end.ensures in
-    let e = sym c.read_step-reading.ensures ∙ c.in-Whole.is in
+    let e = sym c.read_step.ensures ∙ c.in-Some.is in
     let i = inside a.steps.now l.at l.invariant.0 e c.size-size.ensures in
     let far : l.end ≤ length l.out = omega (arith, o.requires.0.room, o.requires.0.short, l.invariant.0, l.invariant.1, l.invariant.2, l.invariant.6, c.loop-at-test.true) in (
       i.1,

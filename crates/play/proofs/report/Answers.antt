@@ -4,10 +4,10 @@ use native.Mathlib.Omega.{arith}
 use Rattle.play.proofs.Laws.{silent, reported}
 use Rattle.play.proofs.report.Goals as goal
 
-pub returns-in_default : goal.returns-in_default
-returns-in_default c = let a = c.args in (silent _ a.at a.number c.in_default.is, omega arith)
+pub returns-in-Ok : goal.returns-in-Ok
+returns-in-Ok c = let a = c.args in (silent _ a.at a.number c.in-Ok.is, omega arith)
 
-pub returns : goal.returns
-returns c =
+pub returns-in-Err : goal.returns-in-Err
+returns-in-Err c =
     let w = c.put_refusal.ensures in
-    (reported c.args.number c.in-Refused.is w.0, w.1)
+    (reported c.args.number c.in-Err.is w.0, w.1)

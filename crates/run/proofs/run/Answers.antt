@@ -19,34 +19,34 @@ returns-then-not-has_room c =
 pub conflict_rows-requires : goal.conflict_rows-requires
 conflict_rows-requires c =
     let r = c.args.input.now in
-    let q = sym c.in-Good.is ∙ c.judge_run-opened.ensures.0 in
-    placed_part r (book_part r (judged_end r q)) q c.judge_run-opened.ensures.1
+    let q = sym c.in-Ok.is ∙ c.judge_run.ensures.0 in
+    placed_part r (book_part r (judged_end r q)) q c.judge_run.ensures.1
 
 pub print_in-requires : goal.print_in-requires
 print_in-requires c =
     let a = c.args in
     let r = a.input.now in
-    let q = sym c.in-Good.is ∙ c.judge_run-opened.ensures.0 in
+    let q = sym c.in-Ok.is ∙ c.judge_run.ensures.0 in
     let s = sound r (judged_taken r q).0 in
     let room = roomy_told (working a.sites.now a.log.now a.sent.now) a.out.now (sym c.has_room.ensures ∙ c.if-not-has_room.false) in
     let e = judged_end r q in
-    let p = placed_part r (book_part r e) q c.judge_run-opened.ensures.1 in
+    let p = placed_part r (book_part r e) q c.judge_run.ensures.1 in
     (record { good = ap is_good (judged_table r q) ∙ s.table; short = steps_short r s e; room = room.1 }, room.0, all_noted _ _ p.0 p.2 c.conflict_rows.ensures, p.1)
 
 pub put_refused_line-requires : goal.put_refused_line-requires
 put_refused_line-requires c =
     let a = c.args in
     let room = roomy_told (working a.sites.now a.log.now a.sent.now) a.out.now (sym c.has_room.ensures ∙ c.if-not-has_room.false) in
-    omega (arith, room.1, refused_short c.number-cause.result (omega (arith, number_short c.in-Refused.refusal, c.number-cause.ensures)))
+    omega (arith, room.1, refused_short c.from-cause.result (omega (arith, number_short c.in-Err.refusal, c.from-cause.ensures)))
 
-pub returns-in-Good : goal.returns-in-Good
-returns-in-Good c =
+pub returns-in-Ok : goal.returns-in-Ok
+returns-in-Ok c =
     let a = c.args in
     let r = a.input.now in
     let w = (working a.sites.now a.log.now a.sent.now) in
     let o = a.out.now in
     let p = c.print_in in
-    let q = sym c.in-Good.is ∙ c.judge_run-opened.ensures.0 in
+    let q = sym c.in-Ok.is ∙ c.judge_run.ensures.0 in
     let e = judged_end r q in
     let t = judged_table r q in
     let taken = (judged_taken r q).0 in
@@ -55,46 +55,46 @@ returns-in-Good c =
       played_left r w o room taken t (book_part r e) (step_part r e) p.ensures.1,
     )
 
-pub returns-in-Refused : goal.returns-in-Refused
-returns-in-Refused c =
+pub returns-in-Err : goal.returns-in-Err
+returns-in-Err c =
     let a = c.args in
     let r = a.input.now in
     let w = (working a.sites.now a.log.now a.sent.now) in
     let o = a.out.now in
-    let refused = judged_refused r (sym c.in-Refused.is ∙ c.judge_run-opened.ensures.0) in (
-      with-room r w o (sym c.has_room.ensures ∙ c.if-not-has_room.false) (print_refused r c.in-Refused.refusal refused c.number-cause.ensures c.put_refused_line.ensures),
-      refused_left r w o c.in-Refused.refusal refused,
+    let refused = judged_refused r (sym c.in-Err.is ∙ c.judge_run.ensures.0) in (
+      with-room r w o (sym c.has_room.ensures ∙ c.if-not-has_room.false) (print_refused r c.in-Err.refusal refused c.from-cause.ensures c.put_refused_line.ensures),
+      refused_left r w o c.in-Err.refusal refused,
     )
 
 pub slice_bounds-book-count : goal.slice_bounds-book-count
 slice_bounds-book-count c =
     let r = c.args.input.now in
-    let q = sym c.in-Good.is ∙ c.judge_run-opened.ensures.0 in
+    let q = sym c.in-Ok.is ∙ c.judge_run.ensures.0 in
     omega (arith, judged_end r q)
 
 pub slice_bounds-book-start : goal.slice_bounds-book-start
 slice_bounds-book-start c =
     let r = c.args.input.now in
-    let q = sym c.in-Good.is ∙ c.judge_run-opened.ensures.0 in
+    let q = sym c.in-Ok.is ∙ c.judge_run.ensures.0 in
     omega (arith, judged_end r q)
 
 pub slice_bounds-book-end : goal.slice_bounds-book-end
 slice_bounds-book-end c =
     let r = c.args.input.now in
-    let q = sym c.in-Good.is ∙ c.judge_run-opened.ensures.0 in
+    let q = sym c.in-Ok.is ∙ c.judge_run.ensures.0 in
     let s = sound r (judged_taken r q).0 in
     omega (arith, judged_end r q, s.end)
 
 pub slice_bounds-print_in-count : goal.slice_bounds-print_in-count
 slice_bounds-print_in-count c =
     let r = c.args.input.now in
-    let q = sym c.in-Good.is ∙ c.judge_run-opened.ensures.0 in
+    let q = sym c.in-Ok.is ∙ c.judge_run.ensures.0 in
     let s = sound r (judged_taken r q).0 in
     omega (arith, judged_end r q, s.end)
 
 pub slice_bounds-print_in-start : goal.slice_bounds-print_in-start
 slice_bounds-print_in-start c =
     let r = c.args.input.now in
-    let q = sym c.in-Good.is ∙ c.judge_run-opened.ensures.0 in
+    let q = sym c.in-Ok.is ∙ c.judge_run.ensures.0 in
     let s = sound r (judged_taken r q).0 in
     omega (arith, judged_end r q, s.end)

@@ -1,10 +1,10 @@
--- `turning::send`: a law for each answer of the step.
+-- `turning::send`: a law for each turn.
 -- Assumes nothing.
 use borrow.Author.Rules.{rules}
 use mathlib.Core.Path.{sym, subst}
 use Prim.Native.Nat.{◌<◌}
 use Rattle.entries.specs.declared.Entry.{Entry}
-use Rattle.turning.proofs.Laws.{sent_acknowledged, sent-proposed, sent_refused}
+use Rattle.turning.proofs.Laws.{sent_acknowledged, sent-proposed}
 use Rattle.turning.proofs.send.Goals as goal
 
 pub write_entry-requires : goal.write_entry-requires
@@ -18,6 +18,3 @@ returns-in-Acknowledged c = let a = c.args in sent_acknowledged a.own a.round a.
 
 pub returns-in-Proposed : goal.returns-in-Proposed
 returns-in-Proposed c = let a = c.args in sent-proposed a.own a.round a.message.now a.entry.now _ _ c.in-Proposed.is c.entry_of.ensures c.write-in-Proposed.ensures c.write_entry.ensures
-
-pub returns-in-Refused : goal.returns-in-Refused
-returns-in-Refused c = let a = c.args in sent_refused a.own a.round a.message.now a.entry.now _ c.in-Refused.is c.number.ensures
