@@ -26,16 +26,6 @@ pub enum Phase {
 }
 
 impl Phase {
-    // Its number, in the bytes of a site and in a status.
-    pub fn number(self) -> u8
-        ensures { result ≡ phase_number self }
-    {
-        match self {
-            Phase::Acknowledging => 0,
-            Phase::Waiting(_) => 1,
-        }
-    }
-
     // The sets that the site waits with, empty while it acknowledges.
     pub fn proposal(self) -> Proposal
         ensures { result ≡ proposal_of self }
@@ -46,6 +36,18 @@ impl Phase {
                 c: Set { bits: 0 },
             },
             Phase::Waiting(proposal) => proposal,
+        }
+    }
+}
+
+// The number of a phase, in the bytes of a site and in a status.
+impl From<Phase> for u8 {
+    ghost from_gives = { λ phase number. number ≡ phase_number phase };
+
+    fn from(phase: Phase) -> u8 {
+        match phase {
+            Phase::Acknowledging => 0,
+            Phase::Waiting(_) => 1,
         }
     }
 }
@@ -209,7 +211,7 @@ pub fn set_phase(site: &mut [u8], phase: Phase)
     let proposal = phase.proposal();
     let nc = proposal.nc;
     let c = proposal.c;
-    wire::put(site, Site::PHASE, phase.number());
+    wire::put(site, Site::PHASE, u8::from(phase));
     nc.write(site, Site::NC);
     c.write(site, Site::C);
 }

@@ -24,9 +24,8 @@ fn write_status(site: &[u8], out: &mut [u8])
     ensures { out.new ≡ splice out.old 0 (head_status (head_of site.now)) }
 {
     let header = Site::read(site);
-    let phase = header.phase;
     wire::put(out, 0, header.round);
-    wire::put(out, 1, phase.number());
+    wire::put(out, 1, u8::from(header.phase));
     wire::put(out, 2, header.deliveries as u8);
     wire::put(out, 3, header.position);
 }

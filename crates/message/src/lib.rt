@@ -64,21 +64,22 @@ impl Message {
         requires { message_size ≤ length out.old }
         ensures { out.new ≡ splice out.old 0 (message_bytes self) }
     {
-        let kind = self.kind;
         let set = self.set;
-        wire::put(out, Message::KIND, kind_number(kind));
+        wire::put(out, Message::KIND, u8::from(self.kind));
         wire::put(out, Message::ROUND, self.round);
         set.write(out, Message::SET);
     }
 }
 
 // The number of a kind.
-fn kind_number(kind: Kind) -> u8
-    ensures { result ≡ kind_number kind }
-{
-    match kind {
-        Kind::Acknowledgment => Message::ACKNOWLEDGMENT,
-        Kind::Check => Message::CHECK,
+impl From<Kind> for u8 {
+    ghost from_gives = { λ kind number. number ≡ kind_number kind };
+
+    fn from(kind: Kind) -> u8 {
+        match kind {
+            Kind::Acknowledgment => Message::ACKNOWLEDGMENT,
+            Kind::Check => Message::CHECK,
+        }
     }
 }
 

@@ -5,6 +5,6 @@ use Rattle.layout.proofs.set_phase.Goals as goal
 
 pub returns : goal.returns
 returns c =
-    phase_set _ c.args.phase c.proposal-proposal.ensures c.number.ensures
+    phase_set _ c.args.phase c.proposal-proposal.ensures c.from.ensures
     c.put.ensures c.write.ensures
     c.write-2.ensures

@@ -9,5 +9,5 @@ use Rattle.looking.proofs.write_status.Goals as goal
 
 pub returns : goal.returns
 returns c =
-    status_written c.args.out.now c.read-header.result c.number.ensures c.put.ensures c.put-2.ensures c.put-3.ensures c.put-4.ensures
+    status_written c.args.out.now c.read-header.result c.from.ensures c.put.ensures c.put-2.ensures c.put-3.ensures c.put-4.ensures
     ∙ ap (λ (h : Site). splice c.args.out.now 0 (head_status h)) c.read-header.ensures
