@@ -2,7 +2,7 @@
 -- Assumes nothing.
 use mathlib.Core.Path.{◌≡◌, refl, sym, ap, ◌∙◌}
 use mathlib.Core.Bool.{Bool, true, false, ◌&&◌, ◌||◌, not}
-use mathlib.Core.List.{List}
+use mathlib.Core.List.{List, ◌∷◌}
 use mathlib.Core.Logic.{◌⊎◌, inl, inr}
 use Prim.Native.Nat.{ℕ, zero, suc, ◌+◌, ◌*◌, ◌^◌, ◌≤◌, ◌<◌}
 use native.Mathlib.Numerals.{add-one}
@@ -19,34 +19,11 @@ use Rattle.entries.specs.declared.Entry.{Entry}
 use Rattle.entries.specs.Entries.{entry_size, entry_of}
 use Rattle.entries.proofs.Bytes.{Fits, entry_fits}
 use Rattle.recovery.specs.declared.Levels.{Levels}
-use Rattle.recovery.specs.Decisions.{counts_in, nc_count, in_any, at_least, levels_of, no_levels, level_with, levels_with, levels_after, level_of}
+use Rattle.std.proofs.Common.{replicate}
+use Rattle.recovery.specs.Decisions.{counts_in, nc_count, in_any, at_least, max_level, levels_from, levels_of, no_levels, level_with, above_with, levels_with, levels_after}
 
-pub same_levels : {a b : Levels} → a.one ≡ b.one → a.two ≡ b.two → a.three ≡ b.three → a.four ≡ b.four → a.five ≡ b.five → a.six ≡ b.six
-    → a.proposed ≡ b.proposed → a ≡ b
-same_levels e1 e2 e3 e4 e5 e6 ep =
-    λ i. record { one = e1 i; two = e2 i; three = e3 i; four = e4 i; five = e5 i; six = e6 i; proposed = ep i }
-
-pub no_levels_lem : {none : Set} → none ≡ empty_of
-    → ◌≡◌ {A = Levels} (record { one = none; two = none; three = none; four = none; five = none; six = none; proposed = none }) no_levels
-no_levels_lem e = same_levels e e e e e e e
-
-pub with_levels : (l : Levels) (nc c : Set) {both one two three four five six proposed : Set} → both ≡ union_of nc c → one ≡ union_of l.one nc
-    → two ≡ level_with l.two l.one nc → three ≡ level_with l.three l.two nc → four ≡ level_with l.four l.three nc
-    → five ≡ level_with l.five l.four nc → six ≡ level_with l.six l.five nc → proposed ≡ union_of l.proposed both
-    → ◌≡◌ {A = Levels} (record { one = one; two = two; three = three; four = four; five = five; six = six; proposed = proposed }) (levels_with l nc c)
-unfolding levels_with
-with_levels l nc c eb e1 e2 e3 e4 e5 e6 ep = same_levels e1 e2 e3 e4 e5 e6 (ep ∙ ap (union_of l.proposed) eb)
-
--- There is no level of another number.
-pub no_level : (l : Levels) (n : ℕ) → (n ≡ 1 → ⊥) → (n ≡ 2 → ⊥) → (n ≡ 3 → ⊥) → (n ≡ 4 → ⊥) → (n ≡ 5 → ⊥) → (n ≡ 6 → ⊥) → empty_of ≡ level_of l n
-no_level l zero a b c d e f = refl
-no_level l (suc zero) a b c d e f = absurd (a refl)
-no_level l (suc (suc zero)) a b c d e f = absurd (b refl)
-no_level l (suc (suc (suc zero))) a b c d e f = absurd (c refl)
-no_level l (suc (suc (suc (suc zero)))) a b c d e f = absurd (d refl)
-no_level l (suc (suc (suc (suc (suc zero))))) a b c d e f = absurd (e refl)
-no_level l (suc (suc (suc (suc (suc (suc zero)))))) a b c d e f = absurd (f refl)
-no_level l (suc (suc (suc (suc (suc (suc (suc n))))))) a b c d e f = refl
+same_levels : {a b : Levels} → a.at_least ≡ b.at_least → a.proposed ≡ b.proposed → a ≡ b
+same_levels e p = λ i. record { at_least = e i; proposed = p i }
 
 -- ---- one entry more, one law for each answer
 
@@ -109,14 +86,23 @@ level_more j n nc f =
     ∙ ap (λ (x : Bool). leb (suc j) (n m) || (x && in_set nc m)) (in_set_of capacity (λ m. leb j (n m)) m l)
     ∙ level_up j (n m) (in_set nc m))
 
+-- The lowest, below which every command counts.
 lowest_more : (n : ℕ → ℕ) (nc : Set) → nc.bits < 2 ^ 64
-    → union_of (set_of capacity (λ m. leb 1 (n m))) nc ≡ set_of capacity (λ m. leb 1 (n m + one (in_set nc m)))
+    → level_with (set_of capacity (λ m. leb 1 (n m))) nc nc ≡ set_of capacity (λ m. leb 1 (n m + one (in_set nc m)))
+unfolding level_with
 lowest_more n nc f =
     let high = set_of capacity (λ m. leb 1 (n m)) in
-    set_is (union_of high nc) (λ m. leb 1 (n m + one (in_set nc m))) (union_fits high nc (word_lt capacity (λ m. leb 1 (n m))) f)
-    (λ m l. in_union high nc m ∙ ap (λ (x : Bool). x || in_set nc m) (in_set_of capacity (λ m. leb 1 (n m)) m l)
+    set_is (union_of high (common_of nc nc)) (λ m. leb 1 (n m + one (in_set nc m)))
+    (union_fits high (common_of nc nc) (word_lt capacity (λ m. leb 1 (n m))) (common_fits nc nc f f))
+    (λ m l. in_union high (common_of nc nc) m
+    ∙ (λ i. in_set_of capacity (λ m. leb 1 (n m)) m l i || in_common nc nc m i)
+    ∙ ap (λ (x : Bool). leb 1 (n m) || x) (and_same (in_set nc m))
     ∙ ap (λ (x : Bool). leb 1 (n m) || (x && in_set nc m)) (sym (le-leb 0 (n m) (omega arith)))
     ∙ level_up 0 (n m) (in_set nc m))
+  where
+    and_same : (x : Bool) → (x && x) ≡ x
+    and_same true = refl
+    and_same false = refl
 
 proposed-more : (p : ℕ → Bool) (nc c : Set) → nc.bits < 2 ^ 64 → c.bits < 2 ^ 64
     → union_of (set_of capacity p) (union_of nc c) ≡ set_of capacity (λ m. p m || (in_set nc m || in_set c m))
@@ -127,10 +113,22 @@ proposed-more p nc c f g =
 
 -- ---- the loop over the entries
 
+-- Levels are the same if each is.
+levels_ext : (p q : ℕ → Set) → ((j : ℕ) → 0 < j → p j ≡ q j) → (k c : ℕ) → 0 < k → levels_from p k c ≡ levels_from q k c
+unfolding levels_from
+levels_ext p q h k zero l = refl
+levels_ext p q h k (suc c) l = λ i. h k l i ∷ levels_ext p q h (suc k) c (omega arith) i
+
+levels_empty : (k c : ℕ) → replicate c empty_of ≡ levels_from (λ j. empty_of) k c
+unfolding levels_from
+levels_empty k zero = refl
+levels_empty k (suc c) = λ i. empty_of ∷ levels_empty (suc k) c i
+
 module _ (b : List ℕ) (r : ℕ) (valid : Set) where
   pub levels_none : no_levels ≡ levels_of b r valid 0
   unfolding levels_of
-  levels_none = same_levels (level 1 (omega arith)) (level 2 (omega arith)) (level 3 (omega arith)) (level 4 (omega arith)) (level 5 (omega arith)) (level 6 (omega arith))
+  levels_none =
+      same_levels (levels_empty 1 max_level ∙ levels_ext (λ j. empty_of) (at_least b r valid 0) level 1 max_level (omega arith))
       (empty_is (in_any b r valid 0) (λ m. any_empty (λ i. counts_in r valid (entry_of b i) && (in_set (entry_of b i).nc m || in_set (entry_of b i).c m))))
     where
       level : (j : ℕ) → 0 < j → empty_of ≡ at_least b r valid 0 j
@@ -159,20 +157,26 @@ module _ (b : List ℕ) (r : ℕ) (valid : Set) where
         set_of_ext (λ m. in_any b r valid k m || (t && (in_set (entry_of b k).nc m || in_set (entry_of b k).c m))) (in_any b r valid (k + 1))
         (λ m l. ap (λ (x : Bool). in_any b r valid k m || (x && (in_set (entry_of b k).nc m || in_set (entry_of b k).c m))) (sym e) ∙ sym (any_next m))
 
+    -- The levels from the one above the j-th on, with the NC set of an entry that counts.
+    from_counted : Fits (entry_of b k) → counts_in r valid (entry_of b k) ≡ true → (j c : ℕ)
+        → above_with (entry_of b k).nc (at_least b r valid k j) (levels_from (at_least b r valid k) (suc j) c)
+        ≡ levels_from (at_least b r valid (k + 1)) (suc j) c
+    unfolding above_with levels_from
+    from_counted f e j zero = refl
+    from_counted f e j (suc c) =
+        λ i. (level_more j (nc_count b r valid k) (entry_of b k).nc f.nc ∙ level_next true e (suc j)) i ∷ from_counted f e (suc j) c i
+
     levels_counted : Fits (entry_of b k) → counts_in r valid (entry_of b k) ≡ true
         → levels_with (levels_of b r valid k) (entry_of b k).nc (entry_of b k).c ≡ levels_of b r valid (k + 1)
-    unfolding levels_with levels_of
+    unfolding levels_with levels_of above_with levels_from
     levels_counted f e =
-        same_levels (lowest_more (nc_count b r valid k) (entry_of b k).nc f.nc ∙ level_next true e 1) (level 1) (level 2) (level 3) (level 4) (level 5)
+        same_levels (λ i. (lowest_more (nc_count b r valid k) (entry_of b k).nc f.nc ∙ level_next true e 1) i ∷ from_counted f e 1 5 i)
         (proposed-more (in_any b r valid k) (entry_of b k).nc (entry_of b k).c f.nc f.c ∙ proposed-next true e)
-      where
-        level : (j : ℕ) → level_with (at_least b r valid k (suc j)) (at_least b r valid k j) (entry_of b k).nc ≡ at_least b r valid (k + 1) (suc j)
-        level j = level_more j (nc_count b r valid k) (entry_of b k).nc f.nc ∙ level_next true e (suc j)
 
     levels_passed : counts_in r valid (entry_of b k) ≡ false → levels_of b r valid k ≡ levels_of b r valid (k + 1)
     unfolding levels_of
     levels_passed e =
-        same_levels (level 1) (level 2) (level 3) (level 4) (level 5) (level 6)
+        same_levels (levels_ext (at_least b r valid k) (at_least b r valid (k + 1)) (λ j l. level j) 1 max_level (omega arith))
         (set_of_ext (in_any b r valid k) (λ m. in_any b r valid k m || false) (λ m l. sym (or_false (in_any b r valid k m))) ∙ proposed-next false e)
       where
         level : (j : ℕ) → at_least b r valid k j ≡ at_least b r valid (k + 1) j

@@ -4,13 +4,15 @@ use mathlib.Core.Path.{◌≡◌, refl, sym, ap, ◌∙◌, subst}
 use Rattle.std.specs.Prelude.{None, Some, Option}
 use mathlib.Core.Bool.{Bool, true, false, ◌&&◌, ◌||◌, not}
 use mathlib.Core.List.{List}
-use Prim.Native.Nat.{ℕ, zero, suc, ◌≤◌, ◌<◌}
+use Prim.Native.Nat.{ℕ, zero, suc, ◌+◌, ◌≤◌, ◌<◌}
+use native.Mathlib.Nat.{add-zero}
 use native.Mathlib.Omega.{arith}
 use lib.Dec.{leb}
+use lib.ListN.{get_or}
 use Rattle.theory.specs.Sets.{pick}
 use Rattle.theory.specs.Counting.{not-true, not-false}
 use Rattle.sets.specs.declared.Set.{Set}
-use Rattle.sets.specs.Sets.{capacity, in_set, set_of, without_of}
+use Rattle.sets.specs.Sets.{capacity, in_set, set_of, empty_of, without_of}
 use Rattle.sets.proofs.Laws.{word_lt, in_without, in_set_of, without_fits}
 use Rattle.table.specs.declared.SiteTable.{SiteTable}
 use Rattle.table.specs.Table.{is_good, majority_of}
@@ -29,21 +31,23 @@ use Rattle.standing.proofs.Steps.{decided_after}
 use Rattle.standing.proofs.Agreement.{Marks, Agrees, agrees}
 use Rattle.recovery.specs.declared.Sets.{Sets}
 use Rattle.recovery.specs.declared.Levels.{Levels}
-use Rattle.recovery.specs.Decisions.{sets_of, decision_of, nc_count, in_any, at_least, levels_of, level_of, found_sets}
+use Rattle.recovery.specs.Decisions.{sets_of, decision_of, nc_count, in_any, at_least, max_level, levels_from, levels_of, level_of, found_sets}
 use Rattle.recovery.proofs.Counts.{set_is, set_of_ext}
 use Rattle.recovery.proofs.Sources.{count-all_sources, any-all_sources}
 
 -- A level is the one of its number.
-level_is : (b : List ℕ) (r : ℕ) (sources : Set) (n k : ℕ) → 1 ≤ k → k ≤ 6 → level_of (levels_of b r sources n) k ≡ at_least b r sources n k
+level_from : (level : ℕ → Set) (k c i : ℕ) → i < c → get_or (levels_from level k c) i empty_of ≡ level (k + i)
+unfolding levels_from
+level_from level k zero i l = absurd (omega arith)
+level_from level k (suc c) zero l = ap level (sym (add-zero k))
+level_from level k (suc c) (suc i) l =
+    let q : suc k + i ≡ k + suc i = omega arith in level_from level (suc k) c i (omega arith) ∙ ap level q
+
+level_is : (b : List ℕ) (r : ℕ) (sources : Set) (n k : ℕ) → 1 ≤ k → k ≤ max_level → level_of (levels_of b r sources n) k ≡ at_least b r sources n k
 unfolding levels_of
 level_is b r sources n zero h l = absurd (omega arith)
-level_is b r sources n (suc zero) h l = refl
-level_is b r sources n (suc (suc zero)) h l = refl
-level_is b r sources n (suc (suc (suc zero))) h l = refl
-level_is b r sources n (suc (suc (suc (suc zero)))) h l = refl
-level_is b r sources n (suc (suc (suc (suc (suc zero))))) h l = refl
-level_is b r sources n (suc (suc (suc (suc (suc (suc zero)))))) h l = refl
-level_is b r sources n (suc (suc (suc (suc (suc (suc (suc k))))))) h l = absurd (omega arith)
+level_is b r sources n (suc k) h l =
+    let q : 1 + k ≡ suc k = omega arith in level_from (at_least b r sources n) 1 max_level k (omega arith) ∙ ap (at_least b r sources n) q
 
 proposed_is : (b : List ℕ) (r : ℕ) (sources : Set) (n : ℕ) → (levels_of b r sources n).proposed ≡ set_of capacity (in_any b r sources n)
 unfolding levels_of
@@ -78,7 +82,7 @@ module _ (t : SiteTable) (rows : List ℕ) (r : ℕ) (b : List ℕ) where
         set_of_ext (in_any b r sources n) (proposed (rows_system t rows) (tally_to (rows_system t rows) r b n))
         (λ m l. any-all_sources t rows r b n sources within beyond (λ x. nc_of x m || c_of x m) refl refl)
 
-    found : 1 ≤ majority_of t → majority_of t ≤ 6 → found_sets t b r sources n ≡ sets_of (rows_system t rows) (tally_to (rows_system t rows) r b n)
+    found : 1 ≤ majority_of t → majority_of t ≤ max_level → found_sets t b r sources n ≡ sets_of (rows_system t rows) (tally_to (rows_system t rows) r b n)
     unfolding found_sets
     found h l =
         let q = level_is b r sources n (majority_of t) h l ∙ found_nc in

@@ -1,6 +1,6 @@
 -- The decision of a round as words: what the protocol's decision is to a site, and how commands are counted, set by set.
 -- Assumes nothing.
-use Rattle.std.specs.Prelude.{◌≡◌, Bool, true, ◌&&◌, ◌||◌, List, ℕ, zero, suc, eqb, leb, None, Option, Some}
+use Rattle.std.specs.Prelude.{◌≡◌, Bool, true, ◌&&◌, ◌||◌, List, [], ◌∷◌, ℕ, zero, suc, eqb, leb, get_or, replicate, None, Option, Some}
 use Rattle.theory.specs.Sets.{pick, any, count}
 use Rattle.sets.specs.declared.Set.{Set}
 use Rattle.sets.specs.Sets.{capacity, in_set, set_of, empty_of, union_of, common_of, without_of, within_of}
@@ -43,53 +43,43 @@ in_any b r valid n m = any n (λ i. counts_in r valid (entry_of b i) && (in_set 
 abbrev pub at_least : List ℕ → ℕ → Set → ℕ → ℕ → Set
 at_least b r valid n k = set_of capacity (λ m. leb k (nc_count b r valid n m))
 
+-- How many levels there are: as many as a majority of the greatest table.
+abbrev pub max_level : ℕ
+max_level = 6
+
+-- The levels from the k-th on, so many of them.
+unfoldable pub levels_from : (ℕ → Set) → ℕ → ℕ → List Set
+levels_from level k zero = []
+levels_from level k (suc c) = level k ∷ levels_from level (suc k) c
+
 -- All levels after n entries.
 unfoldable pub levels_of : List ℕ → ℕ → Set → ℕ → Levels
-levels_of b r valid n =
-    record {
-      one = at_least b r valid n 1;
-      two = at_least b r valid n 2;
-      three = at_least b r valid n 3;
-      four = at_least b r valid n 4;
-      five = at_least b r valid n 5;
-      six = at_least b r valid n 6;
-      proposed = set_of capacity (in_any b r valid n);
-    }
+levels_of b r valid n = record { at_least = levels_from (at_least b r valid n) 1 max_level; proposed = set_of capacity (in_any b r valid n) }
 
 abbrev pub no_levels : Levels
-no_levels = record { one = empty_of; two = empty_of; three = empty_of; four = empty_of; five = empty_of; six = empty_of; proposed = empty_of }
+no_levels = record { at_least = replicate max_level empty_of; proposed = empty_of }
 
 -- A level with one NC set more.
 unfoldable pub level_with : Set → Set → Set → Set
 level_with level below nc = union_of level (common_of below nc)
 
--- All levels with one source's sets more.
+-- The levels above another with one NC set more.
+unfoldable pub above_with : Set → Set → List Set → List Set
+above_with nc below [] = []
+above_with nc below (level ∷ above) = level_with level below nc ∷ above_with nc level above
+
+-- All levels with one source's sets more. Below the lowest level every command counts, so the NC set itself stands there.
 unfoldable pub levels_with : Levels → Set → Set → Levels
-levels_with l nc c =
-    record {
-      one = union_of l.one nc;
-      two = level_with l.two l.one nc;
-      three = level_with l.three l.two nc;
-      four = level_with l.four l.three nc;
-      five = level_with l.five l.four nc;
-      six = level_with l.six l.five nc;
-      proposed = union_of l.proposed (union_of nc c);
-    }
+levels_with l nc c = record { at_least = above_with nc nc l.at_least; proposed = union_of l.proposed (union_of nc c) }
 
 -- All levels with one entry more.
 unfoldable pub levels_after : ℕ → Set → Entry → Levels → Levels
 levels_after r valid e l = pick (counts_in r valid e) (levels_with l e.nc e.c) l
 
--- One level by its number.
+-- One level by its number; there is none of another number.
 abbrev pub level_of : Levels → ℕ → Set
-level_of l (suc zero) = l.one
-level_of l (suc (suc zero)) = l.two
-level_of l (suc (suc (suc zero))) = l.three
-level_of l (suc (suc (suc (suc zero)))) = l.four
-level_of l (suc (suc (suc (suc (suc zero))))) = l.five
-level_of l (suc (suc (suc (suc (suc (suc zero)))))) = l.six
 level_of l zero = empty_of
-level_of l (suc (suc (suc (suc (suc (suc (suc n))))))) = empty_of
+level_of l (suc k) = get_or l.at_least k empty_of
 
 -- The sets that the sources' entries among the first n make: the commands in at least a majority of the NC sets, and every other
 -- command of the sets.

@@ -19,16 +19,13 @@ pub struct Sets {
     pub c: Set,
 }
 
+// How many levels there are: as many as a majority of the greatest table.
+const LEVELS: usize = SiteTable::MAX_SITES / 2 + 1;
+
 // The commands in at least one, two, .. six of the NC sets looked at, and all commands of the sets looked at.
-// Six is a majority of the greatest table.
 #[derive(Clone, Copy)]
 pub struct Levels {
-    pub one: Set,
-    pub two: Set,
-    pub three: Set,
-    pub four: Set,
-    pub five: Set,
-    pub six: Set,
+    pub at_least: [Set; LEVELS],
     pub proposed: Set,
 }
 
@@ -37,12 +34,7 @@ fn no_levels() -> Levels
 {
     let none = Set::empty();
     Levels {
-        one: none,
-        two: none,
-        three: none,
-        four: none,
-        five: none,
-        six: none,
+        at_least: [none; LEVELS],
         proposed: none,
     }
 }
@@ -55,26 +47,21 @@ fn level_with(level: Set, below: Set, nc: Set) -> Set
     level.union(raised)
 }
 
-// All levels with one source's sets more.
+// All levels with one source's sets more. Below the lowest level every command counts, so the set itself stands there.
 fn levels_with(levels: Levels, nc: Set, c: Set) -> Levels
     ensures { result ≡ levels_with levels nc c }
 {
-    let one = levels.one;
-    let two = levels.two;
-    let three = levels.three;
-    let four = levels.four;
-    let five = levels.five;
-    let six = levels.six;
-    let proposed = levels.proposed;
+    let mut at_least = levels.at_least;
+    let mut below = nc;
+    for level in at_least.iter_mut() {
+        let had = *level;
+        *level = level_with(had, below, nc);
+        below = had;
+    }
     let both = nc.union(c);
     Levels {
-        one: one.union(nc),
-        two: level_with(two, one, nc),
-        three: level_with(three, two, nc),
-        four: level_with(four, three, nc),
-        five: level_with(five, four, nc),
-        six: level_with(six, five, nc),
-        proposed: proposed.union(both),
+        at_least,
+        proposed: levels.proposed.union(both),
     }
 }
 
@@ -111,15 +98,10 @@ fn gather(log: &[u8], from: usize, n: usize, round: usize, valid: Set) -> Levels
 fn at_least(levels: Levels, n: usize) -> Set
     ensures { result ≡ level_of levels n }
 {
-    match n {
-        1 => levels.one,
-        2 => levels.two,
-        3 => levels.three,
-        4 => levels.four,
-        5 => levels.five,
-        6 => levels.six,
-        _ => Set::empty(),
+    if n < 1 || n > LEVELS {
+        return Set::empty();
     }
+    levels.at_least[n - 1]
 }
 
 // The sets that the valid sources' entries among the first n make; no entry before `from` is of the round.
