@@ -3,33 +3,27 @@
 use mathlib.Core.Bool.{Bool, true, false, not, ◌&&◌, ◌||◌}
 use mathlib.Core.Path.{◌≡◌, refl, sym, ap, subst, ◌∙◌}
 use mathlib.Core.List.{List}
-use Prim.Native.Nat.{ℕ, zero, suc, ◌+◌, ◌-◌, ◌*◌, ◌≤◌, ◌<◌, ◌^◌}
+use Prim.Native.Nat.{ℕ, ◌+◌, ◌-◌, ◌≤◌, ◌<◌, ◌^◌}
 use native.Mathlib.Omega.{arith}
-use borrow.Author.Tests.{lt-ltb, le-ltb, eqb-true, eqb-false, eq-eqb, ne_eqb}
+use Rattle.std.proofs.Common.{rules}
+use borrow.Author.Tests.{lt-ltb, le-ltb, eqb-true, eq-eqb}
 use lib.Dec.{eqb, ltb}
 use lib.IntN.{ℤ}
-use lib.ListN.{length, replicate, length-set, length-replicate, get_or-replicate}
+use lib.ListN.{length, replicate, length-set, get_or-replicate}
+use Rattle.std.proofs.lemmas.List.{get_or-set_same, get_or-set_other}
 use Rattle.theory.specs.Sets.{pick}
 use Rattle.theory.specs.Counting.{never, and_false}
 use Rattle.sets.specs.declared.Set.{Set}
-use Rattle.sets.specs.Sets.{capacity, in_set, empty_of, set_of, with_of, without_of, load_set, store_set}
-use Rattle.sets.proofs.Laws.{in_empty, in_with, in_without, in_set_of, build_none, build_yes, build_no, load_stored, load_other, word_ext, word_lt, set_ext, with_fits, without_fits}
+use Rattle.sets.specs.Sets.{capacity, in_set, empty_of, set_of, with_of, without_of}
+use Rattle.sets.proofs.Laws.{in_empty, in_with, in_without, in_set_of, build_none, build_yes, build_no, word_ext, word_lt, set_ext, with_fits, without_fits}
 use Rattle.register.specs.declared.Command.{Command}
 use Rattle.register.specs.declared.Command.TheVariants.{Add, Fit, Read, Trim}
 use Rattle.register.specs.Register.{bikes, bike_of, is_add, is_read, alike}
 use Rattle.commands.specs.Book.{commands_of, command_of}
 use Rattle.commands.proofs.Places.{commands_valid}
-use Rattle.conflicts.specs.Conflicts.{conflict_in, conflict_row, bike_sets, is_for, is_on, opposed_of, with_noted, Joined, Gathered}
+use Rattle.conflicts.specs.declared.BikeSets.{BikeSets}
+use Rattle.conflicts.specs.Conflicts.{conflict_in, conflict_row, no_sets, sets_at, with_command, joined_of, is_on, gathered_of, Gathered, opposed_of}
 use Rattle.conflicts.proofs.Laws.{no_more, conflict_in-sym, in_row}
-
--- Two places are the same where bike and slot are.
-place_same : (a b u v : ℕ) → u < bike_sets → v < bike_sets → eqb (bike_sets * a + u) (bike_sets * b + v) ≡ (eqb a b && eqb u v)
-place_same a b u v lu lv = go (eqb a b) (eqb u v) refl refl
-  where
-    go : (s t : Bool) → eqb a b ≡ s → eqb u v ≡ t → eqb (bike_sets * a + u) (bike_sets * b + v) ≡ (s && t)
-    go true true e f = let p = eqb-true a b e in let q = eqb-true u v f in eq-eqb (bike_sets * a + u) (bike_sets * b + v) (omega arith)
-    go true false e f = let n = eqb-false u v f in let p = eqb-true a b e in ne_eqb (bike_sets * a + u) (bike_sets * b + v) (λ h. n (omega arith))
-    go false t e f = let n = eqb-false a b e in ne_eqb (bike_sets * a + u) (bike_sets * b + v) (λ h. n (omega arith))
 
 -- Which commands are alike, by kind.
 add_like : (b km : ℕ) (d : Command) → is_add d ≡ alike d (Add b km)
@@ -58,142 +52,63 @@ trim_like b' km' (Trim b km) = refl
 
 -- ---- how the sets grow
 
--- Nothing is gathered yet.
-pub gathered_none : (s : List ℕ) → Gathered s 0 (replicate (bike_sets * bikes) 0)
-gathered_none s =
-    record {
-      size = length-replicate {0} {A = ℕ} (bike_sets * bikes) 0;
-      at = λ b v lb lv. empty (bike_sets * b + v) (omega arith) ∙ build_none (is_on v s b);
-    }
-  where
-    empty : (p : ℕ) → p < bike_sets * bikes → load_set (replicate (bike_sets * bikes) 0) p ≡ empty_of
-    empty p h = λ i. record { bits = get_or-replicate {0} {A = ℕ} (bike_sets * bikes) p 0 0 h i }
-
--- A command joins the set at its place, and no other.
-noted : (ws : List ℕ) (q k p : ℕ) {x : Set} → q < length ws → load_set ws p ≡ x → load_set (with_noted ws q k) p ≡ pick (eqb q p) (with_of x k) x
-noted ws q k p {x} h e = go (eqb q p) refl
-  where
-    go : (t : Bool) → eqb q p ≡ t → load_set (with_noted ws q k) p ≡ pick t (with_of x k) x
-    go true t =
-        let here = eqb-true q p t in
-        ap (load_set (with_noted ws q k)) (sym here)
-        ∙ load_stored ws q (with_of (load_set ws q) k) h
-        ∙ ap (λ (a : ℕ). with_of (load_set ws a) k) here
-        ∙ ap (λ (y : Set). with_of y k) e
-    go false t = load_other ws q (with_of (load_set ws q) k) p (λ z. never (eqb q p) (eq-eqb q p (sym z)) t) ∙ e
-
 -- The set of the numbers up to k is that of those below it, which k joins where it is one.
 joined : (t : Bool) (k : ℕ) (f : ℕ → Bool) → f k ≡ t → pick t (with_of (set_of k f) k) (set_of k f) ≡ set_of (k + 1) f
 joined true k f e = build_yes k f e
 joined false k f e = build_no k f e
 
--- A command that is noted in the set of all, and perhaps in another: by whether a place is theirs.
-twice : (bike first second : Bool) (k : ℕ) (x : Set) → (first && second) ≡ false
-    → pick (bike && second) (with_of (pick (bike && first) (with_of x k) x) k) (pick (bike && first) (with_of x k) x) ≡ pick (bike && (first || second)) (with_of x k) x
-twice false first second k x h = refl
-twice true true true k x h = absurd (let z : ◌≡◌ {A = ℕ} 0 1 = cc in omega arith)
-twice true true false k x h = refl
-twice true false second k x h = refl
-
-module _ (ws : List ℕ) (k : ℕ) {ws₁ : List ℕ} (c : Command) {at : ℕ} (size : length ws ≡ bike_sets * bikes) (below : bike_of c < bikes) (ea : at ≡ bike_of c)
-    (e : ws₁ ≡ with_noted ws (bike_sets * at) k) where
-  -- The v-th set of bike b, before and with the command.
-  abbrev old : ℕ → ℕ → Set
-  old b v = load_set ws (bike_sets * b + v)
-
-  abbrev new : ℕ → ℕ → Bool → Set
-  new b v t = pick (eqb (bike_of c) b && t) (with_of (old b v) k) (old b v)
-
-  place_told : (u b v : ℕ) → u < bike_sets → v < bike_sets → eqb (bike_sets * at + u) (bike_sets * b + v) ≡ (eqb (bike_of c) b && eqb u v)
-  place_told u b v lu lv = place_same at b u v lu lv ∙ ap (λ (n : ℕ). eqb n b && eqb u v) ea
-
-  in_all : (b v : ℕ) → v < bike_sets → load_set ws₁ (bike_sets * b + v) ≡ new b v (eqb 0 v)
-  in_all b v lv =
-      let q : bike_sets * at ≡ bike_sets * at + 0 = omega arith in
-      ap (λ (l : List ℕ). load_set l (bike_sets * b + v)) (e ∙ ap (λ (p : ℕ). with_noted ws p k) q)
-      ∙ noted ws (bike_sets * at + 0) k (bike_sets * b + v) (omega arith) refl
-      ∙ ap (λ (t : Bool). pick t (with_of (old b v) k) (old b v)) (place_told 0 b v (omega arith) lv)
-
-  length-all : length ws₁ ≡ length ws
-  length-all = ap length e ∙ length-set ws _ _
-
-  -- The command is only among all of its bike.
-  only-all : ((v : ℕ) → v < bike_sets → eqb 0 v ≡ is_for v c) → Joined c k ws ws₁
-  only-all f = record { size = length-all; at = λ b v lb lv. in_all b v lv ∙ ap (new b v) (f v lv) }
-
-  -- It is also in the u-th set.
-  also_own : {ws₂ : List ℕ} (u : ℕ) → u < bike_sets → ws₂ ≡ with_noted ws₁ (bike_sets * at + u) k
-      → ((v : ℕ) → v < bike_sets → ((eqb 0 v || eqb u v) ≡ is_for v c) × ((eqb 0 v && eqb u v) ≡ false)) → Joined c k ws ws₂
-  also_own u lu e₂ f =
-      let l = length-all in
-      record {
-        size = ap length e₂ ∙ length-set ws₁ _ _ ∙ l;
-        at = λ b v lb lv.
-            ap (λ (x : List ℕ). load_set x (bike_sets * b + v)) e₂
-            ∙ noted ws₁ (bike_sets * at + u) k (bike_sets * b + v) (omega arith) (in_all b v lv)
-            ∙ ap (λ (t : Bool). pick t (with_of (new b v (eqb 0 v)) k) (new b v (eqb 0 v))) (place_told u b v lu lv)
-            ∙ twice (eqb (bike_of c) b) (eqb 0 v) (eqb u v) k (old b v) (f v lv).1
-            ∙ ap (new b v) (f v lv).0;
-      }
-
-  -- By kind, as the code tells it.
-  pub join-add : {b km : ℕ} {ws₂ : List ℕ} → c ≡ Add b km → ws₂ ≡ with_noted ws₁ (bike_sets * at + 1) k → Joined c k ws ws₂
-  join-add {b} {km} ec e₂ = also_own 1 (omega arith) e₂ (λ v l. ((is v l).0 ∙ ap (is_for v) (sym ec), (is v l).1))
-    where
-      is : (v : ℕ) → v < bike_sets → ((eqb 0 v || eqb 1 v) ≡ is_for v (Add b km)) × ((eqb 0 v && eqb 1 v) ≡ false)
-      is zero l = (refl, refl)
-      is (suc zero) l = (refl, refl)
-      is (suc (suc zero)) l = (refl, refl)
-      is (suc (suc (suc v))) l = absurd (omega arith)
-
-  pub join-read : {b : ℕ} {ws₂ : List ℕ} → c ≡ Read b → ws₂ ≡ with_noted ws₁ (bike_sets * at + 2) k → Joined c k ws ws₂
-  join-read {b} ec e₂ = also_own 2 (omega arith) e₂ (λ v l. ((is v l).0 ∙ ap (is_for v) (sym ec), (is v l).1))
-    where
-      is : (v : ℕ) → v < bike_sets → ((eqb 0 v || eqb 2 v) ≡ is_for v (Read b)) × ((eqb 0 v && eqb 2 v) ≡ false)
-      is zero l = (refl, refl)
-      is (suc zero) l = (refl, refl)
-      is (suc (suc zero)) l = (refl, refl)
-      is (suc (suc (suc v))) l = absurd (omega arith)
-
-  pub join_fit : {b dash start : ℕ} → c ≡ Fit b dash start → Joined c k ws ws₁
-  join_fit {b} {dash} {start} ec = only-all (λ v l. is v l ∙ ap (is_for v) (sym ec))
-    where
-      is : (v : ℕ) → v < bike_sets → eqb 0 v ≡ is_for v (Fit b dash start)
-      is zero l = refl
-      is (suc zero) l = refl
-      is (suc (suc zero)) l = refl
-      is (suc (suc (suc v))) l = absurd (omega arith)
-
-  pub join_trim : {b : ℕ} {km : ℤ} → c ≡ Trim b km → Joined c k ws ws₁
-  join_trim {b} {km} ec = only-all (λ v l. is v l ∙ ap (is_for v) (sym ec))
-    where
-      is : (v : ℕ) → v < bike_sets → eqb 0 v ≡ is_for v (Trim b km)
-      is zero l = refl
-      is (suc zero) l = refl
-      is (suc (suc zero)) l = refl
-      is (suc (suc (suc v))) l = absurd (omega arith)
-
--- One command more is gathered.
-pub gathered_more : (s ws : List ℕ) (k : ℕ) {c : Command} {ws₁ : List ℕ} → c ≡ command_of s k → Joined c k ws ws₁ → Gathered s k ws → Gathered s (k + 1) ws₁
-gathered_more s ws k {c} {ws₁} ec j g =
+-- Nothing is gathered yet.
+pub gathered_none : (s : List ℕ) {none : Set} → none ≡ empty_of → Gathered s 0 (replicate bikes (record { all = none; adds = none; reads = none }))
+gathered_none s e =
     record {
-      size = j.size ∙ g.size;
-      at = λ b v lb lv.
-          j.at b v lb lv
-          ∙ (λ i. pick (eqb (bike_of (ec i)) b && is_for v (ec i)) (with_of (g.at b v lb lv i) k) (g.at b v lb lv i))
-          ∙ joined (is_on v s b k) k (is_on v s b) refl;
+      size = search rules;
+      at = λ b lb.
+          get_or-replicate bikes b _ no_sets lb
+          ∙ (λ i. record { all = (e ∙ build_none (is_on (λ c. true) s b)) i; adds = (e ∙ build_none (is_on is_add s b)) i; reads = (e ∙ build_none (is_on is_read s b)) i });
     }
+
+-- The sets of a bike with the command k, by whether it is on the bike.
+own_more : (s : List ℕ) (k b : ℕ) → eqb (bike_of (command_of s k)) b ≡ true → with_command (command_of s k) k (gathered_of s k b) ≡ gathered_of s (k + 1) b
+own_more s k b e =
+    λ i. record { all = kind (λ c. true) true refl i; adds = kind is_add (is_add (command_of s k)) refl i; reads = kind is_read (is_read (command_of s k)) refl i }
+  where
+    kind : (p : Command → Bool) (t : Bool) → p (command_of s k) ≡ t → pick t (with_of (set_of k (is_on p s b)) k) (set_of k (is_on p s b)) ≡ set_of (k + 1) (is_on p s b)
+    kind p t h = joined t k (is_on p s b) (λ i. e i && h i)
+
+other_more : (s : List ℕ) (k b : ℕ) → eqb (bike_of (command_of s k)) b ≡ false → gathered_of s k b ≡ gathered_of s (k + 1) b
+other_more s k b e = λ i. record { all = kind (λ c. true) i; adds = kind is_add i; reads = kind is_read i }
+  where
+    kind : (p : Command → Bool) → set_of k (is_on p s b) ≡ set_of (k + 1) (is_on p s b)
+    kind p = build_no k (is_on p s b) (ap (λ (t : Bool). t && p (command_of s k)) e)
 
 pub bike_below : (s : List ℕ) (k : ℕ) {c : Command} → k < length (commands_of s) → c ≡ command_of s k → bike_of c < bikes
 bike_below s k inside ec = subst (λ (x : Command). bike_of x < bikes) (sym ec) (commands_valid s k inside).bike
 
--- All commands are gathered, as the code counts them.
-pub gathered_all : (s ws : List ℕ) {n : ℕ} → n ≡ length (commands_of s) → Gathered s n ws → Gathered s (length (commands_of s)) ws
-gathered_all s ws e g = subst (λ (k : ℕ). Gathered s k ws) e g
+-- One command more is gathered.
+pub gathered_more : (s : List ℕ) (ws : List BikeSets) (k : ℕ) {c : Command} {ws₁ : List BikeSets} → k < length (commands_of s) → c ≡ command_of s k
+    → ws₁ ≡ joined_of c k ws → Gathered s k ws → Gathered s (k + 1) ws₁
+gathered_more s ws k l ec ej g = subst (λ (x : List BikeSets). Gathered s (k + 1) x) (sym (ej ∙ ap (λ (d : Command). joined_of d k ws) ec)) more
+  where
+    q : ℕ
+    q = bike_of (command_of s k)
 
--- A command is noted, as the code tells it.
-pub note_told : (ws : List ℕ) (at k : ℕ) {x y : Set} {after : List ℕ} → x ≡ load_set ws at → y ≡ with_of x k → after ≡ store_set ws at y → after ≡ with_noted ws at k
-note_told ws at k ex ey ea = ea ∙ ap (store_set ws at) (ey ∙ ap (λ (x : Set). with_of x k) ex)
+    more : Gathered s (k + 1) (joined_of (command_of s k) k ws)
+    more = record { size = length-set ws _ _ ∙ g.size; at = λ b lb. go b lb (eqb q b) refl }
+      where
+        go : (b : ℕ) → b < bikes → (t : Bool) → eqb q b ≡ t → sets_at (joined_of (command_of s k) k ws) b ≡ gathered_of s (k + 1) b
+        go b lb true t =
+            let here = eqb-true q b t in
+            let inside = bike_below s k l refl in
+            ap (sets_at (joined_of (command_of s k) k ws)) (sym here)
+            ∙ get_or-set_same ws q _ no_sets (omega (arith, g.size))
+            ∙ ap (with_command (command_of s k) k) (g.at q inside)
+            ∙ own_more s k q (eq-eqb q q refl)
+            ∙ ap (gathered_of s (k + 1)) here
+        go b lb false t = get_or-set_other ws q b _ no_sets (λ z. never (eqb q b) (eq-eqb q b (sym z)) t) ∙ g.at b lb ∙ other_more s k b t
+
+-- All commands are gathered, as the code counts them.
+pub gathered_all : (s : List ℕ) {ws : List BikeSets} {n : ℕ} → n ≡ length (commands_of s) → Gathered s n ws → Gathered s (length (commands_of s)) ws
+gathered_all s {ws} e g = subst (λ (k : ℕ). Gathered s k ws) e g
 
 -- ---- a row
 
@@ -227,47 +142,58 @@ row_fits : (s : List ℕ) (m : ℕ) → (conflict_row s m).bits < 2 ^ 64
 unfolding conflict_row
 row_fits s m = word_lt capacity (conflict_in s m)
 
-module _ (s : List ℕ) (m : ℕ) (few : length (commands_of s) ≤ capacity) (inside : m < length (commands_of s)) {ws : List ℕ} (g : Gathered s (length (commands_of s)) ws) where
+module _ (s : List ℕ) (m : ℕ) (few : length (commands_of s) ≤ capacity) (inside : m < length (commands_of s)) {ws : List BikeSets} (g : Gathered s (length (commands_of s)) ws) where
   abbrev n : ℕ
   n = length (commands_of s)
 
-  -- Whether command k is in the v-th set of a bike.
-  set_in : (b v k : ℕ) → b < bikes → v < bike_sets → k < capacity → in_set (load_set ws (bike_sets * b + v)) k ≡ (ltb k n && is_on v s b k)
-  set_in b v k lb lv lk =
-      ap (λ (x : Set). in_set x k) (g.at b v lb lv ∙ up_to_lem n (is_on v s b) few) ∙ in_set_of capacity (up_to n (is_on v s b)) k lk
+  -- Whether command k is in the set of a kind on a bike.
+  set_in : (p : Command → Bool) (b k : ℕ) {x : Set} → x ≡ set_of n (is_on p s b) → k < capacity → in_set x k ≡ (ltb k n && is_on p s b k)
+  set_in p b k e lk = ap (λ (x : Set). in_set x k) (e ∙ up_to_lem n (is_on p s b) few) ∙ in_set_of capacity (up_to n (is_on p s b)) k lk
 
-  set_fits : (b v : ℕ) → b < bikes → v < bike_sets → (load_set ws (bike_sets * b + v)).bits < 2 ^ 64
-  set_fits b v lb lv = subst (λ (x : Set). x.bits < 2 ^ 64) (sym (g.at b v lb lv ∙ up_to_lem n (is_on v s b) few)) (word_lt capacity (up_to n (is_on v s b)))
+  set_fits : (p : Command → Bool) (b : ℕ) {x : Set} → x ≡ set_of n (is_on p s b) → x.bits < 2 ^ 64
+  set_fits p b e = subst (λ (x : Set). x.bits < 2 ^ 64) (sym (e ∙ up_to_lem n (is_on p s b) few)) (word_lt capacity (up_to n (is_on p s b)))
+
+  -- The sets of a bike have the commands for them.
+  all_is : (b : ℕ) → b < bikes → (sets_at ws b).all ≡ set_of n (is_on (λ c. true) s b)
+  all_is b h = ap (λ (x : BikeSets). x.all) (g.at b h)
+
+  adds_is : (b : ℕ) → b < bikes → (sets_at ws b).adds ≡ set_of n (is_on is_add s b)
+  adds_is b h = ap (λ (x : BikeSets). x.adds) (g.at b h)
+
+  reads_is : (b : ℕ) → b < bikes → (sets_at ws b).reads ≡ set_of n (is_on is_read s b)
+  reads_is b h = ap (λ (x : BikeSets). x.reads) (g.at b h)
 
   -- What a command is opposed to, by its kind.
   record Opposed (c : Command) : Type 0 where
     fits : (opposed_of ws c).bits < 2 ^ 64
     has : (k : ℕ) → k < capacity → in_set (opposed_of ws c) k ≡ (ltb k n && (eqb (bike_of (command_of s k)) (bike_of c) && not (alike (command_of s k) c)))
 
-  all_in : (b k : ℕ) → b < bikes → k < capacity → in_set (load_set ws (bike_sets * b)) k ≡ (ltb k n && (eqb (bike_of (command_of s k)) b && true))
-  all_in b k lb lk = let q : bike_sets * b ≡ bike_sets * b + 0 = omega arith in ap (λ (p : ℕ). in_set (load_set ws p) k) q ∙ set_in b 0 k lb (omega arith) lk
-
-  all_fits : (b : ℕ) → b < bikes → (load_set ws (bike_sets * b)).bits < 2 ^ 64
-  all_fits b lb = let q : bike_sets * b + 0 ≡ bike_sets * b = omega arith in subst (λ (p : ℕ). (load_set ws p).bits < 2 ^ 64) q (set_fits b 0 lb (omega arith))
-
   -- A kind that is like itself is opposed to the others, any other kind to all.
-  but : (b v : ℕ) (c : Command) → b < bikes → v < bike_sets → ((d : Command) → is_for v d ≡ alike d c) → (k : ℕ) → k < capacity
-      → in_set (without_of (load_set ws (bike_sets * b)) (load_set ws (bike_sets * b + v))) k ≡ (ltb k n && (eqb (bike_of (command_of s k)) b && not (alike (command_of s k) c)))
-  but b v c lb lv like k lk =
-      in_without (load_set ws (bike_sets * b)) (load_set ws (bike_sets * b + v)) k
-      ∙ (λ i. all_in b k lb lk i && not ((set_in b v k lb lv lk ∙ ap (λ (t : Bool). ltb k n && (eqb (bike_of (command_of s k)) b && t)) (like (command_of s k))) i))
+  but : (b : ℕ) (p : Command → Bool) (c : Command) {x y : Set} → x ≡ set_of n (is_on (λ d. true) s b) → y ≡ set_of n (is_on p s b) → ((d : Command) → p d ≡ alike d c)
+      → (k : ℕ) → k < capacity → in_set (without_of x y) k ≡ (ltb k n && (eqb (bike_of (command_of s k)) b && not (alike (command_of s k) c)))
+  but b p c {x} {y} ex ey like k lk =
+      in_without x y k
+      ∙ (λ i. set_in (λ d. true) b k ex lk i && not ((set_in p b k ey lk ∙ ap (λ (t : Bool). ltb k n && (eqb (bike_of (command_of s k)) b && t)) (like (command_of s k))) i))
       ∙ less_table (ltb k n) (eqb (bike_of (command_of s k)) b) (alike (command_of s k) c)
 
-  every : (b : ℕ) (c : Command) → b < bikes → ((d : Command) → alike d c ≡ false) → (k : ℕ) → k < capacity
-      → in_set (load_set ws (bike_sets * b)) k ≡ (ltb k n && (eqb (bike_of (command_of s k)) b && not (alike (command_of s k) c)))
-  every b c lb none k lk = all_in b k lb lk ∙ ap (λ (t : Bool). ltb k n && (eqb (bike_of (command_of s k)) b && not t)) (sym (none (command_of s k)))
+  every : (b : ℕ) (c : Command) {x : Set} → x ≡ set_of n (is_on (λ d. true) s b) → ((d : Command) → alike d c ≡ false) → (k : ℕ) → k < capacity
+      → in_set x k ≡ (ltb k n && (eqb (bike_of (command_of s k)) b && not (alike (command_of s k) c)))
+  every b c ex none k lk = set_in (λ d. true) b k ex lk ∙ ap (λ (t : Bool). ltb k n && (eqb (bike_of (command_of s k)) b && not t)) (sym (none (command_of s k)))
 
   opposed : (c : Command) → bike_of c < bikes → Opposed c
   opposed (Add b km) h =
-      record { fits = without_fits _ _ (all_fits b h) (set_fits b 1 h (omega arith)); has = but b 1 (Add b km) h (omega arith) (add_like b km) }
-  opposed (Fit b dash start) h = record { fits = all_fits b h; has = every b (Fit b dash start) h (fit_like b dash start) }
-  opposed (Read b) h = record { fits = without_fits _ _ (all_fits b h) (set_fits b 2 h (omega arith)); has = but b 2 (Read b) h (omega arith) (read_like b) }
-  opposed (Trim b km) h = record { fits = all_fits b h; has = every b (Trim b km) h (trim_like b km) }
+      record {
+        fits = without_fits _ _ (set_fits (λ d. true) b (all_is b h)) (set_fits is_add b (adds_is b h));
+        has = but b is_add (Add b km) (all_is b h) (adds_is b h) (add_like b km);
+      }
+  opposed (Fit b dash start) h =
+      record { fits = set_fits (λ d. true) b (all_is b h); has = every b (Fit b dash start) (all_is b h) (fit_like b dash start) }
+  opposed (Read b) h =
+      record {
+        fits = without_fits _ _ (set_fits (λ d. true) b (all_is b h)) (set_fits is_read b (reads_is b h));
+        has = but b is_read (Read b) (all_is b h) (reads_is b h) (read_like b);
+      }
+  opposed (Trim b km) h = record { fits = set_fits (λ d. true) b (all_is b h); has = every b (Trim b km) (all_is b h) (trim_like b km) }
 
   abbrev on : ℕ → Bool
   on k = eqb (bike_of (command_of s k)) (bike_of (command_of s m))
@@ -292,23 +218,3 @@ module _ (s : List ℕ) (m : ℕ) (few : length (commands_of s) ≤ capacity) (i
           ∙ ap (λ (t : Bool). ltb k n && (t && (not (eqb k m) && (on k && not (alike (command_of s k) (command_of s m)))))) (sym (lt-ltb m n inside))
           ∙ sym (conflict_in-sym s m k)
           ∙ sym (in_row s m k l)
-
--- What a command is opposed to, by kind, as the code tells it.
-module _ (ws : List ℕ) (c : Command) {at : ℕ} {all : Set} (ea : at ≡ bike_of c) (el : all ≡ load_set ws (bike_sets * at)) where
-  at_bike : {b : ℕ} → bike_of c ≡ b → all ≡ load_set ws (bike_sets * b)
-  at_bike e = el ∙ ap (λ (n : ℕ). load_set ws (bike_sets * n)) (ea ∙ e)
-
-  own_bike : {b : ℕ} {own : Set} (u : ℕ) → bike_of c ≡ b → own ≡ load_set ws (bike_sets * at + u) → own ≡ load_set ws (bike_sets * b + u)
-  own_bike u e eo = eo ∙ ap (λ (n : ℕ). load_set ws (bike_sets * n + u)) (ea ∙ e)
-
-  pub opposed_add : {b km : ℕ} {own r : Set} → c ≡ Add b km → own ≡ load_set ws (bike_sets * at + 1) → r ≡ without_of all own → r ≡ opposed_of ws c
-  opposed_add ec eo er = er ∙ (λ i. without_of (at_bike (ap bike_of ec) i) (own_bike 1 (ap bike_of ec) eo i)) ∙ ap (opposed_of ws) (sym ec)
-
-  pub opposed_read : {b : ℕ} {own r : Set} → c ≡ Read b → own ≡ load_set ws (bike_sets * at + 2) → r ≡ without_of all own → r ≡ opposed_of ws c
-  opposed_read ec eo er = er ∙ (λ i. without_of (at_bike (ap bike_of ec) i) (own_bike 2 (ap bike_of ec) eo i)) ∙ ap (opposed_of ws) (sym ec)
-
-  pub opposed_fit : {b dash start : ℕ} → c ≡ Fit b dash start → all ≡ opposed_of ws c
-  opposed_fit ec = at_bike (ap bike_of ec) ∙ ap (opposed_of ws) (sym ec)
-
-  pub opposed_trim : {b : ℕ} {km : ℤ} → c ≡ Trim b km → all ≡ opposed_of ws c
-  opposed_trim ec = at_bike (ap bike_of ec) ∙ ap (opposed_of ws) (sym ec)

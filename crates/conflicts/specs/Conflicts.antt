@@ -1,13 +1,14 @@
 -- Which commands of a book conflict (document 01: clash), as one set a command.
 -- Assumes nothing.
-use Rattle.std.specs.Prelude.{◌≡◌, Bool, true, ◌&&◌, List, [], ◌∷◌, ℕ, zero, suc, ◌+◌, ◌*◌, ◌<◌, eqb, ltb, length, drop}
+use Rattle.std.specs.Prelude.{◌≡◌, Bool, true, ◌&&◌, List, [], ◌∷◌, ℕ, zero, suc, ◌<◌, eqb, ltb, length, get_or, set, drop}
 use Rattle.theory.specs.Sets.{pick}
 use Rattle.sets.specs.declared.Set.{Set}
-use Rattle.sets.specs.Sets.{capacity, set_of, with_of, without_of, load_set, store_set}
+use Rattle.sets.specs.Sets.{capacity, set_of, empty_of, with_of, without_of}
 use Rattle.register.specs.declared.Command.{Command}
 use Rattle.register.specs.declared.Command.TheVariants.{Add, Fit, Read, Trim}
 use Rattle.register.specs.Register.{bikes, bike_of, is_add, is_read, conflict_at}
 use Rattle.commands.specs.Book.{max_commands, commands_of, command_of, Placed}
+use Rattle.conflicts.specs.declared.BikeSets.{BikeSets}
 
 -- The commands at two places conflict: both are in the book, the places differ, and the commands conflict.
 unfoldable pub conflict_in : List ℕ → ℕ → ℕ → Bool
@@ -37,39 +38,39 @@ pub record Noted (book noted : List ℕ) : Type 0 where
 
 -- ---- how they are found: commands gathered by bike
 
--- The sets with command k more in the one at a place.
-abbrev pub with_noted : List ℕ → ℕ → ℕ → List ℕ
-with_noted ws at k = store_set ws at (with_of (load_set ws at) k)
+-- The sets of a bike that has no command yet.
+abbrev pub no_sets : BikeSets
+no_sets = record { all = empty_of; adds = empty_of; reads = empty_of }
 
--- A bike has three sets: all its commands, its ADDs, its READs.
-abbrev pub bike_sets : ℕ
-bike_sets = 3
+-- The sets of a bike.
+abbrev pub sets_at : List BikeSets → ℕ → BikeSets
+sets_at ws b = get_or ws b no_sets
 
--- Whether a command is one for the v-th of these sets.
-abbrev pub is_for : ℕ → Command → Bool
-is_for zero c = true
-is_for (suc zero) c = is_add c
-is_for (suc (suc v)) c = is_read c
+-- The sets of a bike with one command of it, k, more in those that are for its kind.
+abbrev pub with_command : Command → ℕ → BikeSets → BikeSets
+with_command c k x =
+    record { all = with_of x.all k; adds = pick (is_add c) (with_of x.adds k) x.adds; reads = pick (is_read c) (with_of x.reads k) x.reads }
 
--- Command k joined the sets of its bike that are for its kind, and no others.
-pub record Joined (c : Command) (k : ℕ) (before after : List ℕ) : Type 0 where
-  pub size : length after ≡ length before
-  pub at : (b v : ℕ) → b < bikes → v < bike_sets
-      → load_set after (bike_sets * b + v)
-      ≡ pick (eqb (bike_of c) b && is_for v c) (with_of (load_set before (bike_sets * b + v)) k) (load_set before (bike_sets * b + v))
+-- The sets of all bikes with command k more in those of its bike that are for its kind, and in no others.
+abbrev pub joined_of : Command → ℕ → List BikeSets → List BikeSets
+joined_of c k ws = set ws (bike_of c) (with_command c k (sets_at ws (bike_of c)))
 
--- Command j of the book is on a bike and one for the v-th of its sets.
-abbrev pub is_on : ℕ → List ℕ → ℕ → ℕ → Bool
-is_on v s b j = eqb (bike_of (command_of s j)) b && is_for v (command_of s j)
+-- Command j of the book is on a bike and of a kind.
+abbrev pub is_on : (Command → Bool) → List ℕ → ℕ → ℕ → Bool
+is_on kind s b j = eqb (bike_of (command_of s j)) b && kind (command_of s j)
+
+-- The sets of a bike where the first n commands are gathered: those that are on it, by kind.
+abbrev pub gathered_of : List ℕ → ℕ → ℕ → BikeSets
+gathered_of s n b = record { all = set_of n (is_on (λ c. true) s b); adds = set_of n (is_on is_add s b); reads = set_of n (is_on is_read s b) }
 
 -- The sets of all bikes have the first n commands.
-pub record Gathered (s : List ℕ) (n : ℕ) (ws : List ℕ) : Type 0 where
-  pub size : length ws ≡ bike_sets * bikes
-  pub at : (b v : ℕ) → b < bikes → v < bike_sets → load_set ws (bike_sets * b + v) ≡ set_of n (is_on v s b)
+pub record Gathered (s : List ℕ) (n : ℕ) (ws : List BikeSets) : Type 0 where
+  pub size : length ws ≡ bikes
+  pub at : (b : ℕ) → b < bikes → sets_at ws b ≡ gathered_of s n b
 
 -- The commands of its bike that a command is opposed to.
-abbrev pub opposed_of : List ℕ → Command → Set
-opposed_of ws (Add b km) = without_of (load_set ws (bike_sets * b)) (load_set ws (bike_sets * b + 1))
-opposed_of ws (Fit b dash start) = load_set ws (bike_sets * b)
-opposed_of ws (Read b) = without_of (load_set ws (bike_sets * b)) (load_set ws (bike_sets * b + 2))
-opposed_of ws (Trim b km) = load_set ws (bike_sets * b)
+abbrev pub opposed_of : List BikeSets → Command → Set
+opposed_of ws (Add b km) = without_of (sets_at ws b).all (sets_at ws b).adds
+opposed_of ws (Fit b dash start) = (sets_at ws b).all
+opposed_of ws (Read b) = without_of (sets_at ws b).all (sets_at ws b).reads
+opposed_of ws (Trim b km) = (sets_at ws b).all

@@ -5,7 +5,7 @@ ghost use Rattle.std.specs.Prelude.{◌≡◌, ◌*◌, ◌<◌, ◌++◌, lengt
 ghost use Rattle.sets.specs.Sets.{capacity};
 ghost use Rattle.register.specs.Register.{bikes, bike_of};
 ghost use Rattle.commands.specs.Book.{max_commands, commands_of, Placed};
-ghost use Rattle.conflicts.specs.Conflicts.{conflict_row, conflict_rows, rows_in, bike_sets, with_noted, Joined, Gathered, opposed_of};
+ghost use Rattle.conflicts.specs.Conflicts.{conflict_row, conflict_rows, rows_in, joined_of, Gathered, opposed_of};
 
 use register::{Bike, Command};
 use sets::Set;
@@ -14,42 +14,29 @@ use sets::Set;
 pub const NOTED: usize = 2 * commands::MAX_COMMANDS;
 
 // The sets of a bike: all its commands, its ADDs, its READs.
-const SETS: usize = 3;
-
-const ADDS: usize = 1;
-
-const READS: usize = 2;
-
-// Command k joins the set at a place.
-fn note(sets: &mut [u64], at: usize, k: usize)
-    requires { (at < length sets.old) × (k < capacity) }
-    ensures { sets.new ≡ with_noted sets.old at k }
-{
-    let before = Set::load(&sets[..], at);
-    before.with(k).store(sets, at);
+#[derive(Clone, Copy)]
+struct BikeSets {
+    all: Set,
+    adds: Set,
+    reads: Set,
 }
 
 // Command k joins the sets of its bike that are for its kind.
-fn join(sets: &mut [u64], command: Command, k: usize)
-    requires { (length sets.old ≡ bike_sets * bikes) × (bike_of command < bikes) × (k < capacity) }
-    ensures { Joined command k sets.old sets.new }
+fn join(sets: &mut [BikeSets; Bike::COUNT], command: Command, k: usize)
+    requires { (bike_of command < bikes) × (k < capacity) }
+    ensures { sets.new ≡ joined_of command k sets.old }
 {
-    let bike = SETS * register::bike_of(command) as usize;
-    note(sets, bike, k);
+    let of_bike = &mut sets[register::bike_of(command) as usize];
+    of_bike.all = of_bike.all.with(k);
     match command {
-        Command::Add { bike: _, km: _ } => note(sets, bike + ADDS, k),
-        Command::Read { bike: _ } => note(sets, bike + READS, k),
-        Command::Fit {
-            bike: _,
-            dash: _,
-            start: _,
-        } => {}
-        Command::Trim { bike: _, km: _ } => {}
+        Command::Add { .. } => of_bike.adds = of_bike.adds.with(k),
+        Command::Read { .. } => of_bike.reads = of_bike.reads.with(k),
+        Command::Fit { .. } | Command::Trim { .. } => {}
     }
 }
 
 // All n commands join the sets of their bikes.
-fn gather(book: &[u8], places: &[u64], n: usize, sets: &mut [u64])
+fn gather(book: &[u8], places: &[u64], n: usize, sets: &mut [BikeSets; Bike::COUNT])
     requires { (n ≡ length (commands_of book.now)) × Placed book.now places.now
         × Gathered book.now 0 sets.old }
     ensures { Gathered book.now n sets.new }
@@ -61,26 +48,20 @@ fn gather(book: &[u8], places: &[u64], n: usize, sets: &mut [u64])
 }
 
 // The commands of its bike that a command is opposed to: an ADD to all but ADDs, a READ to all but READs, a FIT and a TRIM to all.
-fn opposed(sets: &[u64], command: Command) -> Set
-    requires { (length sets.now ≡ bike_sets * bikes) × (bike_of command < bikes) }
+fn opposed(sets: &[BikeSets; Bike::COUNT], command: Command) -> Set
+    requires { bike_of command < bikes }
     ensures { result ≡ opposed_of sets.now command }
 {
-    let bike = SETS * register::bike_of(command) as usize;
-    let all = Set::load(sets, bike);
+    let of_bike = sets[register::bike_of(command) as usize];
     match command {
-        Command::Add { bike: _, km: _ } => all.without(Set::load(sets, bike + ADDS)),
-        Command::Read { bike: _ } => all.without(Set::load(sets, bike + READS)),
-        Command::Fit {
-            bike: _,
-            dash: _,
-            start: _,
-        } => all,
-        Command::Trim { bike: _, km: _ } => all,
+        Command::Add { .. } => of_bike.all.without(of_bike.adds),
+        Command::Read { .. } => of_bike.all.without(of_bike.reads),
+        Command::Fit { .. } | Command::Trim { .. } => of_bike.all,
     }
 }
 
 // The commands that conflict with the m-th: those that it is opposed to, but itself.
-fn row(book: &[u8], places: &[u64], m: usize, sets: &[u64]) -> Set
+fn row(book: &[u8], places: &[u64], m: usize, sets: &[BikeSets; Bike::COUNT]) -> Set
     requires { (m < length (commands_of book.now)) × Placed book.now places.now
         × Gathered book.now (length (commands_of book.now)) sets.now }
     ensures { result ≡ conflict_row book.now m }
@@ -91,7 +72,7 @@ fn row(book: &[u8], places: &[u64], m: usize, sets: &[u64]) -> Set
 }
 
 // The rows of the n commands are noted. All rows are empty before, and those past the commands stay so.
-fn fill_rows(book: &[u8], n: usize, sets: &[u64], noted: &mut [u64])
+fn fill_rows(book: &[u8], n: usize, sets: &[BikeSets; Bike::COUNT], noted: &mut [u64])
     requires { (rows_in noted.old ≡ replicate max_commands 0) × (n ≡ length (commands_of book.now))
         × Placed book.now noted.old × Gathered book.now n sets.now }
     ensures { noted.new ≡ take max_commands noted.old ++ conflict_rows book.now }
@@ -107,7 +88,12 @@ pub fn conflict_rows(book: &[u8], n: usize, noted: &mut [u64])
     requires { (rows_in noted.old ≡ replicate max_commands 0) × (n ≡ length (commands_of book.now)) × Placed book.now noted.old }
     ensures { noted.new ≡ take max_commands noted.old ++ conflict_rows book.now }
 {
-    let mut sets = [0u64; SETS * Bike::COUNT];
+    let none = Set::empty();
+    let mut sets = [BikeSets {
+        all: none,
+        adds: none,
+        reads: none,
+    }; Bike::COUNT];
     gather(book, &noted[..], n, &mut sets);
     fill_rows(book, n, &sets, noted);
 }

@@ -18,7 +18,7 @@ pub row-found-requires : goal.row-found-requires
 row-found-requires c =
     let a = c.args in
     let p = c.requires in
-    (omega arith, c.loop-m.invariant.2, gathered_all a.book.now a.sets.now p.1 p.3)
+    (omega arith, c.loop-m.invariant.2, gathered_all a.book.now p.1 p.3)
 
 pub store-requires : goal.store-requires
 store-requires c =

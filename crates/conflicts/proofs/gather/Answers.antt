@@ -7,11 +7,10 @@ use Rattle.conflicts.proofs.gather.Goals as goal
 
 pub join-requires : goal.join-requires
 join-requires c =
-    let l = c.loop-k in
     let s = c.args.book.now in
-    (l.invariant.size, bike_below s l.k (omega arith) c.indexed-command.ensures, omega (arith, few_commands s))
+    (bike_below s c.loop-k.k (omega arith) c.indexed-command.ensures, omega (arith, few_commands s))
 
 pub loop-k-preserved : goal.loop-k-preserved
 loop-k-preserved c =
     let l = c.loop-k in
-    gathered_more c.args.book.now l.sets l.k c.indexed-command.ensures c.join.ensures l.invariant
+    gathered_more c.args.book.now l.sets l.k (omega arith) c.indexed-command.ensures c.join.ensures l.invariant

@@ -9,7 +9,7 @@ pub with-itself-requires : goal.with-itself-requires
 with-itself-requires c = omega (arith, few_commands c.args.book.now)
 
 pub opposed-requires : goal.opposed-requires
-opposed-requires c = let o = c in (o.requires.2.size, bike_below o.args.book.now o.args.m o.requires.0 c.indexed-command.ensures)
+opposed-requires c = let o = c in bike_below o.args.book.now o.args.m o.requires.0 c.indexed-command.ensures
 
 pub returns : goal.returns
 returns c =
