@@ -5,7 +5,6 @@ use mathlib.Core.Bool.{Bool, true, false, ◌&&◌, ◌||◌, not}
 use mathlib.Core.Logic.{◌⊎◌, inl, inr, ⊎_elim}
 use mathlib.Core.List.{List}
 use lib.ListN.{length, get_or}
-use lib.Seq.{get_or-set_same, get_or-set_other}
 use Prim.Native.Nat.{ℕ, zero, suc, ◌+◌, ◌*◌, ◌/◌, ◌%◌, ◌^◌, ◌≤◌, ◌<◌, min, max}
 use native.Mathlib.Nat.{div-one, div-eq_of_lt, pow-suc, lt_of_lt_of_le, mul-div_cancel, mul-mod_left, one-mul}
 use native.Mathlib.Numerals.{add-one, one-add}
@@ -22,7 +21,7 @@ use Rattle.theory.specs.Counting.{either, not-true, not-false, never, lt_or_le, 
 use Rattle.theory.specs.Counting.{all_at, all_of, any_some, any_none, count_none, count_first, count_ext}
 use Rattle.sets.specs.Sets.{has, word, least, in_set, set_of, empty_of, with_of, union_of, without_of, common_of}
 use Rattle.sets.specs.Sets.{is_empty_of, within_of, size_of, first_of}
-use Rattle.sets.specs.Sets.{read_set, write_set, load_set, store_set}
+use Rattle.sets.specs.Sets.{read_set, write_set}
 use Rattle.sets.specs.declared.Set.{Set}
 use Rattle.wire.specs.Wire.{bytes}
 use Rattle.wire.proofs.Laws.{length-bytes, length-splice, read_same, read-before, read-after, read_lt, splice_same}
@@ -400,14 +399,6 @@ first_word s = trailing_least 64 s.bits
 -- `1 << m` is the word of m alone.
 pub shl_one : (m : ℕ) → m < 64 → (1 * 2 ^ m) % 2 ^ 64 ≡ 2 ^ m
 shl_one m h = shl_exact 1 m 64 (lit< tt) (omega arith) ∙ one-mul (2 ^ m)
-
--- ---- sets in words
-
-pub load_stored : (ws : List ℕ) (k : ℕ) (s : Set) → k < length ws → load_set (store_set ws k s) k ≡ s
-load_stored ws k s h = same_word (get_or-set_same ws k s.bits 0 h)
-
-pub load_other : (ws : List ℕ) (k : ℕ) (s : Set) (j : ℕ) → (j ≡ k → ⊥) → load_set (store_set ws k s) j ≡ load_set ws j
-load_other ws k s j h = same_word (get_or-set_other ws k j s.bits 0 h)
 
 -- ---- sets in bytes
 
