@@ -8,7 +8,7 @@ ghost use Rattle.protocol.specs.World as protocol;
 ghost use Rattle.layout.specs.Layout.{site_size, site_rounds};
 ghost use Rattle.site.specs.Steps.{Received, Heard};
 ghost use Rattle.entries.specs.Entries.{entry_size};
-ghost use Rattle.rounds.specs.Rounds.{kept_entries, Kept};
+ghost use Rattle.rounds.specs.Rounds.{Kept};
 ghost use Rattle.sent.specs.Sent.{GoodSent};
 ghost use Rattle.world.specs.Parts.{AtSite, Arrived, Entered};
 ghost use Rattle.arrivals.specs.Messages.{message_verdict};
@@ -16,6 +16,7 @@ ghost use Rattle.arrivals.specs.Messages.{message_verdict};
 use entries::Entry;
 use layout::Site;
 use refusals::{Refusal, Verdict};
+use rounds::Rounds;
 use sets::Set;
 use table::{Rules, SiteTable};
 
@@ -178,7 +179,7 @@ pub fn false_check(
 // 06: an entry of a faulty site reaches the log.
 pub fn false_entry(
     log: &mut [u8],
-    kept: &mut [u64],
+    kept: &mut Rounds,
     rules: Rules,
     rows: &[u64],
     from: u8,
@@ -186,10 +187,10 @@ pub fn false_entry(
     nc: Set,
     c: Set,
 ) -> Verdict
-    requires { ((kept_entries kept.old + 1) * entry_size ≤ length log.old) × (is_good rules.table ≡ true) × Kept rules.table rows.now log.old kept.old
+    requires { ((kept.old.entries + 1) * entry_size ≤ length log.old) × (is_good rules.table ≡ true) × Kept rules.table rows.now log.old kept.old
         × (length rows.now ≡ capacity) }
-    ensures { Entered rules.table rules.commands (protocol.false_entry from round (in_set nc) (in_set c)) log.old (kept_entries kept.old) result
-        log.new (kept_entries kept.new) × Kept rules.table rows.now log.new kept.new }
+    ensures { Entered rules.table rules.commands (protocol.false_entry from round (in_set nc) (in_set c)) log.old kept.old.entries result
+        log.new kept.new.entries × Kept rules.table rows.now log.new kept.new }
 {
     let table = rules.table;
     let j = from as usize;
@@ -206,9 +207,9 @@ pub fn false_entry(
     if !table.is_faulty(j) {
         return Err(Refusal::Role);
     }
-    if rounds::third(&kept[..], j, r) {
+    if kept.third(j, r) {
         return Err(Refusal::ThirdEntry);
     }
-    rounds::append(log, kept, entry, table, rows);
+    kept.append(log, entry, table, rows);
     Ok(())
 }

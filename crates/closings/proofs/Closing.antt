@@ -31,7 +31,8 @@ use Rattle.recovery.proofs.Within.{decision-within}
 use Rattle.fast.specs.Fast.{FastDelivered}
 use Rattle.ending.specs.Ending.{Told, RoundEnded}
 use Rattle.ending.proofs.Telling.{told}
-use Rattle.rounds.specs.Rounds.{kept_rounds, kept_entries, Kept}
+use Rattle.rounds.specs.Rounds.{kept_rounds, Kept}
+use Rattle.rounds.specs.declared.Rounds.{Rounds}
 use Rattle.world.specs.World.{world_of}
 use Rattle.world.specs.Parts.{lent, AtSite}
 use Rattle.world.proofs.Sites.{lent_part}
@@ -114,32 +115,32 @@ pub read-room : (t : SiteTable) (commands : ℕ) (sites log : List ℕ) (entries
 read-room t commands sites log entries i g a e = let p = g.position i a in let l = g.room in (omega arith, omega arith)
 
 -- What the decision kept of the log tells site i.
-module _ (t : SiteTable) (table : is_good t ≡ true) (bytes sites log : List ℕ) {kept : List ℕ} (good : KeptLog t bytes sites log kept) (i : ℕ) (a : i < t.sites)
+module _ (t : SiteTable) (table : is_good t ≡ true) (bytes sites log : List ℕ) {kept : Rounds} (good : KeptLog t bytes sites log kept) (i : ℕ) (a : i < t.sites)
     {k r : ℕ} (ek : k ≡ (head_of (site_at sites i)).position) (round : r ≡ (head_of (site_at sites i)).round)
-    {d : Option Sets} (looked_up : (t : SiteTable) (rows log : List ℕ) → Kept t rows log kept → k ≤ kept_entries kept → d ≡ decision_of (rows_system t rows) (decide (rows_system t rows) r (log_to log k))) where
+    {d : Option Sets} (looked_up : (t : SiteTable) (rows log : List ℕ) → Kept t rows log kept → k ≤ kept.entries → d ≡ decision_of (rows_system t rows) (decide (rows_system t rows) r (log_to log k))) where
   abbrev commands : ℕ
   commands = length (commands_of bytes)
 
-  read : (k ≤ (kept_entries kept)) × (k * entry_size ≤ length log)
-  read = read-room t commands sites log (kept_entries kept) i good.good a ek
+  read : (k ≤ kept.entries) × (k * entry_size ≤ length log)
+  read = read-room t commands sites log kept.entries i good.good a ek
 
   abbrev rows : List ℕ
   rows = conflict_rows bytes
 
   ed : d ≡ decision_of (rows_system t rows) (decide (rows_system t rows) r (log_to log k))
-  ed = looked_up t rows log good.words read.0
+  ed = looked_up t rows log good.rounds read.0
 
   logged_read : (p : ℕ) → p < k → in_range_of t.sites commands (entry_of log p) ≡ true
   logged_read p l = good.good.logged p (let q = read.0 in omega arith)
 
-  same : decision (dash t (commands_of bytes)) (view t (commands_of bytes) (site_at sites i)) (log_to log (kept_entries kept)) ≡ decide (dash t (commands_of bytes)) r (log_to log k)
+  same : decision (dash t (commands_of bytes)) (view t (commands_of bytes) (site_at sites i)) (log_to log kept.entries) ≡ decide (dash t (commands_of bytes)) r (log_to log k)
   same =
-      (λ z. decide (dash t (commands_of bytes)) (sym round z) (take (sym ek z) (log_to log (kept_entries kept))))
-      ∙ ap (decide (dash t (commands_of bytes)) r) (log_take log k (kept_entries kept) read.0)
+      (λ z. decide (dash t (commands_of bytes)) (sym round z) (take (sym ek z) (log_to log kept.entries)))
+      ∙ ap (decide (dash t (commands_of bytes)) r) (log_take log k kept.entries read.0)
 
-  pub site_told : Told t (commands_of bytes) d (decision (dash t (commands_of bytes)) (view t (commands_of bytes) (site_at sites i)) (log_to log (kept_entries kept))) (view t (commands_of bytes) (site_at sites i)).round
+  pub site_told : Told t (commands_of bytes) d (decision (dash t (commands_of bytes)) (view t (commands_of bytes) (site_at sites i)) (log_to log kept.entries)) (view t (commands_of bytes) (site_at sites i)).round
   site_told =
-      told t table bytes rows log good.bytes k r read.1 logged_read refl ed (view t (commands_of bytes) (site_at sites i)) (log_to log (kept_entries kept)) same (sym round)
+      told t table bytes rows log good.bytes k r read.1 logged_read refl ed (view t (commands_of bytes) (site_at sites i)) (log_to log kept.entries) same (sym round)
 
   pub sets_fit : (n : ℕ) → commands ≡ n → DecisionWithin n d
   sets_fit n e = subst (λ (m : ℕ). DecisionWithin m d) e (decision-within t table bytes rows log good.bytes k r read.1 logged_read refl ed)

@@ -10,7 +10,8 @@ use Rattle.protocol.specs.World.{Step}
 use Rattle.layout.specs.Layout.{site_size, head_of, site_at}
 use Rattle.layout.specs.Good.{Good}
 use Rattle.entries.specs.Entries.{entry_size, entry_of, in_range_of}
-use Rattle.rounds.specs.Rounds.{kept_entries, Kept}
+use Rattle.rounds.specs.Rounds.{Kept}
+use Rattle.rounds.specs.declared.Rounds.{Rounds}
 use Rattle.world.specs.World.{GoodWorld, Outcome}
 use Rattle.world.specs.Parts.{lent}
 
@@ -26,10 +27,10 @@ pub record GoodLog (t : SiteTable) (commands : ℕ) (sites log : List ℕ) (entr
   pub position : (i : ℕ) → i < t.sites → (head_of (site_at sites i)).position ≤ entries
 
 -- A good log in bytes, and what is kept of it by the conflicts of a book.
-pub record KeptLog (t : SiteTable) (book sites log kept : List ℕ) : Type 0 where
-  pub good : GoodLog t (length (commands_of book)) sites log (kept_entries kept)
+pub record KeptLog (t : SiteTable) (book sites log : List ℕ) (kept : Rounds) : Type 0 where
+  pub good : GoodLog t (length (commands_of book)) sites log kept.entries
   pub bytes : (k : ℕ) → get_or log k 0 < 256
-  pub words : Kept t (conflict_rows book) log kept
+  pub rounds : Kept t (conflict_rows book) log kept
 
 -- A step that changes sites only, by the log.
 abbrev pub Closed : SiteTable → List Command → Step → List ℕ → ℕ → List ℕ → Verdict → List ℕ → Type 0

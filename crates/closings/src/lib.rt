@@ -5,11 +5,11 @@ ghost use Rattle.std.specs.Prelude.{◌≡◌, true, List, ℕ, length};
 ghost use Rattle.table.specs.Table.{is_good};
 ghost use Rattle.commands.specs.Book.{commands_of, Placed};
 ghost use Rattle.protocol.specs.World as protocol;
-ghost use Rattle.rounds.specs.Rounds.{kept_entries};
 ghost use Rattle.closings.specs.Closings.{GoodSites, KeptLog, Closed};
 
 use layout::Site;
 use refusals::{Refusal, Verdict};
+use rounds::Rounds;
 use table::Rules;
 
 // 08: a site delivers a command fast.
@@ -44,7 +44,7 @@ pub fn fast_delivery(
 // 0A: a site ends its round, as what is kept of the log decides it.
 pub fn round_end(
     sites: &mut [u8],
-    kept: &[u64],
+    kept: &Rounds,
     rules: Rules,
     book: &[u8],
     places: &[u64],
@@ -53,7 +53,7 @@ pub fn round_end(
     requires { GoodSites rules.table rules.commands sites.old × ((log : List ℕ) × KeptLog rules.table book.now sites.old log kept.now)
         × (is_good rules.table ≡ true) × Placed book.now places.now × (length (commands_of book.now) ≡ rules.commands) }
     ensures { (log : List ℕ) → KeptLog rules.table book.now sites.old log kept.now
-        → Closed rules.table (commands_of book.now) (protocol.round_end site) log (kept_entries kept.now) sites.old result sites.new }
+        → Closed rules.table (commands_of book.now) (protocol.round_end site) log kept.now.entries sites.old result sites.new }
 {
     let table = rules.table;
     let commands = rules.commands;
@@ -69,6 +69,6 @@ pub fn round_end(
     let header = Site::read(&sites[from..to]);
     let position = header.position as usize;
     let round = header.round as usize;
-    let decision = rounds::decision(kept, round, position);
+    let decision = kept.decision(round, position);
     ending::round_end(&mut sites[from..to], book, places, commands, decision)
 }

@@ -39,7 +39,8 @@ use Rattle.layout.proofs.Finish.{alone}
 use Rattle.site.specs.declared.Turn.{Turn}
 use Rattle.site.specs.declared.Turn.TheVariants as turns
 use Rattle.site.specs.Steps.{undelivered_of, TookTurn, Turned, answer_to}
-use Rattle.rounds.specs.Rounds.{kept_entries, Kept}
+use Rattle.rounds.specs.Rounds.{Kept}
+use Rattle.rounds.specs.declared.Rounds.{Rounds}
 use Rattle.entries.specs.Entries.{log_to, write_entry, view_entry, in_range_of}
 use Rattle.entries.proofs.Bytes.{Fits}
 use Rattle.sent.specs.Sent as sent
@@ -56,18 +57,18 @@ use Rattle.moves.proofs.Words.{undelivered-word, unacknowledged-word, pending_wo
 -- ---- the site's part
 
 -- The conflict test by the rows and the number of entries by what is kept of the log are those that the turn asks for.
-pub turned_by : (rows kept : List ℕ) (i : ℕ) (b : List ℕ) {u : Set} {f third : Bool} {round : ℕ} {r : Result Turn Refusal} {after : List ℕ}
+pub turned_by : (rows : List ℕ) (kept : Rounds) (i : ℕ) (b : List ℕ) {u : Set} {f third : Bool} {round : ℕ} {r : Result Turn Refusal} {after : List ℕ}
     → u ≡ undelivered_of (head_of b) → f ≡ free_by rows (in_set u) → round ≡ (head_of b).round
-    → ((t : SiteTable) (rows log : List ℕ) → Kept t rows log kept → third ≡ not (ltb (recovery.entries i round (log_to log (kept_entries kept))) 2))
+    → ((t : SiteTable) (rows log : List ℕ) → Kept t rows log kept → third ≡ not (ltb (recovery.entries i round (log_to log kept.entries)) 2))
     → TookTurn f third b r after → TurnedBy rows kept i r b after
 turned_by rows kept i b {u} eu ef er et took =
     λ t book log ec ek g.
-    took t (commands_of book) i (log_to log (kept_entries kept)) g
+    took t (commands_of book) i (log_to log kept.entries) g
     (ef
     ∙ (λ k. free_by (ec k) (in_set u))
     ∙ free-rows book t (in_set u)
     ∙ ap (free (dash t (commands_of book))) (ap in_set eu ∙ (λ k m. in_without (head_of b).received (head_of b).delivered m k)))
-    (ap not (et t rows log ek) ∙ not-not (ltb (recovery.entries i _ (log_to log (kept_entries kept))) 2) ∙ (λ k. ltb (recovery.entries i (er k) (log_to log (kept_entries kept))) 2))
+    (ap not (et t rows log ek) ∙ not-not (ltb (recovery.entries i _ (log_to log kept.entries)) 2) ∙ (λ k. ltb (recovery.entries i (er k) (log_to log kept.entries)) 2))
 
 -- ---- what an answer tells
 
@@ -146,7 +147,7 @@ module _ (t : SiteTable) (bytes rows : List ℕ) (b : Buffers) (i : ℕ) (ready 
         subst (λ (s : protocol.Site (dash t book)). known_to (length book) (Some (undelivered (dash t book) s)) ≡ true) (sym at)
         (undelivered-known t book (site_at b.sites i) part_good part_small)
 
-    module _ {f : Bool} (ef : f ≡ faulty_of t i) (hf : f ≡ false) {r : Result Turn Refusal} {sites kept : List ℕ} (en : b.entries ≡ kept_entries kept) (ek : Kept t rows b.log kept)
+    module _ {f : Bool} (ef : f ≡ faulty_of t i) (hf : f ≡ false) {r : Result Turn Refusal} {sites : List ℕ} {kept : Rounds} (en : b.entries ≡ kept.entries) (ek : Kept t rows b.log kept)
         (h : AtSite i (TurnedBy rows kept i r) b.sites sites) where
       turned : Turned t book i world.log (world.site i) (site_at b.sites i) r h.new
       turned =

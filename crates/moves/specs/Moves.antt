@@ -15,7 +15,8 @@ use Rattle.layout.specs.Good.{Good}
 use Rattle.site.specs.declared.Turn.{Turn}
 use Rattle.site.specs.Steps.{Turned}
 use Rattle.entries.specs.Entries.{entry_size, log_to}
-use Rattle.rounds.specs.Rounds.{kept_entries, Kept}
+use Rattle.rounds.specs.Rounds.{Kept}
+use Rattle.rounds.specs.declared.Rounds.{Rounds}
 use Rattle.sent.specs.Sent.{max_acknowledgments}
 use Rattle.world.specs.World.{Buffers, GoodWorld, world_of, Outcome}
 use Rattle.world.specs.Parts.{lent}
@@ -31,10 +32,10 @@ pub record Ready (t : SiteTable) (book rows : List ℕ) (b : Buffers) (u : Step)
   pub acks : (j r : ℕ) → length ((step (dash t (commands_of book)) (world_of t (commands_of book) b) u).acks j r) ≤ max_acknowledgments
 
 -- The turn of site i with the bytes b, by the rows of a book and what is kept of a log.
-abbrev pub TurnedBy : List ℕ → List ℕ → ℕ → Result Turn Refusal → List ℕ → List ℕ → Type 0
+abbrev pub TurnedBy : List ℕ → Rounds → ℕ → Result Turn Refusal → List ℕ → List ℕ → Type 0
 TurnedBy rows kept i r b after =
     (t : SiteTable) (book log : List ℕ) → rows ≡ conflict_rows book → Kept t rows log kept → Good t.sites (length (commands_of book)) b
-    → Turned t (commands_of book) i (log_to log (kept_entries kept)) (view t (commands_of book) b) b r after
+    → Turned t (commands_of book) i (log_to log kept.entries) (view t (commands_of book) b) b r after
 
 -- A log read, which changes a site only, of any log with so many entries.
 abbrev pub LogRead : SiteTable → ℕ → ℕ → List ℕ → Verdict → List ℕ → Type 0

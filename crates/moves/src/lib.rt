@@ -7,7 +7,7 @@ ghost use Rattle.table.specs.Table.{max_sites};
 ghost use Rattle.commands.specs.Book.{commands_of};
 ghost use Rattle.protocol.specs.World as protocol;
 ghost use Rattle.layout.specs.Layout.{site_size, head_of};
-ghost use Rattle.rounds.specs.Rounds.{kept_rounds, kept_words, kept_entries, Kept};
+ghost use Rattle.rounds.specs.Rounds.{kept_rounds, Kept};
 ghost use Rattle.world.specs.World.{Outcome};
 ghost use Rattle.world.specs.Parts.{lent};
 ghost use Rattle.moves.specs.Moves.{Ready, TurnedBy, LogRead};
@@ -15,17 +15,18 @@ ghost use Rattle.moves.specs.Moves.{Ready, TurnedBy, LogRead};
 use entries::Entry;
 use layout::Site;
 use refusals::{Refusal, Verdict};
+use rounds::Rounds;
 use site::Turn;
 use table::Rules;
 
 // Site i, of these bytes, takes its turn, by the rows of conflicts and what is kept of the log.
-fn turn_by(site: &mut [u8], kept: &[u64], rows: &[u64], i: usize) -> Result<Turn, Refusal>
-    requires { (length site.old ≡ site_size) × (length kept.now ≡ kept_words) × (length rows.now ≡ capacity) × (i < max_sites) × ((head_of site.old).round < kept_rounds) }
+fn turn_by(site: &mut [u8], kept: &Rounds, rows: &[u64], i: usize) -> Result<Turn, Refusal>
+    requires { (length site.old ≡ site_size) × (length rows.now ≡ capacity) × (i < max_sites) × ((head_of site.old).round < kept_rounds) }
     ensures { TurnedBy rows.now kept.now i result site.old site.new }
 {
     let header = Site::read(&site[..]);
     let free = calm::is_free(rows, site::undelivered(header));
-    let third = rounds::third(kept, i, header.round as usize);
+    let third = kept.third(i, header.round as usize);
     site::take_turn(site, free, third)
 }
 
@@ -34,16 +35,16 @@ pub fn turn(
     sites: &mut [u8],
     log: &mut [u8],
     sent: &mut [u8],
-    kept: &mut [u64],
+    kept: &mut Rounds,
     rules: Rules,
     rows: &[u64],
     site: u8,
 ) -> Verdict
-    requires { ((book : List ℕ) × Ready rules.table book rows.now (lent sites.old log.old (kept_entries kept.old) sent.old) (protocol.turn site))
+    requires { ((book : List ℕ) × Ready rules.table book rows.now (lent sites.old log.old kept.old.entries sent.old) (protocol.turn site))
         × Kept rules.table rows.now log.old kept.old }
-    ensures { ((book : List ℕ) → Ready rules.table book rows.now (lent sites.old log.old (kept_entries kept.old) sent.old) (protocol.turn site)
-        → Outcome rules.table (commands_of book) (protocol.turn site) (lent sites.old log.old (kept_entries kept.old) sent.old)
-        result (lent sites.new log.new (kept_entries kept.new) sent.new))
+    ensures { ((book : List ℕ) → Ready rules.table book rows.now (lent sites.old log.old kept.old.entries sent.old) (protocol.turn site)
+        → Outcome rules.table (commands_of book) (protocol.turn site) (lent sites.old log.old kept.old.entries sent.old)
+        result (lent sites.new log.new kept.new.entries sent.new))
         × Kept rules.table rows.now log.new kept.new }
 {
     let table = rules.table;
@@ -58,7 +59,7 @@ pub fn turn(
     let to = from + Site::SIZE;
     let header = Site::read(&sites[from..to]);
     let round = header.round as usize;
-    let turn = turn_by(&mut sites[from..to], &kept[..], rows, i)?;
+    let turn = turn_by(&mut sites[from..to], kept, rows, i)?;
     match turn {
         Turn::Acknowledged(set) => {
             sent::add_acknowledgment(sent, i, round, set);
@@ -74,7 +75,7 @@ pub fn turn(
                 nc: nc,
                 c: c,
             };
-            rounds::append(log, kept, proposed, table, rows);
+            kept.append(log, proposed, table, rows);
             Ok(())
         }
     }

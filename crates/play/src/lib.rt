@@ -6,11 +6,12 @@ ghost use Rattle.commands.specs.Book.{commands_of};
 ghost use Rattle.conflicts.specs.Conflicts.{rows_in};
 ghost use Rattle.print.specs.Print.{Wrote};
 ghost use Rattle.runs.specs.Run as runs;
-ghost use Rattle.rounds.specs.Rounds.{kept_entries, Kept};
+ghost use Rattle.rounds.specs.Rounds.{Kept};
 ghost use Rattle.world.specs.Parts.{lent};
 ghost use Rattle.play.specs.Played.{line_room, Playable, PlayedAll};
 
 use refusals::{Refusal, Verdict};
+use rounds::Rounds;
 use table::Rules;
 
 // The line of a refused step is written.
@@ -33,13 +34,13 @@ fn report(out: &mut [u8], at: usize, number: usize, verdict: Verdict) -> usize
     }
 }
 
-// The steps are played from the start of a run, with words to keep what the log says. The answer is the position after the last line.
+// The steps are played from the start of a run, with what is kept of the log. The answer is the position after the last line.
 // What cannot be read is refused as 3, and nothing is read after it.
 fn play_on(
     sites: &mut [u8],
     log: &mut [u8],
     sent: &mut [u8],
-    kept: &mut [u64],
+    kept: &mut Rounds,
     rules: Rules,
     book: &[u8],
     noted: &[u64],
@@ -47,7 +48,7 @@ fn play_on(
     out: &mut [u8],
     from: usize,
 ) -> usize
-    requires { Playable rules book.now noted.now steps.now out.old from (lent sites.old log.old (kept_entries kept.old) sent.old)
+    requires { Playable rules book.now noted.now steps.now out.old from (lent sites.old log.old kept.old.entries sent.old)
         × Kept rules.table (rows_in noted.now) log.old kept.old }
     ensures { PlayedAll rules.table (commands_of book.now) steps.now out.old out.new from result sites.old
         sites.new log.new sent.new }
@@ -84,7 +85,7 @@ pub fn play_steps(
     ensures { PlayedAll rules.table (commands_of book.now) steps.now out.old out.new from result sites.old
         sites.new log.new sent.new }
 {
-    let mut kept = [0u64; rounds::WORDS];
+    let mut kept = Rounds::none();
     play_on(
         sites, log, sent, &mut kept, rules, book, noted, steps, out, from,
     )

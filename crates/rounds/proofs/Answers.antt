@@ -35,7 +35,7 @@ use Rattle.rounds.specs.Rounds.{answer_at, Decides}
 
 module _ (x : Round) (p : ℕ) where
   abbrev chosen : Bool → Option Sets
-  chosen t = pick t (Some (record { nc = x.nc; c = x.c })) None
+  chosen t = pick t (Some x.sets) None
 
   pub answer-none : x.decided ≡ 0 → None ≡ answer_at x p
   answer-none e = ap (λ (t : Bool). chosen (t && leb x.decided p)) (sym (le-ltb 0 x.decided (omega arith)))
@@ -47,7 +47,7 @@ module _ (x : Round) (p : ℕ) where
       two true e = e
       two false e = refl
 
-  pub answer-sets : 0 < x.decided → x.decided ≤ p → Some (record { nc = x.nc; c = x.c }) ≡ answer_at x p
+  pub answer-sets : 0 < x.decided → x.decided ≤ p → Some x.sets ≡ answer_at x p
   answer-sets g l =
       ap chosen (sym (both (ltb 0 x.decided) (leb x.decided p) (lt-ltb 0 x.decided g) (le-leb x.decided p l)))
 
@@ -103,11 +103,11 @@ module _ (t : SiteTable) (rows log : List ℕ) (k r : ℕ) where
         go (inr g) = h.answers p (omega arith) ∙ same p (omega arith)
 
     -- A decided round stays as it is, whatever is counted.
-    stays : 0 < x.decided → decision_of (rows_system t rows) (decide (rows_system t rows) r (log_to log (k + 1))) ≡ Some (record { nc = x.nc; c = x.c })
+    stays : 0 < x.decided → decision_of (rows_system t rows) (decide (rows_system t rows) r (log_to log (k + 1))) ≡ Some x.sets
     stays g = go (decide (rows_system t rows) r (log_to log k)) refl (h.answers k (omega arith) ∙ sym (answer-sets x k g h.place))
       where
-        go : (o : Option Tally) → decide (rows_system t rows) r (log_to log k) ≡ o → decision_of (rows_system t rows) o ≡ Some (record { nc = x.nc; c = x.c })
-            → decision_of (rows_system t rows) (decide (rows_system t rows) r (log_to log (k + 1))) ≡ Some (record { nc = x.nc; c = x.c })
+        go : (o : Option Tally) → decide (rows_system t rows) r (log_to log k) ≡ o → decision_of (rows_system t rows) o ≡ Some x.sets
+            → decision_of (rows_system t rows) (decide (rows_system t rows) r (log_to log (k + 1))) ≡ Some x.sets
         go None e q = absurd (let z : ◌≡◌ {A = ℕ} 0 1 = cc in omega arith)
         go (Some d) e q =
             ap (decision_of (rows_system t rows))
@@ -116,9 +116,9 @@ module _ (t : SiteTable) (rows log : List ℕ) (k r : ℕ) where
 
     pub decided_stays : 0 < x.decided → (once twice : Set) (first : ℕ)
         → Decides log (k + 1) r t rows
-        (record { once = once; twice = twice; valid = x.valid; decided = x.decided; nc = x.nc; c = x.c; first = first })
+        (record { once = once; twice = twice; valid = x.valid; decided = x.decided; sets = x.sets; first = first })
     decided_stays g once twice first =
-        let y : Round = record { once = once; twice = twice; valid = x.valid; decided = x.decided; nc = x.nc; c = x.c; first = first } in
+        let y : Round = record { once = once; twice = twice; valid = x.valid; decided = x.decided; sets = x.sets; first = first } in
         record {
           place = omega (arith, h.place);
           answers = next y (λ p l. refl) (stays g ∙ answer-sets y (k + 1) g (omega (arith, h.place)));
@@ -131,9 +131,9 @@ module _ (t : SiteTable) (rows log : List ℕ) (k r : ℕ) where
       -- An entry that does not decide.
       pub still_waits : not s.decided ≡ true → (twice : Set) (first : ℕ)
           → Decides log (k + 1) r t rows
-          (record { once = s.seen; twice = twice; valid = s.valid; decided = x.decided; nc = x.nc; c = x.c; first = first })
+          (record { once = s.seen; twice = twice; valid = s.valid; decided = x.decided; sets = x.sets; first = first })
       still_waits d twice first =
-          let y : Round = record { once = s.seen; twice = twice; valid = s.valid; decided = x.decided; nc = x.nc; c = x.c; first = first } in
+          let y : Round = record { once = s.seen; twice = twice; valid = s.valid; decided = x.decided; sets = x.sets; first = first } in
           record {
             place = omega (arith, h.place);
             answers = next y (λ p l. refl) (sym (not_decided t rows r log good (k + 1) es d) ∙ answer-none y (k + 1) z);
@@ -146,9 +146,9 @@ module _ (t : SiteTable) (rows log : List ℕ) (k r : ℕ) where
       pub now_decided : not s.decided ≡ false → s.entries ≡ k + 1 → (found : Sets) → found ≡ found_sets t log r s.valid (k + 1)
           → (once twice valid : Set) (first : ℕ)
           → Decides log (k + 1) r t rows
-          (record { once = once; twice = twice; valid = valid; decided = k + 1; nc = found.nc; c = found.c; first = first })
+          (record { once = once; twice = twice; valid = valid; decided = k + 1; sets = found; first = first })
       now_decided d en found ef once twice valid first =
-          let y : Round = record { once = once; twice = twice; valid = valid; decided = k + 1; nc = found.nc; c = found.c; first = first } in
+          let y : Round = record { once = once; twice = twice; valid = valid; decided = k + 1; sets = found; first = first } in
           record {
             place = omega arith;
             answers = next y (λ p l. sym (answer-none x p z) ∙ answer_later y p (omega arith))

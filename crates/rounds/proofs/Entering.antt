@@ -1,6 +1,6 @@
 -- The round of an entry that is taken in: one law for each answer of the code.
 -- Assumes nothing.
-use mathlib.Core.Path.{◌≡◌, refl, sym, ap, subst}
+use mathlib.Core.Path.{◌≡◌, refl, sym, ap, ◌∙◌, subst}
 use mathlib.Core.Bool.{Bool, true, false, not}
 use mathlib.Core.List.{List}
 use Prim.Native.Nat.{ℕ, ◌+◌, ◌<◌}
@@ -29,7 +29,7 @@ use Rattle.rounds.proofs.Answers.{standing_own, decided_stays, still_waits, now_
 -- A round with other valid sources.
 abbrev pub with_valid : Round → Set → Round
 with_valid x v =
-    record { once = x.once; twice = x.twice; valid = v; decided = x.decided; nc = x.nc; c = x.c; first = x.first }
+    record { once = x.once; twice = x.twice; valid = v; decided = x.decided; sets = x.sets; first = x.first }
 
 module _ (t : SiteTable) (rows log : List ℕ) (k r : ℕ) (x : Round) (good : is_good t ≡ true)
     (er : (entry_of log k).round ≡ r) (hc : Counts log k r x) (hd : Decides log k r t rows x)
@@ -53,16 +53,16 @@ module _ (t : SiteTable) (rows log : List ℕ) (k r : ℕ) (x : Round) (good : i
   -- ---- a site's first entry
 
   module _ (n : in_set x.once site ≡ false) where
-    pub noted : Counts log (k + 1) r (noted_of x site (k + 1))
+    noted : Counts log (k + 1) r (noted_of x site (k + 1))
     noted = let l = (good_limits t good).sites in counts_first log k r x site er (sym es) (omega arith) hc n
 
     -- A decided round.
-    pub first_decided : (x.decided ≡ 0 → ⊥) → Decides log (k + 1) r t rows (noted_of x site (k + 1))
+    first_decided : (x.decided ≡ 0 → ⊥) → Decides log (k + 1) r t rows (noted_of x site (k + 1))
     first_decided d = decided_stays t rows log k r x hd (omega arith) (with_of x.once site) x.twice (noted_of x site (k + 1)).first
 
     -- A round that waits, with an entry of which it is known whether its NC is free.
     module _ (z : x.decided ≡ 0) {f : Bool} (ef : f ≡ free_by rows (in_set (entry_of log k).nc)) where
-      pub first_unfree : not f ≡ true → Decides log (k + 1) r t rows (noted_of x site (k + 1))
+      first_unfree : not f ≡ true → Decides log (k + 1) r t rows (noted_of x site (k + 1))
       first_unfree g =
           still_waits t rows log k r x hd good z
           (stands z (first_conflicting rows site (entry_of log k).nc waiting refl n ef g))
@@ -75,23 +75,65 @@ module _ (t : SiteTable) (rows log : List ℕ) (k r : ℕ) (x : Round) (good : i
         more =
             stands z (first_valid rows site (entry_of log k).nc waiting refl n ef g ev)
 
-        pub first_waiting : (size_of v ≡ n_chk_of t → ⊥) → Decides log (k + 1) r t rows (with_valid (noted_of x site (k + 1)) v)
+        first_waiting : (size_of v ≡ n_chk_of t → ⊥) → Decides log (k + 1) r t rows (with_valid (noted_of x site (k + 1)) v)
         first_waiting d =
             still_waits t rows log k r x hd good z more (ap not (ne_eqb (size_of v) (n_chk_of t) d)) x.twice (noted_of x site (k + 1)).first
 
-        pub first_deciding : size_of v ≡ n_chk_of t
+        first_deciding : size_of v ≡ n_chk_of t
             → Decides log (k + 1) r t rows (decided_of (with_valid (noted_of x site (k + 1)) v) (k + 1) (found_sets t log r v (k + 1)))
         first_deciding d =
             now_decided t rows log k r x hd good z more (ap not (eq-eqb (size_of v) (n_chk_of t) d)) refl (found_sets t log r v (k + 1)) refl
             (with_of x.once site) x.twice v (noted_of x site (k + 1)).first
 
+    -- ---- the code's round after the note of a first entry
+
+    module _ {y : Round} (ey : y ≡ noted_of x site (k + 1)) where
+      pub taken_decided : (y.decided ≡ 0 → ⊥) → Counts log (k + 1) r y × Decides log (k + 1) r t rows y
+      taken_decided d =
+          subst (λ (w : Round). Counts log (k + 1) r w × Decides log (k + 1) r t rows w) (sym ey)
+          (noted, first_decided (λ z. d (ap (λ (w : Round). w.decided) ey ∙ z)))
+
+      module _ (u : y.decided ≡ 0) {f : Bool} (ef : f ≡ free_by rows (in_set (entry_of log k).nc)) where
+        waits : x.decided ≡ 0
+        waits = sym (ap (λ (w : Round). w.decided) ey) ∙ u
+
+        pub taken_unfree : f ≡ false → Counts log (k + 1) r y × Decides log (k + 1) r t rows y
+        taken_unfree g =
+            subst (λ (w : Round). Counts log (k + 1) r w × Decides log (k + 1) r t rows w) (sym ey) (noted, first_unfree waits ef (ap not g))
+
+        module _ (g : f ≡ true) {v : Set} (ev : v ≡ with_of y.valid site) where
+          own : v ≡ with_of x.valid site
+          own = ev ∙ ap (λ (w : Round). with_of w.valid site) ey
+
+          pub counts_valid : Counts log (k + 1) r (with_valid y v)
+          counts_valid =
+              subst (λ (w : Round). Counts log (k + 1) r (with_valid w v)) (sym ey)
+              (record { once = noted.once; twice = noted.twice; first = noted.first; within = noted.within })
+
+          module _ {size enough : ℕ} (e1 : size ≡ size_of v) (e2 : enough ≡ n_chk_of t) where
+            pub taken-waiting : (size ≡ enough → ⊥) → Counts log (k + 1) r (with_valid y v) × Decides log (k + 1) r t rows (with_valid y v)
+            taken-waiting d = (
+              counts_valid,
+              subst (λ (w : Round). Decides log (k + 1) r t rows (with_valid w v)) (sym ey)
+                  (first_waiting waits ef (ap not g) own (λ q. d (e1 ∙ q ∙ sym e2))),
+            )
+
+            pub taken_deciding : size ≡ enough → {z : Round} → z ≡ decided_of (with_valid y v) (k + 1) (found_sets t log r v (k + 1))
+                → Counts log (k + 1) r z × Decides log (k + 1) r t rows z
+            taken_deciding e ez =
+                subst (λ (w : Round). Counts log (k + 1) r w × Decides log (k + 1) r t rows w)
+                (sym (ez ∙ ap (λ (w : Round). decided_of (with_valid w v) (k + 1) (found_sets t log r v (k + 1))) ey)) (
+                  record { once = noted.once; twice = noted.twice; first = noted.first; within = noted.within },
+                  first_deciding waits ef (ap not g) own (sym e1 ∙ e ∙ e2),
+                )
+
   -- ---- another entry of a site
 
   module _ (n : in_set x.once site ≡ true) where
-    pub again_counts : Counts log (k + 1) r (again_of x site)
+    again_counts : Counts log (k + 1) r (again_of x site)
     again_counts = let l = (good_limits t good).sites in counts_again log k r x site er (sym es) (omega arith) hc n
 
-    pub again_decides : Decides log (k + 1) r t rows (again_of x site)
+    again_decides : Decides log (k + 1) r t rows (again_of x site)
     again_decides = go (ℕ_discrete x.decided 0)
       where
         go : Dec (x.decided ≡ 0) → Decides log (k + 1) r t rows (again_of x site)
@@ -103,8 +145,7 @@ module _ (t : SiteTable) (rows log : List ℕ) (k r : ℕ) (x : Round) (good : i
               twice = with_of x.twice site;
               valid = pick (sym (eq-eqb x.decided 0 z) i) v x.valid;
               decided = x.decided;
-              nc = x.nc;
-              c = x.c;
+              sets = x.sets;
               first = x.first;
             })
             (still_waits t rows log k r x hd good z (stands z (second_entry rows site (entry_of log k).nc waiting refl n refl refl refl))
@@ -117,8 +158,10 @@ module _ (t : SiteTable) (rows log : List ℕ) (k r : ℕ) (x : Round) (good : i
               twice = with_of x.twice site;
               valid = pick (sym (ne_eqb x.decided 0 d) i) (without_of x.valid (with_of empty_of site)) x.valid;
               decided = x.decided;
-              nc = x.nc;
-              c = x.c;
+              sets = x.sets;
               first = x.first;
             })
             (decided_stays t rows log k r x hd (omega arith) x.once (with_of x.twice site) x.first)
+
+    pub taken_again : {y : Round} → y ≡ again_of x site → Counts log (k + 1) r y × Decides log (k + 1) r t rows y
+    taken_again ey = subst (λ (w : Round). Counts log (k + 1) r w × Decides log (k + 1) r t rows w) (sym ey) (again_counts, again_decides)

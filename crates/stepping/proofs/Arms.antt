@@ -16,7 +16,8 @@ use Rattle.register.specs.declared.Command.{Command}
 use Rattle.commands.specs.Book.{commands_of}
 use Rattle.commands.proofs.Walk.{few_commands}
 use Rattle.conflicts.specs.Conflicts.{conflict_rows}
-use Rattle.rounds.specs.Rounds.{kept_entries, Kept}
+use Rattle.rounds.specs.Rounds.{Kept}
+use Rattle.rounds.specs.declared.Rounds.{Rounds}
 use Rattle.steps.specs.declared.Step.{Step}
 use Rattle.steps.specs.declared.Step.TheVariants as kinds
 use Rattle.steps.specs.Meaning.{meaning}
@@ -67,7 +68,7 @@ pub ready_as : (t : SiteTable) (book : List ℕ) (b : Buffers) {rows part : List
 ready_as t book b {rows} {part} {u} {v} e er h = subst (λ (l : List ℕ). Ready t book l b (meaning v)) (sym er) (subst (λ (x : Step). Ready t book rows b (meaning x)) e h)
 
 -- What is kept goes by the same rows.
-pub kept_by : (t : SiteTable) (log : List ℕ) {rows same kept : List ℕ} → rows ≡ same → Kept t rows log kept → Kept t same log kept
+pub kept_by : (t : SiteTable) (log : List ℕ) {rows same : List ℕ} {kept : Rounds} → rows ≡ same → Kept t rows log kept → Kept t same log kept
 kept_by t log {kept = kept} e h = subst (λ (l : List ℕ). Kept t l log kept) e h
 
 -- A log read goes by as many entries as there are.
@@ -80,13 +81,13 @@ module _ (t : SiteTable) (book : List ℕ) (commands : ℕ) (b : Buffers) (e : l
   pub good_sites : GoodSites t commands b.sites
   good_sites = subst (λ (n : ℕ). GoodSites t n b.sites) e (record { size = g.size; site = g.site })
 
-  pub kept_log : {rows kept : List ℕ} → rows ≡ conflict_rows book → ((k : ℕ) → get_or b.log k 0 < 256) → b.entries ≡ kept_entries kept → Kept t rows b.log kept
+  pub kept_log : {rows : List ℕ} {kept : Rounds} → rows ≡ conflict_rows book → ((k : ℕ) → get_or b.log k 0 < 256) → b.entries ≡ kept.entries → Kept t rows b.log kept
       → KeptLog t book b.sites b.log kept
   kept_log er small en k =
       record {
         good = subst (λ (n : ℕ). GoodLog t (length (commands_of book)) b.sites b.log n) en (record { room = g.room; logged = g.logged; position = g.position });
         bytes = small;
-        words = kept_by t b.log er k;
+        rounds = kept_by t b.log er k;
       }
 
   pub few : commands ≤ capacity

@@ -8,7 +8,7 @@ ghost use Rattle.commands.specs.Book.{commands_of, Placed};
 ghost use Rattle.conflicts.specs.Conflicts.{rows_in};
 ghost use Rattle.steps.specs.Meaning.{meaning};
 ghost use Rattle.layout.specs.Layout.{site_size};
-ghost use Rattle.rounds.specs.Rounds.{kept_entries, Kept};
+ghost use Rattle.rounds.specs.Rounds.{Kept};
 ghost use Rattle.sent.specs.Sent.{GoodSent};
 ghost use Rattle.world.specs.World.{Outcome};
 ghost use Rattle.world.specs.Parts.{lent, Arrived};
@@ -16,6 +16,7 @@ ghost use Rattle.moves.specs.Moves.{Ready};
 ghost use Rattle.stepping.specs.Kinds.{arrives};
 
 use refusals::{Refusal, Verdict};
+use rounds::Rounds;
 use steps::Step;
 use table::Rules;
 
@@ -54,16 +55,16 @@ pub fn step(
     sites: &mut [u8],
     log: &mut [u8],
     sent: &mut [u8],
-    kept: &mut [u64],
+    kept: &mut Rounds,
     rules: Rules,
     book: &[u8],
     noted: &[u64],
     step: Step,
 ) -> Verdict
-    requires { Ready rules.table book.now (rows_in noted.now) (lent sites.old log.old (kept_entries kept.old) sent.old) (meaning step) × Placed book.now noted.now
+    requires { Ready rules.table book.now (rows_in noted.now) (lent sites.old log.old kept.old.entries sent.old) (meaning step) × Placed book.now noted.now
         × (length (commands_of book.now) ≡ rules.commands) × Kept rules.table (rows_in noted.now) log.old kept.old }
-    ensures { Outcome rules.table (commands_of book.now) (meaning step) (lent sites.old log.old (kept_entries kept.old) sent.old)
-        result (lent sites.new log.new (kept_entries kept.new) sent.new)
+    ensures { Outcome rules.table (commands_of book.now) (meaning step) (lent sites.old log.old kept.old.entries sent.old)
+        result (lent sites.new log.new kept.new.entries sent.new)
         × Kept rules.table (rows_in noted.now) log.new kept.new }
 {
     let rows = &noted[commands::MAX_COMMANDS..];
@@ -76,12 +77,10 @@ pub fn step(
             closings::fast_delivery(sites, rules, book, noted, site, command)
         }
         Step::LogRead { site } => {
-            let entries = rounds::entries(&kept[..]);
+            let entries = kept.entries();
             moves::log_read(sites, entries, rules, site)
         }
-        Step::RoundEnd { site } => {
-            closings::round_end(sites, &kept[..], rules, book, noted, site)
-        }
+        Step::RoundEnd { site } => closings::round_end(sites, kept, rules, book, noted, site),
         _ => arrive(sites, &sent[..], rules, step),
     }
 }

@@ -7,7 +7,6 @@ use Rattle.commands.specs.Book.{commands_of}
 use Rattle.layout.specs.declared.Site.{Site}
 use Rattle.layout.specs.Layout.{site_size}
 use Rattle.ending.specs.Ending.{RoundEnded}
-use Rattle.rounds.specs.Rounds.{kept_entries}
 use Rattle.world.proofs.Sites.{at_site, head_at}
 use Rattle.closings.proofs.Closing.{good_part, sites_room, round-kept, end_no_site, end_role, end_carried, site_told, sets_fit}
 use Rattle.closings.proofs.round_end.Goals as goal
@@ -15,19 +14,19 @@ use Rattle.closings.proofs.round_end.Goals as goal
 pub returns-then-i-table : goal.returns-then-i-table
 returns-then-i-table c =
     let a = c.args in
-    λ log k. end_no_site a.rules.table (commands_of a.book.now) a.sites.now (λ n. (c.type_inv.sites n).fits) a.site log (kept_entries a.kept.now) (omega arith)
+    λ log k. end_no_site a.rules.table (commands_of a.book.now) a.sites.now (λ n. (c.type_inv.sites n).fits) a.site log a.kept.now.entries (omega arith)
 
 pub returns-then-is_faulty : goal.returns-then-is_faulty
 returns-then-is_faulty c =
     let a = c.args in
     let i : a.site < a.rules.table.sites = omega (arith, c.if-i-table.false) in
-    λ log k. end_role a.rules.table (commands_of a.book.now) a.sites.now (λ n. (c.type_inv.sites n).fits) a.site log (kept_entries a.kept.now) i c.is_faulty.ensures c.if-is_faulty.true
+    λ log k. end_role a.rules.table (commands_of a.book.now) a.sites.now (λ n. (c.type_inv.sites n).fits) a.site log a.kept.now.entries i c.is_faulty.ensures c.if-is_faulty.true
 
 pub decision-decision-requires : goal.decision-decision-requires
 decision-decision-requires c =
     let o = c in
     let a = o.args in
-    (o.requires.1.1.words.size, round-kept a.rules.table a.rules.commands a.sites.now a.site o.requires.0 (omega arith) (ap (λ (h : Site). h.round) (c.read-header.ensures ∙ head_at a.sites.now a.site ((a.site * site_size + site_size) - a.site * site_size) (omega arith))))
+    (round-kept a.rules.table a.rules.commands a.sites.now a.site o.requires.0 (omega arith) (ap (λ (h : Site). h.round) (c.read-header.ensures ∙ head_at a.sites.now a.site ((a.site * site_size + site_size) - a.site * site_size) (omega arith))))
 
 pub round_end-requires : goal.round_end-requires
 round_end-requires c =
@@ -52,7 +51,7 @@ returns c =
     let d = c.decision-decision in
     let r = c.round_end in
     λ log g.
-    end_carried a.rules.table (commands_of a.book.now) a.sites.now (λ n. (c.slice_known-1.given n).fits) a.site log (kept_entries a.kept.now) i c.is_faulty.ensures c.if-is_faulty.false d.result
+    end_carried a.rules.table (commands_of a.book.now) a.sites.now (λ n. (c.slice_known-1.given n).fits) a.site log a.kept.now.entries i c.is_faulty.ensures c.if-is_faulty.false d.result
     (site_told a.rules.table o.requires.2 a.book.now a.sites.now log g a.site i (λ z. (h z).position) (λ z. (h z).round) d.ensures)
     (at_site (λ b after. RoundEnded (commands_of a.book.now) d.result b r.result after) a.sites.now a.site k _ (omega arith)
     (sites_room a.rules.table a.rules.commands a.sites.now a.site o.requires.0 i) r.auto.site r.ensures)

@@ -8,7 +8,6 @@ use Rattle.std.specs.Prelude.{Ok}
 use Rattle.std.proofs.lemmas.Result.{err_from_is_err_and}
 use Rattle.layout.specs.declared.Site.{Site}
 use Rattle.layout.specs.Layout.{site_size}
-use Rattle.rounds.specs.Rounds.{kept_entries}
 use Rattle.world.specs.Parts.{lent}
 use Rattle.world.proofs.Sites.{at_site, length_part, head_at}
 use Rattle.conflicts.proofs.Laws.{rows_size}
@@ -20,14 +19,14 @@ pub returns-then-i-table : goal.returns-then-i-table
 returns-then-i-table c =
     let o = c in
     let a = o.args in
-    let b = lent a.sites.now a.log.now (kept_entries a.kept.now) a.sent.now in
+    let b = lent a.sites.now a.log.now a.kept.now.entries a.sent.now in
     ((λ book ready. turn_range a.rules.table book a.rows.now b a.site ready (λ k. (c.type_inv.sites k).fits) (omega arith)), o.requires.1)
 
 pub returns-then-is_faulty : goal.returns-then-is_faulty
 returns-then-is_faulty c =
     let o = c in
     let a = o.args in
-    let b = lent a.sites.now a.log.now (kept_entries a.kept.now) a.sent.now in
+    let b = lent a.sites.now a.log.now a.kept.now.entries a.sent.now in
     ((λ book ready. turn_role a.rules.table book a.rows.now b a.site ready (λ k. (c.type_inv.sites k).fits) (omega arith) c.is_faulty.ensures c.if-is_faulty.true), o.requires.1)
 
 pub read-header-requires : goal.read-header-requires
@@ -40,12 +39,11 @@ pub turn_by-requires : goal.turn_by-requires
 turn_by-requires c =
     let o = c in
     let a = o.args in
-    let b = lent a.sites.now a.log.now (kept_entries a.kept.now) a.sent.now in
+    let b = lent a.sites.now a.log.now a.kept.now.entries a.sent.now in
     let i : a.site < a.rules.table.sites = omega (arith, c.if-i-table.false) in
     let e = ap (λ (h : Site). h.round) (c.read-header.ensures ∙ head_at a.sites.now a.site ((a.site * site_size + site_size) - a.site * site_size) (omega arith)) in
     let p = round_told a.rules.table o.requires.0.0 a.rows.now b a.site o.requires.0.1 (λ k. (c.slice_known-1.given k).fits) i e in (
       length_part a.sites.now a.site ((a.site * site_size + site_size) - a.site * site_size) (omega arith) (omega (arith, o.requires.0.1.world.size)),
-      o.requires.1.size,
       ap length o.requires.0.1.conflicts ∙ rows_size o.requires.0.0,
       p.2,
       omega (arith, p.1, ap (λ (h : Site). h.round) c.read-header.ensures),
@@ -55,7 +53,7 @@ pub add_acknowledgment-requires : goal.add_acknowledgment-requires
 add_acknowledgment-requires c =
     let o = c in
     let a = o.args in
-    let b = lent a.sites.now a.log.now (kept_entries a.kept.now) a.sent.now in
+    let b = lent a.sites.now a.log.now a.kept.now.entries a.sent.now in
     let i : a.site < a.rules.table.sites = omega (arith, c.if-i-table.false) in
     let e = ap (λ (h : Site). h.round) (c.read-header.ensures ∙ head_at a.sites.now a.site ((a.site * site_size + site_size) - a.site * site_size) (omega arith)) in
     let p = round_told a.rules.table o.requires.0.0 a.rows.now b a.site o.requires.0.1 (λ k. (c.slice_known-1.given k).fits) i e in
@@ -72,7 +70,7 @@ pub put_check-requires : goal.put_check-requires
 put_check-requires c =
     let o = c in
     let a = o.args in
-    let b = lent a.sites.now a.log.now (kept_entries a.kept.now) a.sent.now in
+    let b = lent a.sites.now a.log.now a.kept.now.entries a.sent.now in
     let i : a.site < a.rules.table.sites = omega (arith, c.if-i-table.false) in
     let e = ap (λ (h : Site). h.round) (c.read-header.ensures ∙ head_at a.sites.now a.site ((a.site * site_size + site_size) - a.site * site_size) (omega arith)) in
     let p = round_told a.rules.table o.requires.0.0 a.rows.now b a.site o.requires.0.1 (λ k. (c.slice_known-1.given k).fits) i e in
@@ -82,7 +80,7 @@ pub append-requires : goal.append-requires
 append-requires c =
     let o = c in
     let a = o.args in
-    let b = lent a.sites.now a.log.now (kept_entries a.kept.now) a.sent.now in
+    let b = lent a.sites.now a.log.now a.kept.now.entries a.sent.now in
     let i : a.site < a.rules.table.sites = omega (arith, c.if-i-table.false) in
     let e = ap (λ (h : Site). h.round) (c.read-header.ensures ∙ head_at a.sites.now a.site ((a.site * site_size + site_size) - a.site * site_size) (omega arith)) in
     let p = round_told a.rules.table o.requires.0.0 a.rows.now b a.site o.requires.0.1 (λ k. (c.slice_known-1.given k).fits) i e in
@@ -92,7 +90,7 @@ pub returns-in_err-turn : goal.returns-in_err-turn
 returns-in_err-turn c =
     let o = c in
     let a = o.args in
-    let b = lent a.sites.now a.log.now (kept_entries a.kept.now) a.sent.now in
+    let b = lent a.sites.now a.log.now a.kept.now.entries a.sent.now in
     let i : a.site < a.rules.table.sites = omega (arith, c.if-i-table.false) in
     let h = at_site (TurnedBy a.rows.now a.kept.now a.site c.turn_by.result) a.sites.now a.site ((a.site * site_size + site_size) - a.site * site_size) _ (omega arith)
     (omega (arith, i, o.requires.0.1.world.size)) c.turn_by.auto.site c.turn_by.ensures in
@@ -103,7 +101,7 @@ pub returns-in-Acknowledged : goal.returns-in-Acknowledged
 returns-in-Acknowledged c =
     let o = c in
     let a = o.args in
-    let b = lent a.sites.now a.log.now (kept_entries a.kept.now) a.sent.now in
+    let b = lent a.sites.now a.log.now a.kept.now.entries a.sent.now in
     let i : a.site < a.rules.table.sites = omega (arith, c.if-i-table.false) in
     let e = ap (λ (h : Site). h.round) (c.read-header.ensures ∙ head_at a.sites.now a.site ((a.site * site_size + site_size) - a.site * site_size) (omega arith)) in
     let h = at_site (TurnedBy a.rows.now a.kept.now a.site c.turn_by.result) a.sites.now a.site ((a.site * site_size + site_size) - a.site * site_size) _ (omega arith)
@@ -117,7 +115,7 @@ pub returns-in-Proposed : goal.returns-in-Proposed
 returns-in-Proposed c =
     let o = c in
     let a = o.args in
-    let b = lent a.sites.now a.log.now (kept_entries a.kept.now) a.sent.now in
+    let b = lent a.sites.now a.log.now a.kept.now.entries a.sent.now in
     let i : a.site < a.rules.table.sites = omega (arith, c.if-i-table.false) in
     let e = ap (λ (h : Site). h.round) (c.read-header.ensures ∙ head_at a.sites.now a.site ((a.site * site_size + site_size) - a.site * site_size) (omega arith)) in
     let h = at_site (TurnedBy a.rows.now a.kept.now a.site c.turn_by.result) a.sites.now a.site ((a.site * site_size + site_size) - a.site * site_size) _ (omega arith)

@@ -8,7 +8,7 @@ use Rattle.moves.proofs.Turns.{turned_by}
 use Rattle.moves.proofs.turn_by.Goals as goal
 
 pub third-third-requires : goal.third-third-requires
-third-third-requires c = let s = c in (s.requires.1, s.requires.3, omega (arith, s.requires.4, ap (λ (h : Site). h.round) c.read-header.ensures))
+third-third-requires c = let s = c in (s.requires.2, omega (arith, s.requires.3, ap (λ (h : Site). h.round) c.read-header.ensures))
 
 pub returns : goal.returns
 returns c =

@@ -5,7 +5,7 @@ use Prim.Native.Nat.{◌+◌, ◌-◌, ◌*◌, ◌≤◌}
 use lib.ListN.{length}
 use Rattle.commands.specs.Book.{commands_of}
 use Rattle.conflicts.specs.Conflicts.{rows_in}
-use Rattle.rounds.specs.Rounds.{kept_entries, Kept}
+use Rattle.rounds.specs.Rounds.{Kept}
 use Rattle.world.specs.Parts.{lent}
 use Rattle.play.specs.Played.{line_room}
 use Rattle.play.proofs.Laws.{Playing}
@@ -19,7 +19,7 @@ invariant-loop-at l = (l.at ≤ length l.steps)
     × (length l.log ≡ length l.initial.log)
     × (length l.sent ≡ length l.initial.sent)
     × (length l.out ≡ length l.initial.out)
-    × Playing l.rules.table (commands_of l.book) l.steps l.initial.out l.from l.initial.sites (lent l.sites l.log (kept_entries l.kept) l.sent) l.out l.end l.at l.number
+    × Playing l.rules.table (commands_of l.book) l.steps l.initial.out l.from l.initial.sites (lent l.sites l.log l.kept.entries l.sent) l.out l.end l.at l.number
     × Kept l.rules.table (rows_in l.noted) l.log l.kept
 
 abbrev pub decreases-loop-at : goal.decreases-loop-at

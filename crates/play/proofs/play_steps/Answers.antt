@@ -1,9 +1,8 @@
--- `play::play_steps`: words that are all 0 keep what an empty log says.
--- Rests on rounds' Keeping.
+-- `play::play_steps`: what is kept at the start is that of a log with no entry.
+-- Assumes nothing.
 use mathlib.Core.Path.{sym, subst}
 use Prim.Native.Nat.{ℕ}
 use Rattle.conflicts.specs.Conflicts.{rows_in}
-use Rattle.rounds.proofs.Keeping.{none_yet, kept-start}
 use Rattle.world.specs.Parts.{lent}
 use Rattle.play.specs.Played.{Playable}
 use Rattle.play.proofs.play_steps.Goals as goal
@@ -11,7 +10,8 @@ use Rattle.play.proofs.play_steps.Goals as goal
 pub play_on-requires : goal.play_on-requires
 play_on-requires c =
     let o = c in
-    let a = o.args in (
-      subst (λ (n : ℕ). Playable a.rules a.book.now a.noted.now a.steps.now a.out.now a.from (lent a.sites.now a.log.now n a.sent.now)) (sym none_yet) o.requires,
-      kept-start a.rules.table (rows_in a.noted.now) a.log.now,
+    let a = o.args in
+    let e = c.none-kept.ensures in (
+      subst (λ (n : ℕ). Playable a.rules a.book.now a.noted.now a.steps.now a.out.now a.from (lent a.sites.now a.log.now n a.sent.now)) (sym e.0) o.requires,
+      e.1 a.rules.table (rows_in a.noted.now) a.log.now,
     )

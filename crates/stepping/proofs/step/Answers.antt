@@ -5,7 +5,6 @@ use mathlib.Core.Path.{refl, sym, ap, ◌∙◌}
 use lib.ListN.{length}
 use Rattle.commands.specs.Book.{commands_of}
 use Rattle.conflicts.proofs.Laws.{rows_size, rows-room, rows-rest}
-use Rattle.rounds.specs.Rounds.{kept_entries}
 use Rattle.world.specs.Parts.{lent}
 use Rattle.stepping.proofs.Arms.{is_arrival, arm, ready_as, kept_by, read_to, good_sites, kept_log, few}
 use Rattle.stepping.proofs.step.Goals as goal
@@ -14,7 +13,7 @@ pub false_entry-requires : goal.false_entry-requires
 false_entry-requires c =
     let o = c in
     let a = o.args in
-    let b = lent a.sites.now a.log.now (kept_entries a.kept.now) a.sent.now in
+    let b = lent a.sites.now a.log.now a.kept.now.entries a.sent.now in
     let same = rows-rest a.book.now a.noted.now o.requires.0.conflicts in
     (o.requires.0.room, o.requires.0.table, kept_by a.rules.table a.log.now (sym same) o.requires.3, ap length (same ∙ o.requires.0.conflicts) ∙ rows_size a.book.now)
 
@@ -22,7 +21,7 @@ pub turn-requires : goal.turn-requires
 turn-requires c =
     let o = c in
     let a = o.args in
-    let b = lent a.sites.now a.log.now (kept_entries a.kept.now) a.sent.now in
+    let b = lent a.sites.now a.log.now a.kept.now.entries a.sent.now in
     let same = rows-rest a.book.now a.noted.now o.requires.0.conflicts in
     ((a.book.now, ready_as a.rules.table a.book.now b c.in-Turn.is same o.requires.0), kept_by a.rules.table a.log.now (sym same) o.requires.3)
 
@@ -30,7 +29,7 @@ pub fast_delivery-requires : goal.fast_delivery-requires
 fast_delivery-requires c =
     let o = c in
     let a = o.args in
-    let b = lent a.sites.now a.log.now (kept_entries a.kept.now) a.sent.now in
+    let b = lent a.sites.now a.log.now a.kept.now.entries a.sent.now in
     let same = rows-rest a.book.now a.noted.now o.requires.0.conflicts in
     (good_sites a.rules.table a.book.now a.rules.commands b o.requires.2 o.requires.0.world, o.requires.0.table, o.requires.1, o.requires.2)
 
@@ -38,7 +37,7 @@ pub log_read-requires : goal.log_read-requires
 log_read-requires c =
     let o = c in
     let a = o.args in
-    let b = lent a.sites.now a.log.now (kept_entries a.kept.now) a.sent.now in
+    let b = lent a.sites.now a.log.now a.kept.now.entries a.sent.now in
     let same = rows-rest a.book.now a.noted.now o.requires.0.conflicts in
     let w = o.requires.0.world in
     (w.size, omega (arith, w.room, w.short, c.entries-entries.ensures))
@@ -47,7 +46,7 @@ pub round_end-requires : goal.round_end-requires
 round_end-requires c =
     let o = c in
     let a = o.args in
-    let b = lent a.sites.now a.log.now (kept_entries a.kept.now) a.sent.now in
+    let b = lent a.sites.now a.log.now a.kept.now.entries a.sent.now in
     let same = rows-rest a.book.now a.noted.now o.requires.0.conflicts in
     (good_sites a.rules.table a.book.now a.rules.commands b o.requires.2 o.requires.0.world, (a.log.now, kept_log a.rules.table a.book.now a.rules.commands b o.requires.2 o.requires.0.world o.requires.0.conflicts (λ k. (c.type_inv.log k).fits) refl o.requires.3), o.requires.0.table, o.requires.1, o.requires.2)
 
@@ -55,7 +54,7 @@ pub arrive-requires : goal.arrive-requires
 arrive-requires c =
     let o = c in
     let a = o.args in
-    let b = lent a.sites.now a.log.now (kept_entries a.kept.now) a.sent.now in
+    let b = lent a.sites.now a.log.now a.kept.now.entries a.sent.now in
     let same = rows-rest a.book.now a.noted.now o.requires.0.conflicts in
     (o.requires.0.world.size, o.requires.0.table, o.requires.0.world.sent, few a.rules.table a.book.now a.rules.commands b o.requires.2 o.requires.0.world)
 
@@ -63,7 +62,7 @@ pub returns-in-FalseEntry : goal.returns-in-FalseEntry
 returns-in-FalseEntry c =
     let o = c in
     let a = o.args in
-    let b = lent a.sites.now a.log.now (kept_entries a.kept.now) a.sent.now in
+    let b = lent a.sites.now a.log.now a.kept.now.entries a.sent.now in
     let same = rows-rest a.book.now a.noted.now o.requires.0.conflicts in
     let e = c.false_entry.ensures in (
       arm a.rules.table (commands_of a.book.now) b _ c.in-FalseEntry.is
@@ -75,7 +74,7 @@ pub returns-in-Turn : goal.returns-in-Turn
 returns-in-Turn c =
     let o = c in
     let a = o.args in
-    let b = lent a.sites.now a.log.now (kept_entries a.kept.now) a.sent.now in
+    let b = lent a.sites.now a.log.now a.kept.now.entries a.sent.now in
     let same = rows-rest a.book.now a.noted.now o.requires.0.conflicts in
     let e = c.turn.ensures in
     (arm a.rules.table (commands_of a.book.now) b _ c.in-Turn.is (e.0 a.book.now (ready_as a.rules.table a.book.now b c.in-Turn.is same o.requires.0)), kept_by a.rules.table _ same e.1)
@@ -84,15 +83,15 @@ pub returns-in-FastDelivery : goal.returns-in-FastDelivery
 returns-in-FastDelivery c =
     let o = c in
     let a = o.args in
-    let b = lent a.sites.now a.log.now (kept_entries a.kept.now) a.sent.now in
+    let b = lent a.sites.now a.log.now a.kept.now.entries a.sent.now in
     let same = rows-rest a.book.now a.noted.now o.requires.0.conflicts in
-    (arm a.rules.table (commands_of a.book.now) b _ c.in-FastDelivery.is (c.fast_delivery.ensures a.log.now (kept_entries a.kept.now) a.sent.now o.requires.0.world), o.requires.3)
+    (arm a.rules.table (commands_of a.book.now) b _ c.in-FastDelivery.is (c.fast_delivery.ensures a.log.now a.kept.now.entries a.sent.now o.requires.0.world), o.requires.3)
 
 pub returns-in-LogRead : goal.returns-in-LogRead
 returns-in-LogRead c =
     let o = c in
     let a = o.args in
-    let b = lent a.sites.now a.log.now (kept_entries a.kept.now) a.sent.now in
+    let b = lent a.sites.now a.log.now a.kept.now.entries a.sent.now in
     let same = rows-rest a.book.now a.noted.now o.requires.0.conflicts in
     (arm a.rules.table (commands_of a.book.now) b _ c.in-LogRead.is (read_to a.rules.table _ a.sites.now _ c.entries-entries.ensures c.log_read.ensures (commands_of a.book.now) a.log.now a.sent.now o.requires.0.world), o.requires.3)
 
@@ -100,7 +99,7 @@ pub returns-in-RoundEnd : goal.returns-in-RoundEnd
 returns-in-RoundEnd c =
     let o = c in
     let a = o.args in
-    let b = lent a.sites.now a.log.now (kept_entries a.kept.now) a.sent.now in
+    let b = lent a.sites.now a.log.now a.kept.now.entries a.sent.now in
     let same = rows-rest a.book.now a.noted.now o.requires.0.conflicts in
     (arm a.rules.table (commands_of a.book.now) b _ c.in-RoundEnd.is (c.round_end.ensures a.log.now (kept_log a.rules.table a.book.now a.rules.commands b o.requires.2 o.requires.0.world o.requires.0.conflicts (λ k. (c.type_inv.log k).fits) refl o.requires.3) a.sent.now o.requires.0.world), o.requires.3)
 
@@ -108,9 +107,9 @@ pub returns-in_default : goal.returns-in_default
 returns-in_default c =
     let o = c in
     let a = o.args in
-    let b = lent a.sites.now a.log.now (kept_entries a.kept.now) a.sent.now in
+    let b = lent a.sites.now a.log.now a.kept.now.entries a.sent.now in
     let same = rows-rest a.book.now a.noted.now o.requires.0.conflicts in
-    (c.arrive.ensures (is_arrival a.step c.in_default.in_default-own.keys6) (commands_of a.book.now) a.log.now (kept_entries a.kept.now) (sym o.requires.2) o.requires.0.world, o.requires.3)
+    (c.arrive.ensures (is_arrival a.step c.in_default.in_default-own.keys6) (commands_of a.book.now) a.log.now a.kept.now.entries (sym o.requires.2) o.requires.0.world, o.requires.3)
 
 pub slice_bounds-rows-count : goal.slice_bounds-rows-count
 slice_bounds-rows-count c = omega (arith, rows-room c.args.book.now c.args.noted.now c.requires.0.conflicts)
