@@ -1,18 +1,18 @@
 -- The decision of a round at every log position, with one entry more.
 -- Assumes nothing.
 use mathlib.Core.Path.{◌≡◌, refl, sym, ap, ◌∙◌, subst}
-use Rattle.std.specs.Prelude.{None, Some, Option}
-use mathlib.Core.Bool.{Bool, true, false, ◌&&◌, not}
+use Rattle.std.specs.Prelude.{None, Some, Option, is_some, IsSome, IsNone, IfSome}
+use Rattle.std.proofs.lemmas.Option.{IfSome_then}
+use mathlib.Core.Bool.{Bool, true, false, not}
 use mathlib.Core.List.{List}
 use mathlib.Core.Logic.{◌⊎◌, inl, inr}
 use Prim.Native.Nat.{ℕ, zero, suc, ◌+◌, ◌≤◌, ◌<◌}
-use native.Mathlib.Decide.{ℕ_discrete}
 use native.Mathlib.Numerals.{add-one}
 use native.Mathlib.Omega.{arith}
-use lib.Dec.{eqb, leb, ltb}
-use borrow.Author.Tests.{lt-ltb, le-ltb, le-leb, lt-leb, eq-eqb}
+use lib.Dec.{eqb, ltb}
+use borrow.Author.Tests.{lt-ltb, le-leb, lt-leb, eq-eqb}
 use Rattle.theory.specs.Sets.{pick}
-use Rattle.theory.specs.Counting.{both, not-true, last_or_below}
+use Rattle.theory.specs.Counting.{both, never, not-true, last_or_below}
 use Rattle.sets.specs.declared.Set.{Set}
 use Rattle.table.specs.declared.SiteTable.{SiteTable}
 use Rattle.table.specs.Table.{is_good}
@@ -28,28 +28,22 @@ use Rattle.standing.proofs.Steps.{other_round}
 use Rattle.recovery.specs.declared.Sets.{Sets}
 use Rattle.recovery.specs.Decisions.{decision_of, found_sets}
 use Rattle.recovery.proofs.Decided.{not_decided, is_decided}
+use Rattle.rounds.specs.declared.Decided.{Decided}
 use Rattle.rounds.specs.declared.Round.{Round}
 use Rattle.rounds.specs.Rounds.{answer_at, Decides}
 
 -- ---- the answer of a round, one law for each
 
-module _ (x : Round) (p : ℕ) where
-  abbrev chosen : Bool → Option Sets
-  chosen t = pick t (Some x.sets) None
+answer-none : (o : Option Decided) (p : ℕ) → IsNone o → None ≡ answer_at o p
+answer-none None p e = refl
+answer-none (Some d) p e = cc
 
-  pub answer-none : x.decided ≡ 0 → None ≡ answer_at x p
-  answer-none e = ap (λ (t : Bool). chosen (t && leb x.decided p)) (sym (le-ltb 0 x.decided (omega arith)))
+module _ (d : Decided) (p : ℕ) where
+  answer_later : p < d.place → None ≡ answer_at (Some d) p
+  answer_later l = ap (λ (t : Bool). pick t (Some d.sets) None) (sym (lt-leb d.place p l))
 
-  pub answer_later : p < x.decided → None ≡ answer_at x p
-  answer_later l = ap chosen (sym (two (ltb 0 x.decided) (lt-leb x.decided p l)))
-    where
-      two : (t : Bool) {s : Bool} → s ≡ false → (t && s) ≡ false
-      two true e = e
-      two false e = refl
-
-  pub answer-sets : 0 < x.decided → x.decided ≤ p → Some x.sets ≡ answer_at x p
-  answer-sets g l =
-      ap chosen (sym (both (ltb 0 x.decided) (leb x.decided p) (lt-ltb 0 x.decided g) (le-leb x.decided p l)))
+  answer-sets : d.place ≤ p → Some d.sets ≡ answer_at (Some d) p
+  answer-sets l = ap (λ (t : Bool). pick t (Some d.sets) None) (sym (le-leb d.place p l))
 
 -- ---- the standing with one entry more
 
@@ -76,7 +70,7 @@ module _ (t : SiteTable) (rows log : List ℕ) (k r : ℕ) where
 
   module _ (x : Round) (h : Decides log k r t rows x) where
     -- While no entry decides: the standing with an entry of the round,
-    module _ (z : x.decided ≡ 0) where
+    module _ (z : IsNone x.decided) where
       pub standing_own : (entry_of log k).round ≡ r → (entry_of log k).site < t.sites → {s : Standing}
           → s ≡ with_entry t rows r (k + 1) (entry_of log k) (record { seen = x.once; valid = x.valid; decided = false; entries = k })
           → s ≡ standing_of t rows r log (k + 1)
@@ -93,50 +87,56 @@ module _ (t : SiteTable) (rows log : List ℕ) (k r : ℕ) where
 
     -- ---- the decision with one entry more
 
-    next : (y : Round) → ((p : ℕ) → p ≤ k → answer_at x p ≡ answer_at y p)
-        → decision_of (rows_system t rows) (decide (rows_system t rows) r (log_to log (k + 1))) ≡ answer_at y (k + 1)
-        → (p : ℕ) → p ≤ k + 1 → decision_of (rows_system t rows) (decide (rows_system t rows) r (log_to log p)) ≡ answer_at y p
-    next y same last p l = go (last_or_below p (k + 1) (omega arith))
+    next : (o : Option Decided) → ((p : ℕ) → p ≤ k → answer_at x.decided p ≡ answer_at o p)
+        → decision_of (rows_system t rows) (decide (rows_system t rows) r (log_to log (k + 1))) ≡ answer_at o (k + 1)
+        → (p : ℕ) → p ≤ k + 1 → decision_of (rows_system t rows) (decide (rows_system t rows) r (log_to log p)) ≡ answer_at o p
+    next o same last p l = go (last_or_below p (k + 1) (omega arith))
       where
-        go : (p ≡ k + 1) ⊎ (p < k + 1) → decision_of (rows_system t rows) (decide (rows_system t rows) r (log_to log p)) ≡ answer_at y p
-        go (inl q) = subst (λ (n : ℕ). decision_of (rows_system t rows) (decide (rows_system t rows) r (log_to log n)) ≡ answer_at y n) (sym q) last
+        go : (p ≡ k + 1) ⊎ (p < k + 1) → decision_of (rows_system t rows) (decide (rows_system t rows) r (log_to log p)) ≡ answer_at o p
+        go (inl q) = subst (λ (n : ℕ). decision_of (rows_system t rows) (decide (rows_system t rows) r (log_to log n)) ≡ answer_at o n) (sym q) last
         go (inr g) = h.answers p (omega arith) ∙ same p (omega arith)
 
+    placed : IfSome x.decided (λ d. d.place ≤ k + 1)
+    placed = IfSome_then x.decided h.place (λ d l. omega arith)
+
     -- A decided round stays as it is, whatever is counted.
-    stays : 0 < x.decided → decision_of (rows_system t rows) (decide (rows_system t rows) r (log_to log (k + 1))) ≡ Some x.sets
-    stays g = go (decide (rows_system t rows) r (log_to log k)) refl (h.answers k (omega arith) ∙ sym (answer-sets x k g h.place))
+    stays : IsSome x.decided → decision_of (rows_system t rows) (decide (rows_system t rows) r (log_to log (k + 1))) ≡ answer_at x.decided (k + 1)
+    stays g = decided x.decided g h.place (h.answers k (omega arith))
       where
-        go : (o : Option Tally) → decide (rows_system t rows) r (log_to log k) ≡ o → decision_of (rows_system t rows) o ≡ Some x.sets
-            → decision_of (rows_system t rows) (decide (rows_system t rows) r (log_to log (k + 1))) ≡ Some x.sets
-        go None e q = absurd (let z : ◌≡◌ {A = ℕ} 0 1 = cc in omega arith)
-        go (Some d) e q =
+        go : (s : Sets) (o : Option Tally) → decide (rows_system t rows) r (log_to log k) ≡ o → decision_of (rows_system t rows) o ≡ Some s
+            → decision_of (rows_system t rows) (decide (rows_system t rows) r (log_to log (k + 1))) ≡ Some s
+        go s None e q = cc
+        go s (Some d) e q =
             ap (decision_of (rows_system t rows))
             (ap (λ (n : ℕ). decide (rows_system t rows) r (log_to log n)) (add-one k) ∙ decide_stays (rows_system t rows) r log k d e)
             ∙ q
 
-    pub decided_stays : 0 < x.decided → (once twice : Set) (first : ℕ)
-        → Decides log (k + 1) r t rows
-        (record { once = once; twice = twice; valid = x.valid; decided = x.decided; sets = x.sets; first = first })
+        decided : (o : Option Decided) → IsSome o → IfSome o (λ d. d.place ≤ k)
+            → decision_of (rows_system t rows) (decide (rows_system t rows) r (log_to log k)) ≡ answer_at o k
+            → decision_of (rows_system t rows) (decide (rows_system t rows) r (log_to log (k + 1))) ≡ answer_at o (k + 1)
+        decided None g l e = cc
+        decided (Some d) g l e =
+            go d.sets (decide (rows_system t rows) r (log_to log k)) refl (e ∙ sym (answer-sets d k l)) ∙ answer-sets d (k + 1) (omega arith)
+
+    pub decided_stays : IsSome x.decided → (once twice : Set) (first : Option ℕ)
+        → Decides log (k + 1) r t rows (record { once = once; twice = twice; valid = x.valid; decided = x.decided; first = first })
     decided_stays g once twice first =
-        let y : Round = record { once = once; twice = twice; valid = x.valid; decided = x.decided; sets = x.sets; first = first } in
         record {
-          place = omega (arith, h.place);
-          answers = next y (λ p l. refl) (stays g ∙ answer-sets y (k + 1) g (omega (arith, h.place)));
-          waits = λ z. absurd (omega arith);
-          seen = λ z. absurd (omega arith);
-          valid = λ z. absurd (omega arith);
+          place = placed;
+          answers = next x.decided (λ p l. refl) (stays g);
+          waits = λ z. absurd (never (is_some x.decided) g z);
+          seen = λ z. absurd (never (is_some x.decided) g z);
+          valid = λ z. absurd (never (is_some x.decided) g z);
         }
 
-    module _ (good : is_good t ≡ true) (z : x.decided ≡ 0) {s : Standing} (es : s ≡ standing_of t rows r log (k + 1)) where
+    module _ (good : is_good t ≡ true) (z : IsNone x.decided) {s : Standing} (es : s ≡ standing_of t rows r log (k + 1)) where
       -- An entry that does not decide.
-      pub still_waits : not s.decided ≡ true → (twice : Set) (first : ℕ)
-          → Decides log (k + 1) r t rows
-          (record { once = s.seen; twice = twice; valid = s.valid; decided = x.decided; sets = x.sets; first = first })
+      pub still_waits : not s.decided ≡ true → (twice : Set) (first : Option ℕ)
+          → Decides log (k + 1) r t rows (record { once = s.seen; twice = twice; valid = s.valid; decided = x.decided; first = first })
       still_waits d twice first =
-          let y : Round = record { once = s.seen; twice = twice; valid = s.valid; decided = x.decided; sets = x.sets; first = first } in
           record {
-            place = omega (arith, h.place);
-            answers = next y (λ p l. refl) (sym (not_decided t rows r log good (k + 1) es d) ∙ answer-none y (k + 1) z);
+            place = placed;
+            answers = next x.decided (λ p l. refl) (sym (not_decided t rows r log good (k + 1) es d) ∙ answer-none x.decided (k + 1) z);
             waits = λ q. ap (λ (w : Standing). w.decided) (sym es) ∙ not-true s.decided d;
             seen = λ q. ap (λ (w : Standing). w.seen) (sym es);
             valid = λ q. ap (λ (w : Standing). w.valid) (sym es);
@@ -144,37 +144,36 @@ module _ (t : SiteTable) (rows log : List ℕ) (k r : ℕ) where
 
       -- The entry that decides.
       pub now_decided : not s.decided ≡ false → s.entries ≡ k + 1 → (found : Sets) → found ≡ found_sets t log r s.valid (k + 1)
-          → (once twice valid : Set) (first : ℕ)
+          → (once twice valid : Set) (first : Option ℕ)
           → Decides log (k + 1) r t rows
-          (record { once = once; twice = twice; valid = valid; decided = k + 1; sets = found; first = first })
+          (record { once = once; twice = twice; valid = valid; decided = Some (record { place = k + 1; sets = found }); first = first })
       now_decided d en found ef once twice valid first =
-          let y : Round = record { once = once; twice = twice; valid = valid; decided = k + 1; sets = found; first = first } in
+          let y : Decided = record { place = k + 1; sets = found } in
           record {
             place = omega arith;
-            answers = next y (λ p l. sym (answer-none x p z) ∙ answer_later y p (omega arith))
-                (sym (is_decided t rows r log good (k + 1) es d (ef ∙ ap (found_sets t log r s.valid) (sym en)))
-                ∙ answer-sets y (k + 1) (omega arith) (omega arith));
-            waits = λ q. absurd (omega arith);
-            seen = λ q. absurd (omega arith);
-            valid = λ q. absurd (omega arith);
+            answers = next (Some y) (λ p l. sym (answer-none x.decided p z) ∙ answer_later y p (omega arith))
+                (sym (is_decided t rows r log good (k + 1) es d (ef ∙ ap (found_sets t log r s.valid) (sym en))) ∙ answer-sets y (k + 1) (omega arith));
+            waits = λ q. cc;
+            seen = λ q. cc;
+            valid = λ q. cc;
           }
 
     -- An entry of another round.
     pub decides_other : is_good t ≡ true → ((entry_of log k).round ≡ r → ⊥) → Decides log (k + 1) r t rows x
-    decides_other good d = go (ℕ_discrete x.decided 0)
+    decides_other good d = go (is_some x.decided) refl
       where
-        go : Dec (x.decided ≡ 0) → Decides log (k + 1) r t rows x
-        go (yes z) =
+        go : (b : Bool) → is_some x.decided ≡ b → Decides log (k + 1) r t rows x
+        go true g = decided_stays g x.once x.twice x.first
+        go false z =
             let es = standing_other z d in
             record {
-              place = omega (arith, h.place);
-              answers = next x (λ p l. refl)
-                  (sym (not_decided t rows r log good (k + 1) {s = standing_of t rows r log k} es (ap not (h.waits z))) ∙ answer-none x (k + 1) z);
+              place = placed;
+              answers = next x.decided (λ p l. refl)
+                  (sym (not_decided t rows r log good (k + 1) {s = standing_of t rows r log k} es (ap not (h.waits z))) ∙ answer-none x.decided (k + 1) z);
               waits = λ q. ap (λ (w : Standing). w.decided) (sym es) ∙ h.waits z;
               seen = λ q. ap (λ (w : Standing). w.seen) (sym es) ∙ h.seen z;
               valid = λ q. ap (λ (w : Standing). w.valid) (sym es) ∙ h.valid z;
             }
-        go (no n) = decided_stays (omega arith) x.once x.twice x.first
 
 -- The same entries decide the same.
 standing_same : (t : SiteTable) (rows : List ℕ) (r : ℕ) (a b : List ℕ) (k : ℕ) → ((i : ℕ) → i < k → entry_of a i ≡ entry_of b i)

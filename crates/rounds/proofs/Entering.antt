@@ -3,8 +3,8 @@
 use mathlib.Core.Path.{◌≡◌, refl, sym, ap, ◌∙◌, subst}
 use mathlib.Core.Bool.{Bool, true, false, not}
 use mathlib.Core.List.{List}
+use Rattle.std.specs.Prelude.{is_some, IsSome, IsNone}
 use Prim.Native.Nat.{ℕ, ◌+◌, ◌<◌}
-use native.Mathlib.Decide.{ℕ_discrete}
 use native.Mathlib.Omega.{arith}
 use lib.Dec.{eqb}
 use borrow.Author.Tests.{eq-eqb, ne_eqb}
@@ -29,7 +29,7 @@ use Rattle.rounds.proofs.Answers.{standing_own, decided_stays, still_waits, now_
 -- A round with other valid sources.
 abbrev pub with_valid : Round → Set → Round
 with_valid x v =
-    record { once = x.once; twice = x.twice; valid = v; decided = x.decided; sets = x.sets; first = x.first }
+    record { once = x.once; twice = x.twice; valid = v; decided = x.decided; first = x.first }
 
 module _ (t : SiteTable) (rows log : List ℕ) (k r : ℕ) (x : Round) (good : is_good t ≡ true)
     (er : (entry_of log k).round ≡ r) (hc : Counts log k r x) (hd : Decides log k r t rows x)
@@ -41,10 +41,10 @@ module _ (t : SiteTable) (rows log : List ℕ) (k r : ℕ) (x : Round) (good : i
   abbrev after : Set → Standing
   after v = record { seen = with_of x.once site; valid = v; decided = eqb (size_of v) (n_chk_of t); entries = k + 1 }
 
-  few_valid : x.decided ≡ 0 → size_of x.valid < n_chk_of t
+  few_valid : IsNone x.decided → size_of x.valid < n_chk_of t
   few_valid z = subst (λ (v : Set). size_of v < n_chk_of t) (hd.valid z) (too_few t rows r log good k (hd.waits z))
 
-  stands : x.decided ≡ 0 → {v : Set} → v ≡ valid_after rows site (entry_of log k).nc waiting
+  stands : IsNone x.decided → {v : Set} → v ≡ valid_after rows site (entry_of log k).nc waiting
       → after v ≡ standing_of t rows r log (k + 1)
   stands z ev =
       standing_own t rows log k r x hd z er (omega arith)
@@ -57,11 +57,11 @@ module _ (t : SiteTable) (rows log : List ℕ) (k r : ℕ) (x : Round) (good : i
     noted = let l = (good_limits t good).sites in counts_first log k r x site er (sym es) (omega arith) hc n
 
     -- A decided round.
-    first_decided : (x.decided ≡ 0 → ⊥) → Decides log (k + 1) r t rows (noted_of x site (k + 1))
-    first_decided d = decided_stays t rows log k r x hd (omega arith) (with_of x.once site) x.twice (noted_of x site (k + 1)).first
+    first_decided : IsSome x.decided → Decides log (k + 1) r t rows (noted_of x site (k + 1))
+    first_decided d = decided_stays t rows log k r x hd d (with_of x.once site) x.twice (noted_of x site (k + 1)).first
 
     -- A round that waits, with an entry of which it is known whether its NC is free.
-    module _ (z : x.decided ≡ 0) {f : Bool} (ef : f ≡ free_by rows (in_set (entry_of log k).nc)) where
+    module _ (z : IsNone x.decided) {f : Bool} (ef : f ≡ free_by rows (in_set (entry_of log k).nc)) where
       first_unfree : not f ≡ true → Decides log (k + 1) r t rows (noted_of x site (k + 1))
       first_unfree g =
           still_waits t rows log k r x hd good z
@@ -88,14 +88,14 @@ module _ (t : SiteTable) (rows log : List ℕ) (k r : ℕ) (x : Round) (good : i
     -- ---- the code's round after the note of a first entry
 
     module _ {y : Round} (ey : y ≡ noted_of x site (k + 1)) where
-      pub taken_decided : (y.decided ≡ 0 → ⊥) → Counts log (k + 1) r y × Decides log (k + 1) r t rows y
+      pub taken_decided : IsSome y.decided → Counts log (k + 1) r y × Decides log (k + 1) r t rows y
       taken_decided d =
           subst (λ (w : Round). Counts log (k + 1) r w × Decides log (k + 1) r t rows w) (sym ey)
-          (noted, first_decided (λ z. d (ap (λ (w : Round). w.decided) ey ∙ z)))
+          (noted, first_decided (sym (ap (λ (w : Round). is_some w.decided) ey) ∙ d))
 
-      module _ (u : y.decided ≡ 0) {f : Bool} (ef : f ≡ free_by rows (in_set (entry_of log k).nc)) where
-        waits : x.decided ≡ 0
-        waits = sym (ap (λ (w : Round). w.decided) ey) ∙ u
+      module _ (u : IsNone y.decided) {f : Bool} (ef : f ≡ free_by rows (in_set (entry_of log k).nc)) where
+        waits : IsNone x.decided
+        waits = sym (ap (λ (w : Round). is_some w.decided) ey) ∙ u
 
         pub taken_unfree : f ≡ false → Counts log (k + 1) r y × Decides log (k + 1) r t rows y
         taken_unfree g =
@@ -134,34 +134,32 @@ module _ (t : SiteTable) (rows log : List ℕ) (k r : ℕ) (x : Round) (good : i
     again_counts = let l = (good_limits t good).sites in counts_again log k r x site er (sym es) (omega arith) hc n
 
     again_decides : Decides log (k + 1) r t rows (again_of x site)
-    again_decides = go (ℕ_discrete x.decided 0)
+    again_decides = go (is_some x.decided) refl
       where
-        go : Dec (x.decided ≡ 0) → Decides log (k + 1) r t rows (again_of x site)
-        go (yes z) =
+        go : (b : Bool) → is_some x.decided ≡ b → Decides log (k + 1) r t rows (again_of x site)
+        go false z =
             let v = without_of x.valid (with_of empty_of site) in
             subst (λ (y : Round). Decides log (k + 1) r t rows y)
             (λ i. record {
               once = with_member x.once site n i;
               twice = with_of x.twice site;
-              valid = pick (sym (eq-eqb x.decided 0 z) i) v x.valid;
+              valid = pick (sym z i) x.valid v;
               decided = x.decided;
-              sets = x.sets;
               first = x.first;
             })
             (still_waits t rows log k r x hd good z (stands z (second_entry rows site (entry_of log k).nc waiting refl n refl refl refl))
             (ap not (ne_eqb (size_of v) (n_chk_of t) (λ q. omega (arith, few_valid z, less_fewer x.valid site))))
             (with_of x.twice site) x.first)
-        go (no d) =
+        go true d =
             subst (λ (y : Round). Decides log (k + 1) r t rows y)
             (λ i. record {
               once = x.once;
               twice = with_of x.twice site;
-              valid = pick (sym (ne_eqb x.decided 0 d) i) (without_of x.valid (with_of empty_of site)) x.valid;
+              valid = pick (sym d i) x.valid (without_of x.valid (with_of empty_of site));
               decided = x.decided;
-              sets = x.sets;
               first = x.first;
             })
-            (decided_stays t rows log k r x hd (omega arith) x.once (with_of x.twice site) x.first)
+            (decided_stays t rows log k r x hd d x.once (with_of x.twice site) x.first)
 
     pub taken_again : {y : Round} → y ≡ again_of x site → Counts log (k + 1) r y × Decides log (k + 1) r t rows y
     taken_again ey = subst (λ (w : Round). Counts log (k + 1) r w × Decides log (k + 1) r t rows w) (sym ey) (again_counts, again_decides)

@@ -25,7 +25,7 @@ use Rattle.rounds.specs.declared.Round.{Round}
 use Rattle.rounds.specs.declared.Rounds.{Rounds}
 use Rattle.rounds.specs.Rounds.{kept_rounds, unheard, round_in, Counts, Decides, KeptTo, Kept}
 use Rattle.rounds.proofs.Sites.{counts_other, counts_same}
-use Rattle.rounds.proofs.Answers.{answer-none, decides_other, decides_same}
+use Rattle.rounds.proofs.Answers.{decides_other, decides_same}
 
 -- ---- the start
 
@@ -35,18 +35,17 @@ unheard_counts log r =
       once = λ j l. in_empty j ∙ ap (ltb 0) (entries_none log j r);
       twice = λ j l. in_empty j ∙ ap (λ (n : ℕ). not (ltb n 2)) (entries_none log j r);
       first = λ i l e. absurd (omega arith);
-      within = omega arith;
+      within = tt;
     }
 
 unheard_decides : (t : SiteTable) (rows log : List ℕ) (r : ℕ) → Decides log 0 r t rows unheard
 unfolding standing_of
 unheard_decides t rows log r =
     record {
-      place = omega arith;
+      place = tt;
       answers = λ p l. let q : p ≡ 0 = omega arith in
           ap (λ (n : ℕ). decision_of (rows_system t rows) (decide (rows_system t rows) r (log_to log n))) q
-          ∙ ap (decision_of (rows_system t rows)) (decide-none (rows_system t rows) r log)
-          ∙ answer-none unheard p refl;
+          ∙ ap (decision_of (rows_system t rows)) (decide-none (rows_system t rows) r log);
       waits = λ z. refl;
       seen = λ z. refl;
       valid = λ z. refl;

@@ -1,16 +1,18 @@
 -- Who has entries of a round, and where its first is, with one entry more.
 -- Assumes nothing.
 use mathlib.Core.Path.{◌≡◌, refl, sym, ap, ◌∙◌}
-use mathlib.Core.Bool.{Bool, true, false, not}
+use Rattle.std.specs.Prelude.{None, Some, Option, IsSome, IfSome, IsSomeAnd}
+use Rattle.std.specs.Option.{option_or}
+use Rattle.std.proofs.lemmas.Option.{IfSome_then}
+use mathlib.Core.Bool.{true, false, not}
 use mathlib.Core.List.{List}
 use mathlib.Core.Logic.{◌⊎◌, inl, inr}
 use Prim.Native.Nat.{ℕ, zero, suc, ◌+◌, ◌≤◌, ◌<◌}
 use native.Mathlib.Decide.{ℕ_discrete}
 use native.Mathlib.Numerals.{add-one}
 use native.Mathlib.Omega.{arith}
-use lib.Dec.{eqb, ltb}
-use borrow.Author.Tests.{lt-ltb, le-ltb, ltb-true, ltb-false, eqb-true, eqb-false}
-use Rattle.theory.specs.Sets.{pick}
+use lib.Dec.{ltb}
+use borrow.Author.Tests.{lt-ltb, le-ltb, ltb-true, ltb-false}
 use Rattle.theory.specs.Counting.{last_or_below}
 use Rattle.sets.specs.declared.Set.{Set}
 use Rattle.sets.specs.Sets.{in_set, with_of}
@@ -39,6 +41,39 @@ some_entry log j r (suc k) l = go (ℕ_discrete (entry_of log k).round r) (some_
         let w = f (omega arith) in
         (w.0, omega (arith, w.1), w.2)
 
+-- ---- the place of the first entry
+
+module _ (k : ℕ) where
+  within_next : (o : Option ℕ) → IfSome o (λ f. (0 < f) × (f ≤ k)) → IfSome o (λ f. (0 < f) × (f ≤ k + 1))
+  within_next o h = IfSome_then o h (λ f l. (l.0, omega (arith, l.1)))
+
+  within_more : (o : Option ℕ) → IfSome o (λ f. (0 < f) × (f ≤ k)) → IfSome (option_or o (Some (k + 1))) (λ f. (0 < f) × (f ≤ k + 1))
+  within_more None h = (omega arith, omega arith)
+  within_more (Some f) h = within_next (Some f) h
+
+  first_own : (o : Option ℕ) → IfSome o (λ f. (0 < f) × (f ≤ k)) → (i : ℕ) → i ≡ k → IsSomeAnd (option_or o (Some (k + 1))) (λ f. f ≤ i + 1)
+  first_own None h i q = omega arith
+  first_own (Some f) h i q = omega (arith, h.1)
+
+  first_before : (o : Option ℕ) (i : ℕ) → IsSomeAnd o (λ f. f ≤ i + 1) → IsSomeAnd (option_or o (Some (k + 1))) (λ f. f ≤ i + 1)
+  first_before None i h = absurd h
+  first_before (Some f) i h = h
+
+first_later : (o : Option ℕ) {i j : ℕ} → i ≤ j → IsSomeAnd o (λ f. f ≤ i + 1) → IsSomeAnd o (λ f. f ≤ j + 1)
+first_later None l h = h
+first_later (Some f) l h = omega arith
+
+some_place : (o : Option ℕ) (P : ℕ → Type 0) → IsSomeAnd o P → IsSome o
+some_place None P h = absurd h
+some_place (Some f) P h = refl
+
+-- Where the k-th entry is of the round, the round has a first.
+module _ (log : List ℕ) (k r : ℕ) (x : Round) (er : (entry_of log k).round ≡ r) (h : Counts log (k + 1) r x) where
+  pub some_first : IsSome x.first
+  some_first = some_place x.first (λ f. f ≤ k + 1) (h.first k (omega arith) er)
+
+-- ---- one entry more
+
 module _ (log : List ℕ) (k r : ℕ) (x : Round) where
   -- How many entries a site has with one more: another site's or round's does not count.
   more_own : (j : ℕ) → (entry_of log k).round ≡ r → (entry_of log k).site ≡ j → entries j r (log_to log (k + 1)) ≡ entries j r (log_to log k) + 1
@@ -60,10 +95,10 @@ module _ (log : List ℕ) (k r : ℕ) (x : Round) where
         once = λ j l. h.once j l ∙ ap (ltb 0) (sym (more-round j d));
         twice = λ j l. h.twice j l ∙ ap (λ (n : ℕ). not (ltb n 2)) (sym (more-round j d));
         first = λ i l e. earlier i (last_or_below i k (omega arith)) e;
-        within = omega (arith, h.within);
+        within = within_next k x.first h.within;
       }
     where
-      earlier : (i : ℕ) → (i ≡ k) ⊎ (i < k) → (entry_of log i).round ≡ r → (0 < x.first) × (x.first ≤ i + 1)
+      earlier : (i : ℕ) → (i ≡ k) ⊎ (i < k) → (entry_of log i).round ≡ r → IsSomeAnd x.first (λ f. f ≤ i + 1)
       earlier i (inl q) e = absurd (d (ap (λ (n : ℕ). (entry_of log n).round) (sym q) ∙ e))
       earlier i (inr l) e = h.first i l e
 
@@ -93,26 +128,19 @@ module _ (log : List ℕ) (k r : ℕ) (x : Round) where
     again_twice e j l (no n) =
         with_other x.twice site j n ∙ h.twice j l ∙ ap (λ (m : ℕ). not (ltb m 2)) (sym (more_site j (λ q. n (sym q ∙ es))))
 
-    first_more : (t : Bool) → eqb x.first 0 ≡ t → (i : ℕ) → (i ≡ k) ⊎ (i < k) → (entry_of log i).round ≡ r
-        → (0 < pick t (k + 1) x.first) × (pick t (k + 1) x.first ≤ i + 1)
-    first_more true e i (inl q) g = (omega arith, omega arith)
-    first_more true e i (inr l) g = let z = eqb-true x.first 0 e in let w = h.first i l g in absurd (omega arith)
-    first_more false e i (inl q) g = let z = eqb-false x.first 0 e in let w = h.within in (omega arith, omega arith)
-    first_more false e i (inr l) g = h.first i l g
-
-    within_more : (t : Bool) → pick t (k + 1) x.first ≤ k + 1
-    within_more true = omega arith
-    within_more false = omega (arith, h.within)
-
     -- The site's first entry of the round,
     pub counts_first : in_set x.once site ≡ false → Counts log (k + 1) r (noted_of x site (k + 1))
     counts_first e =
         record {
           once = λ j l. once_more j l (ℕ_discrete j site);
           twice = λ j l. first_twice e j l (ℕ_discrete j site);
-          first = λ i l e. first_more (eqb x.first 0) refl i (last_or_below i k (omega arith)) e;
-          within = within_more (eqb x.first 0);
+          first = λ i l e. first_more i (last_or_below i k (omega arith)) e;
+          within = within_more k x.first h.within;
         }
+      where
+        first_more : (i : ℕ) → (i ≡ k) ⊎ (i < k) → (entry_of log i).round ≡ r → IsSomeAnd (option_or x.first (Some (k + 1))) (λ f. f ≤ i + 1)
+        first_more i (inl q) g = first_own k x.first h.within i q
+        first_more i (inr l) g = first_before k x.first i (h.first i l g)
 
     -- and another: the round has one already.
     pub counts_again : in_set x.once site ≡ true → Counts log (k + 1) r (again_of x site)
@@ -121,16 +149,13 @@ module _ (log : List ℕ) (k r : ℕ) (x : Round) where
           once = λ j l. ap (λ (s : Set). in_set s j) (sym (with_member x.once site e)) ∙ once_more j l (ℕ_discrete j site);
           twice = λ j l. again_twice e j l (ℕ_discrete j site);
           first = λ i l g. earlier i (last_or_below i k (omega arith)) g;
-          within = omega (arith, h.within);
+          within = within_next k x.first h.within;
         }
       where
-        some : 0 < x.first
-        some =
+        earlier : (i : ℕ) → (i ≡ k) ⊎ (i < k) → (entry_of log i).round ≡ r → IsSomeAnd x.first (λ f. f ≤ i + 1)
+        earlier i (inl q) g =
             let w = some_entry log site r k (ltb-true 0 (entries site r (log_to log k)) (sym (h.once site few) ∙ e)) in
-            (h.first w.0 w.1 w.2).0
-
-        earlier : (i : ℕ) → (i ≡ k) ⊎ (i < k) → (entry_of log i).round ≡ r → (0 < x.first) × (x.first ≤ i + 1)
-        earlier i (inl q) g = (some, omega (arith, h.within))
+            first_later x.first (omega (arith, w.1)) (h.first w.0 w.1 w.2)
         earlier i (inr l) g = h.first i l g
 
 -- The same entries count the same.

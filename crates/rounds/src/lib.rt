@@ -1,7 +1,7 @@
 // What the log says of each round, kept as the log grows: a decision is looked up, not computed again.
 #![tactic(auto)]
 
-ghost use Rattle.std.specs.Prelude.{true, false, not, List, ◌≡◌, ℕ, ◌+◌, ◌*◌, ◌≤◌, ◌<◌, eqb, ltb, length};
+ghost use Rattle.std.specs.Prelude.{true, false, not, List, ◌≡◌, ℕ, ◌+◌, ◌*◌, ◌≤◌, ◌<◌, ltb, length};
 ghost use Rattle.theory.specs.Sets.{pick};
 ghost use Rattle.sets.specs.Sets.{capacity, in_set};
 ghost use Rattle.table.specs.declared.SiteTable.{SiteTable};
@@ -20,19 +20,25 @@ use table::SiteTable;
 // Rounds 0 to 33 are kept.
 const ROUNDS: usize = 34;
 
-// What is kept of a round. The place of an entry is how many entries the log has with it; 0 where there is none.
+// The decision of a round: the place of the entry that decides it, and the decided sets. The place of an entry is how many entries
+// the log has with it.
 #[derive(Clone, Copy)]
-pub struct Round {
+struct Decided {
+    place: usize,
+    sets: Sets,
+}
+
+// What is kept of a round.
+#[derive(Clone, Copy)]
+struct Round {
     // The sites with an entry of the round, and those with two.
-    pub once: Set,
-    pub twice: Set,
+    once: Set,
+    twice: Set,
     // The valid sources, while no entry decides the round.
-    pub valid: Set,
-    // The place of the entry that decides it, and the decided sets.
-    pub decided: usize,
-    pub sets: Sets,
-    // The place of its first entry.
-    pub first: usize,
+    valid: Set,
+    // Its decision, and the place of its first entry.
+    decided: Option<Decided>,
+    first: Option<usize>,
 }
 
 impl Round {
@@ -45,9 +51,8 @@ impl Round {
             once: none,
             twice: none,
             valid: none,
-            decided: 0,
-            sets: Sets { nc: none, c: none },
-            first: 0,
+            decided: None,
+            first: None,
         }
     }
 
@@ -57,9 +62,7 @@ impl Round {
         ensures { self.new ≡ noted_of self.old site place }
     {
         self.once = self.once.with(site);
-        if self.first == 0 {
-            self.first = place;
-        }
+        self.first = self.first.or(Some(place));
     }
 
     // A site's second entry, or a later one: the site has two, and is no valid source while no entry decides the round.
@@ -68,7 +71,7 @@ impl Round {
         ensures { self.new ≡ again_of self.old site }
     {
         self.twice = self.twice.with(site);
-        if self.decided == 0 {
+        if self.decided.is_none() {
             let source = Set::empty().with(site);
             self.valid = self.valid.without(source);
         }
@@ -80,10 +83,10 @@ impl Round {
             × ((entry_of log.now k).round ≡ round) × Counts log.now (k + 1) round self.old }
         ensures { self.new ≡ decided_of self.old (k + 1) (found_sets table log.now round self.old.valid (k + 1)) }
     {
-        let from = self.first - 1;
+        let from = self.first.unwrap() - 1;
         let place = k + 1;
-        self.sets = recovery::decided_sets(log, from, place, round, self.valid, table);
-        self.decided = place;
+        let sets = recovery::decided_sets(log, from, place, round, self.valid, table);
+        self.decided = Some(Decided { place, sets });
     }
 
     // The k-th entry is its site's first of the round. While no entry decides the round, the site becomes a valid source if its NC is
@@ -104,7 +107,7 @@ impl Round {
         ensures { Counts log.now (k + 1) round self.new × Decides log.now (k + 1) round table rows.now self.new }
     {
         self.note_first(site, k + 1);
-        if self.decided != 0 {
+        if self.decided.is_some() {
             return;
         }
         let free = calm::is_free(rows, entries::nc_of(log, k));
@@ -189,13 +192,10 @@ impl Rounds {
         ensures { (t : SiteTable) (rows log : List ℕ) → Kept t rows log self.now → position ≤ self.now.entries
             → result ≡ decision_of (rows_system t rows) (decide (rows_system t rows) round (log_to log position)) }
     {
-        let x = self.rounds[round];
-        if x.decided == 0 {
+        let decided = self.rounds[round].decided?;
+        if decided.place > position {
             return None;
         }
-        if x.decided > position {
-            return None;
-        }
-        Some(x.sets)
+        Some(decided.sets)
     }
 }

@@ -1,6 +1,6 @@
 -- `Round::enter_first` meets its contract, one law for each answer.
 -- Assumes nothing.
-use mathlib.Core.Path.{ap, ◌∙◌}
+use mathlib.Core.Path.{sym, ap, ◌∙◌}
 use native.Mathlib.Omega.{arith}
 use Rattle.sets.specs.declared.Set.{Set}
 use Rattle.sets.specs.Sets.{in_set}
@@ -12,17 +12,17 @@ use Rattle.rounds.proofs.Round.enter_first.Goals as goal
 pub note_first-requires : goal.note_first-requires
 note_first-requires c = omega (arith, c.requires.5, good_limits c.args.table c.requires.0)
 
-pub returns-then-self-ne0 : goal.returns-then-self-ne0
-returns-then-self-ne0 c =
+pub returns-then-is_some : goal.returns-then-is_some
+returns-then-is_some c =
     let a = c.args in
     let q = c.requires in
-    taken_decided a.table a.rows.now a.log.now a.k a.round a.self.now q.0 q.7 q.2 q.3 a.site q.5 q.6 q.8 c.note_first.ensures c.if-self-ne0.true
+    taken_decided a.table a.rows.now a.log.now a.k a.round a.self.now q.0 q.7 q.2 q.3 a.site q.5 q.6 q.8 c.note_first.ensures (sym c.is_some.ensures ∙ c.if-is_some.true)
 
 pub returns-then-not-free : goal.returns-then-not-free
 returns-then-not-free c =
     let a = c.args in
     let q = c.requires in
-    taken_unfree a.table a.rows.now a.log.now a.k a.round a.self.now q.0 q.7 q.2 q.3 a.site q.5 q.6 q.8 c.note_first.ensures c.if-self-ne0.false
+    taken_unfree a.table a.rows.now a.log.now a.k a.round a.self.now q.0 q.7 q.2 q.3 a.site q.5 q.6 q.8 c.note_first.ensures (sym c.is_some.ensures ∙ c.if-is_some.false)
     (c.is_free-free.ensures ∙ ap (λ (x : Set). free_by a.rows.now (in_set x)) c.nc_of.ensures) c.if-not-free.true
 
 pub with-self-requires : goal.with-self-requires
@@ -32,7 +32,7 @@ pub returns-then-size-n_chk : goal.returns-then-size-n_chk
 returns-then-size-n_chk c =
     let a = c.args in
     let q = c.requires in
-    taken-waiting a.table a.rows.now a.log.now a.k a.round a.self.now q.0 q.7 q.2 q.3 a.site q.5 q.6 q.8 c.note_first.ensures c.if-self-ne0.false
+    taken-waiting a.table a.rows.now a.log.now a.k a.round a.self.now q.0 q.7 q.2 q.3 a.site q.5 q.6 q.8 c.note_first.ensures (sym c.is_some.ensures ∙ c.if-is_some.false)
     (c.is_free-free.ensures ∙ ap (λ (x : Set). free_by a.rows.now (in_set x)) c.nc_of.ensures) c.if-not-free.false
     c.with-self.ensures c.size.ensures c.n_chk.ensures c.if-size-n_chk.true
 
@@ -43,7 +43,7 @@ note_decision-requires c =
       q.0,
       q.1,
       q.7,
-      counts_valid a.table a.rows.now a.log.now a.k a.round a.self.now q.0 q.7 q.2 q.3 a.site q.5 q.6 q.8 c.note_first.ensures c.if-self-ne0.false
+      counts_valid a.table a.rows.now a.log.now a.k a.round a.self.now q.0 q.7 q.2 q.3 a.site q.5 q.6 q.8 c.note_first.ensures (sym c.is_some.ensures ∙ c.if-is_some.false)
           (c.is_free-free.ensures ∙ ap (λ (x : Set). free_by a.rows.now (in_set x)) c.nc_of.ensures) c.if-not-free.false c.with-self.ensures,
     )
 
@@ -51,6 +51,6 @@ pub returns : goal.returns
 returns c =
     let a = c.args in
     let q = c.requires in
-    taken_deciding a.table a.rows.now a.log.now a.k a.round a.self.now q.0 q.7 q.2 q.3 a.site q.5 q.6 q.8 c.note_first.ensures c.if-self-ne0.false
+    taken_deciding a.table a.rows.now a.log.now a.k a.round a.self.now q.0 q.7 q.2 q.3 a.site q.5 q.6 q.8 c.note_first.ensures (sym c.is_some.ensures ∙ c.if-is_some.false)
     (c.is_free-free.ensures ∙ ap (λ (x : Set). free_by a.rows.now (in_set x)) c.nc_of.ensures) c.if-not-free.false
     c.with-self.ensures c.size.ensures c.n_chk.ensures c.if-size-n_chk.false c.note_decision.ensures
