@@ -16,7 +16,8 @@ use lib.Seq.{set_split, drop_at, length-take-le, take-set-le}
 use Rattle.wire.specs.Wire.{splice}
 use Rattle.wire.proofs.Laws.{splice-none, splice_two}
 use Rattle.print.specs.Ascii.{ascii}
-use Rattle.print.specs.Print.{digits, width_to, width, decimal, signed_decimal, Wrote}
+use Rattle.print.specs.declared.Text.{Text}
+use Rattle.print.specs.Print.{digits, width_to, width, decimal, signed_decimal, Wrote, HasRoom, Printed}
 
 -- ---- how long a number is
 
@@ -133,32 +134,57 @@ digits-none s at (suc i) x h = absurd (omega arith)
 
 -- ---- texts one after another
 
+wrote_none : (s : List ℕ) (at : ℕ) → Wrote s at s at []
+wrote_none s at = record { end = omega arith; bytes = sym (splice-none s at) }
+
 -- Two texts written side by side are one.
-pub both : {s s₁ s₂ : List ℕ} {at r₁ r₂ : ℕ} {a b : List ℕ} → at ≤ length s → Wrote s₁ r₁ s at a → Wrote s₂ r₂ s₁ r₁ b → Wrote s₂ r₂ s at (a ++ b)
+both : {s s₁ s₂ : List ℕ} {at r₁ r₂ : ℕ} {a b : List ℕ} → at ≤ length s → Wrote s₁ r₁ s at a → Wrote s₂ r₂ s₁ r₁ b → Wrote s₂ r₂ s at (a ++ b)
 both {s} {s₁} {s₂} {at} {r₁} {r₂} {a} {b} h p q =
     record {
       end = omega (arith, length-append a b, p.end, q.end);
       bytes = q.bytes ∙ (λ i. splice (p.bytes i) (p.end i) b) ∙ splice_two s at a b h;
     }
 
-pub wrote_decimal : {s₁ s : List ℕ} {r at n : ℕ} (x : ℕ) → n ≡ width x → Wrote s₁ r s at (digits n x) → Wrote s₁ r s at (decimal x)
-unfolding decimal
-wrote_decimal {s₁} {s} {r} {at} x e w = subst (λ (m : ℕ). Wrote s₁ r s at (digits m x)) e w
+-- ---- what is printed into a buffer
 
--- In a loop: what is still to be written at a position gives what was to be written at the start.
-pub record Left (now : List ℕ) (at : ℕ) (rest : List ℕ) (first : List ℕ) (from : ℕ) (text : List ℕ) : Type 0 where
-  pub end : at + length rest ≡ from + length text
-  pub bytes : splice now at rest ≡ splice first from text
+-- Nothing more.
+pub nothing : (t : Text) → HasRoom t 0 → Printed t t []
+nothing t h = record { same = refl; wrote = wrote_none t.out.now t.end; size = refl; room = h }
 
-pub left_all : (s : List ℕ) (at : ℕ) (text : List ℕ) → Left s at text s at text
-left_all s at text = record { end = refl; bytes = refl }
-
-pub left_more : {now after first : List ℕ} {at past from : ℕ} {a rest text : List ℕ} → at ≤ length now → Wrote after past now at a → Left now at (a ++ rest) first from text → Left after past rest first from text
-left_more {now} {after} {first} {at} {past} {from} {a} {rest} {text} h w l =
+-- Two texts printed one after the other are one.
+pub more : {t u v : Text} {a b : List ℕ} → Printed u t a → Printed v u b → Printed v t (a ++ b)
+more p q =
     record {
-      end = omega (arith, length-append a rest, w.end, l.end);
-      bytes = (λ i. splice (w.bytes i) (w.end i) rest) ∙ splice_two now at a rest h ∙ l.bytes;
+      same = q.same ∙ p.same;
+      wrote = both (omega (arith, p.wrote.end, p.size, p.room)) p.wrote q.wrote;
+      size = q.size ∙ p.size;
+      room = q.room;
     }
 
-pub left_none : {now first : List ℕ} {at from : ℕ} {text : List ℕ} → Left now at [] first from text → Wrote now at first from text
-left_none {now} {at = at} l = record { end = omega (arith, l.end); bytes = sym (splice-none now at) ∙ l.bytes }
+pub printed_decimal : {t u : Text} {n : ℕ} (x : ℕ) → n ≡ width x → Printed u t (digits n x) → Printed u t (decimal x)
+unfolding decimal
+printed_decimal {t} {u} x e p = subst (λ (m : ℕ). Printed u t (digits m x)) e p
+
+-- Where there was room for two texts, there is room for the second after the first.
+pub rest : {t u : Text} (a b : List ℕ) → HasRoom t (length (a ++ b)) → Printed u t a → HasRoom u (length b)
+rest a b h p = omega (arith, length-append a b, p.wrote.end, p.size)
+
+-- What a text made of a buffer leaves there.
+pub left_there : {new old : Text} {out after : List ℕ} {end : ℕ} {text : List ℕ} → old.out.now ≡ out → old.end ≡ 0 → Printed new old text → end ≡ new.end → after ≡ new.out.now → Wrote after end out 0 text
+left_there {text = text} o z p e a =
+    record { end = e ∙ p.wrote.end ∙ ap (λ (n : ℕ). n + length text) z; bytes = a ∙ p.wrote.bytes ∙ (λ i. splice (o i) (z i) text) }
+
+-- In a loop: what is still to be printed makes of the text at the start what was to be printed there.
+pub record Left (now first : Text) (rest text : List ℕ) : Type 0 where
+  pub all : {last : Text} → Printed last now rest → Printed last first text
+  pub size : length now.out.now ≡ length first.out.now
+  pub room : HasRoom now 0
+
+pub left_all : (t : Text) (text : List ℕ) → HasRoom t 0 → Left t t text text
+left_all t text h = record { all = λ p. p; size = refl; room = h }
+
+pub left_more : {now after first : Text} {a rest text : List ℕ} → Printed after now a → Left now first (a ++ rest) text → Left after first rest text
+left_more p l = record { all = λ q. l.all (more p q); size = p.size ∙ l.size; room = p.room }
+
+pub left_none : {now first : Text} {text : List ℕ} → Left now first [] text → Printed now first text
+left_none {now} l = l.all (nothing now l.room)

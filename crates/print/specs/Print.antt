@@ -1,8 +1,9 @@
 -- Numbers in ASCII digits, and what a print leaves of a buffer.
 -- Assumes nothing.
-use Rattle.std.specs.Prelude.{cond, ◌≡◌, List, [], ◌∷◌, ◌++◌, ℕ, zero, suc, ◌+◌, ◌/◌, ◌%◌, leb, ℤ, pos, negsuc, length}
+use Rattle.std.specs.Prelude.{cond, ◌≡◌, List, [], ◌∷◌, ◌++◌, ℕ, zero, suc, ◌+◌, ◌/◌, ◌%◌, leb, ◌≤◌, ℤ, pos, negsuc, length}
 use Rattle.wire.specs.Wire.{splice}
 use Rattle.print.specs.Ascii.{ascii}
+use Rattle.print.specs.declared.Text.{Text}
 
 -- The last n decimal digits of x, the highest first: `digits 2 7` is the text 07. The digit 0 is the byte 48.
 unfoldable pub digits : ℕ → ℕ → List ℕ
@@ -31,3 +32,14 @@ signed_decimal (negsuc n) = ascii "-" ++ decimal (suc n)
 pub record Wrote (after : List ℕ) (past : ℕ) (before : List ℕ) (at : ℕ) (text : List ℕ) : Type 0 where
   pub end : past ≡ at + length text
   pub bytes : after ≡ splice before at text
+
+-- There is room for n bytes more.
+abbrev pub HasRoom : Text → ℕ → Type 0
+HasRoom t n = t.end + n ≤ length t.out.now
+
+-- The text has more at its end; it is in the same buffer, which has its length still.
+pub record Printed (new old : Text) (text : List ℕ) : Type 0 where
+  pub same : new.out.ghost_name ≡ old.out.ghost_name
+  pub wrote : Wrote new.out.now new.end old.out.now old.end text
+  pub size : length new.out.now ≡ length old.out.now
+  pub room : HasRoom new 0
