@@ -11,10 +11,7 @@ use mir.Val.{SFits}
 use Rattle.print.specs.Print.{digits, decimal, signed_decimal}
 use Rattle.print.proofs.Laws.{length_digits, decimal_short, signed_short}
 use Rattle.theory.specs.Machine.{Delivery}
-use Rattle.lines.specs.Lines.{counted, numbered, run_line, step_line, refused_line, site_head, delivery_text, deliveries_text, site_line}
-
-pub counted-length : (x : ℕ) (text : List ℕ) → length (counted x text) ≡ length (decimal x) + length text
-counted-length x text = length-append (decimal x) text
+use Rattle.lines.specs.Lines.{numbered, run_line, step_line, refused_line, site_head, delivery_text, deliveries_text, site_line}
 
 pub numbered-length : (x : ℕ) (text : List ℕ) → length (numbered x text) ≡ 2 + length text
 numbered-length x text = length-append (digits 2 x) text ∙ ap (λ (n : ℕ). n + length text) (length_digits 2 x)

@@ -1,88 +1,89 @@
-// The lines of a run's print, written into a lent buffer. Each function answers the position after what it wrote.
+// The lines of a run's print, written into a text.
 #![tactic(auto)]
 
-ghost use Rattle.std.specs.Prelude.{◌≡◌, ◌+◌, ◌≤◌, length};
-ghost use Rattle.print.specs.Print.{Wrote};
+ghost use Rattle.std.specs.Prelude.{length};
+ghost use Rattle.print.specs.Print.{HasRoom, Printed};
 ghost use Rattle.lines.specs.Lines.{counted, numbered, line_end, run_line, step_line, refused_line, site_head, delivery_text};
 
+use print::Text;
+
 // A number is written, and a text after it.
-fn put_counted(out: &mut [u8], at: usize, x: usize, text: &[u8]) -> usize
-    requires { at + length (counted x text.now) ≤ length out.old }
-    ensures { Wrote out.new result out.old at (counted x text.now) }
+fn put_counted(text: &mut Text<'_>, x: usize, after: &[u8])
+    requires { HasRoom text.old (length (counted x after.now)) }
+    ensures { Printed text.new text.old (counted x after.now) }
 {
-    let end = print::put_decimal(out, at, x);
-    print::put_text(out, end, text)
+    text.decimal(x);
+    text.put(after);
 }
 
 // A number of two digits is written, and a text after it.
-fn put_numbered(out: &mut [u8], at: usize, x: usize, text: &[u8]) -> usize
-    requires { at + length (numbered x text.now) ≤ length out.old }
-    ensures { Wrote out.new result out.old at (numbered x text.now) }
+fn put_numbered(text: &mut Text<'_>, x: usize, after: &[u8])
+    requires { HasRoom text.old (length (numbered x after.now)) }
+    ensures { Printed text.new text.old (numbered x after.now) }
 {
-    let end = print::put_digits(out, at, 2, x);
-    print::put_text(out, end, text)
+    text.digits(2, x);
+    text.put(after);
 }
 
 // The first line of a run that is played.
-pub fn put_run_line(
-    out: &mut [u8],
-    at: usize,
-    sites: usize,
-    faulty: usize,
-    commands: usize,
-) -> usize
-    requires { at + length (run_line sites faulty commands) ≤ length out.old }
-    ensures { Wrote out.new result out.old at (run_line sites faulty commands) }
+#[tactic(auto, unfolding(crate::specs::Lines::run_line))]
+pub fn put_run_line(text: &mut Text<'_>, sites: usize, faulty: usize, commands: usize)
+    requires { HasRoom text.old (length (run_line sites faulty commands)) }
+    ensures { Printed text.new text.old (run_line sites faulty commands) }
 {
-    let p1 = print::put_text(out, at, b"run ");
-    let p2 = put_counted(out, p1, sites, b" sites ");
-    let p3 = put_counted(out, p2, faulty, b" liars ");
-    put_counted(out, p3, commands, b" commands\n")
+    text.put(b"run ");
+    put_counted(text, sites, b" sites ");
+    put_counted(text, faulty, b" liars ");
+    put_counted(text, commands, b" commands\n");
 }
 
 // The line of a refused step.
-pub fn put_step_line(out: &mut [u8], at: usize, step: usize, refusal: usize) -> usize
-    requires { at + length (step_line step refusal) ≤ length out.old }
-    ensures { Wrote out.new result out.old at (step_line step refusal) }
+#[tactic(auto, unfolding(crate::specs::Lines::step_line))]
+pub fn put_step_line(text: &mut Text<'_>, step: usize, refusal: usize)
+    requires { HasRoom text.old (length (step_line step refusal)) }
+    ensures { Printed text.new text.old (step_line step refusal) }
 {
-    let p1 = print::put_text(out, at, b"step ");
-    let p2 = put_counted(out, p1, step, b" refused ");
-    put_counted(out, p2, refusal, b"\n")
+    text.put(b"step ");
+    put_counted(text, step, b" refused ");
+    put_counted(text, refusal, b"\n");
 }
 
 // The line of a refused header, book or size.
-pub fn put_refused_line(out: &mut [u8], at: usize, refusal: usize) -> usize
-    requires { at + length (refused_line refusal) ≤ length out.old }
-    ensures { Wrote out.new result out.old at (refused_line refusal) }
+#[tactic(auto, unfolding(crate::specs::Lines::refused_line))]
+pub fn put_refused_line(text: &mut Text<'_>, refusal: usize)
+    requires { HasRoom text.old (length (refused_line refusal)) }
+    ensures { Printed text.new text.old (refused_line refusal) }
 {
-    let p1 = print::put_text(out, at, b"refused ");
-    put_counted(out, p1, refusal, b"\n")
+    text.put(b"refused ");
+    put_counted(text, refusal, b"\n");
 }
 
 // The start of a site's line.
-pub fn put_site_head(out: &mut [u8], at: usize, site: usize, round: usize) -> usize
-    requires { at + length (site_head site round) ≤ length out.old }
-    ensures { Wrote out.new result out.old at (site_head site round) }
+#[tactic(auto, unfolding(crate::specs::Lines::site_head))]
+pub fn put_site_head(text: &mut Text<'_>, site: usize, round: usize)
+    requires { HasRoom text.old (length (site_head site round)) }
+    ensures { Printed text.new text.old (site_head site round) }
 {
-    let p1 = print::put_text(out, at, b"site ");
-    let p2 = put_numbered(out, p1, site, b" round ");
-    put_numbered(out, p2, round, b" delivered")
+    text.put(b"site ");
+    put_numbered(text, site, b" round ");
+    put_numbered(text, round, b" delivered");
 }
 
 // A delivery in a site's line.
-pub fn put_delivery(out: &mut [u8], at: usize, command: usize, answer: i32) -> usize
-    requires { at + length (delivery_text command answer) ≤ length out.old }
-    ensures { Wrote out.new result out.old at (delivery_text command answer) }
+#[tactic(auto, unfolding(crate::specs::Lines::delivery_text))]
+pub fn put_delivery(text: &mut Text<'_>, command: usize, answer: i32)
+    requires { HasRoom text.old (length (delivery_text command answer)) }
+    ensures { Printed text.new text.old (delivery_text command answer) }
 {
-    let p1 = print::put_text(out, at, b" ");
-    let p2 = put_numbered(out, p1, command, b"=");
-    print::put_signed(out, p2, answer)
+    text.put(b" ");
+    put_numbered(text, command, b"=");
+    text.signed(answer);
 }
 
 // The end of a line.
-pub fn put_line_end(out: &mut [u8], at: usize) -> usize
-    requires { at + length line_end ≤ length out.old }
-    ensures { Wrote out.new result out.old at line_end }
+pub fn put_line_end(text: &mut Text<'_>)
+    requires { HasRoom text.old (length line_end) }
+    ensures { Printed text.new text.old line_end }
 {
-    print::put_text(out, at, b"\n")
+    text.put(b"\n");
 }
