@@ -13,9 +13,9 @@ use Rattle.theory.specs.Sets.{pick}
 use Rattle.table.specs.declared.SiteTable.{SiteTable}
 use Rattle.table.specs.Table.{faulty_of}
 use Rattle.register.specs.declared.Command.{Command}
-use Rattle.print.specs.Print.{Wrote}
-use Rattle.wire.proofs.Laws.{splice-none}
-use Rattle.print.proofs.Laws.{both}
+use Rattle.print.specs.declared.Text.{Text}
+use Rattle.print.specs.Print.{HasRoom, Printed}
+use Rattle.print.proofs.Laws.{nothing, more}
 use Rattle.lines.specs.Lines.{line_end, site_head, delivery_text, deliveries_text, site_line}
 use Rattle.protocol.specs.Site as protocol
 use Rattle.protocol.specs.World.{World}
@@ -27,9 +27,6 @@ use Rattle.report.specs.Report.{Printable, AllPrintable, line_of, line_at, lines
 
 -- ---- the text
 
-pub wrote_none : (s : List ℕ) (at : ℕ) → Wrote s at s at []
-wrote_none s at = record { end = omega arith; bytes = sym (splice-none s at) }
-
 text_more : (l : List (Delivery ℤ)) (d : Delivery ℤ) → deliveries_text (l ++ (d ∷ [])) ≡ deliveries_text l ++ delivery_text d.command d.answer
 text_more [] d = append-nil _
 text_more (c ∷ l) d =
@@ -37,39 +34,39 @@ text_more (c ∷ l) d =
     ∙ sym (append_assoc (delivery_text c.command c.answer) (deliveries_text l) (delivery_text d.command d.answer))
 
 -- One delivery more is written.
-pub deliveries_more : {s s₁ s₂ : List ℕ} {at r₁ r₂ : ℕ} (b : List ℕ) (k : ℕ) {m : ℕ} {z : ℤ} → at ≤ length s → record { command = m; answer = z } ≡ delivery_of b k
-    → Wrote s₁ r₁ s at (deliveries_text (deliveries_of k b)) → Wrote s₂ r₂ s₁ r₁ (delivery_text m z) → Wrote s₂ r₂ s at (deliveries_text (deliveries_of (k + 1) b))
+pub deliveries_more : {t u v : Text} (b : List ℕ) (k : ℕ) {m : ℕ} {z : ℤ} → record { command = m; answer = z } ≡ delivery_of b k
+    → Printed u t (deliveries_text (deliveries_of k b)) → Printed v u (delivery_text m z) → Printed v t (deliveries_text (deliveries_of (k + 1) b))
 unfolding deliveries_of
-deliveries_more {s} {s₂ = s₂} {at} {r₂ = r₂} b k {m} {z} h e p q =
+deliveries_more {t} {v = v} b k {m} {z} e p q =
     let d : Delivery ℤ = record { command = m; answer = z } in
-    let t : deliveries_text (deliveries_of k b) ++ delivery_text m z ≡ deliveries_text (deliveries_of (k + 1) b) =
+    let l : deliveries_text (deliveries_of k b) ++ delivery_text m z ≡ deliveries_text (deliveries_of (k + 1) b) =
     sym (text_more (deliveries_of k b) d)
     ∙ ap (λ (x : Delivery ℤ). deliveries_text (deliveries_of k b ++ (x ∷ []))) e
     ∙ ap (λ (n : ℕ). deliveries_text (deliveries_of n b)) (sym (add-one k)) in
-    subst (λ (x : List ℕ). Wrote s₂ r₂ s at x) t (both h p q)
+    subst (λ (x : List ℕ). Printed v t x) l (more p q)
 
 -- Head, deliveries and end are a site's line.
-pub line_wrote : {s s₁ s₂ s₃ : List ℕ} {at r₁ r₂ r₃ : ℕ} (number : ℕ) (b : List ℕ) {round n : ℕ} → at ≤ length s → round ≡ (head_of b).round → n ≡ (head_of b).deliveries
-    → Wrote s₁ r₁ s at (site_head number round) → Wrote s₂ r₂ s₁ r₁ (deliveries_text (deliveries_of n b)) → Wrote s₃ r₃ s₂ r₂ line_end
-    → Wrote s₃ r₃ s at (line_of number b)
+pub line_printed : {s t u v : Text} (number : ℕ) (b : List ℕ) {round n : ℕ} → round ≡ (head_of b).round → n ≡ (head_of b).deliveries
+    → Printed t s (site_head number round) → Printed u t (deliveries_text (deliveries_of n b)) → Printed v u line_end
+    → Printed v s (line_of number b)
 unfolding site_line head_of
-line_wrote {s} {s₃ = s₃} {at} {r₃ = r₃} number b h e f p q w =
-    subst (λ (x : List ℕ). Wrote s₃ r₃ s at x) (λ i. site_head number (e i) ++ deliveries_text (deliveries_of (f i) b) ++ line_end) (both h (both h p q) w)
+line_printed {s} {v = v} number b e f p q w =
+    subst (λ (x : List ℕ). Printed v s x) (λ i. site_head number (e i) ++ deliveries_text (deliveries_of (f i) b) ++ line_end) (more (more p q) w)
 
 -- ---- one site
 
-pub faulty_line : (t : SiteTable) (sites : List ℕ) (i : ℕ) (s : List ℕ) (at : ℕ) → faulty_of t i ≡ true → Wrote s at s at (line_at t sites i)
-faulty_line t sites i s at h = rw h (wrote_none s at)
+pub faulty_line : (t : SiteTable) (sites : List ℕ) (i : ℕ) (s : Text) → faulty_of t i ≡ true → HasRoom s 0 → Printed s s (line_at t sites i)
+faulty_line t sites i s h r = rw h (nothing s r)
 
-pub correct_line : {s s₁ : List ℕ} {at r : ℕ} (t : SiteTable) (sites : List ℕ) (i : ℕ) {k : ℕ} → faulty_of t i ≡ false → k ≡ site_size
-    → Wrote s₁ r s at (line_of i (take k (drop (i * site_size) sites))) → Wrote s₁ r s at (line_at t sites i)
+pub correct_line : {s u : Text} (t : SiteTable) (sites : List ℕ) (i : ℕ) {k : ℕ} → faulty_of t i ≡ false → k ≡ site_size
+    → Printed u s (line_of i (take k (drop (i * site_size) sites))) → Printed u s (line_at t sites i)
 unfolding site_at
 correct_line t sites i h e w = rw h (rw e at w)
 
 -- One site more is printed.
-pub sites_more : {s s₁ s₂ : List ℕ} {at r₁ r₂ : ℕ} (t : SiteTable) (sites : List ℕ) (i : ℕ) → at ≤ length s
-    → Wrote s₁ r₁ s at (lines_below t sites i) → Wrote s₂ r₂ s₁ r₁ (line_at t sites i) → Wrote s₂ r₂ s at (lines_below t sites (i + 1))
-sites_more t sites i h p q = rw (add-one i) (both h p q)
+pub sites_more : {s u v : Text} (t : SiteTable) (sites : List ℕ) (i : ℕ)
+    → Printed u s (lines_below t sites i) → Printed v u (line_at t sites i) → Printed v s (lines_below t sites (i + 1))
+sites_more t sites i p q = rw (add-one i) (more p q)
 
 -- ---- what the lines are of
 

@@ -13,7 +13,7 @@ use Rattle.report.proofs.put_line_at.Goals as goal
 pub returns-then-is_faulty : goal.returns-then-is_faulty
 returns-then-is_faulty c =
     let a = c.args in
-    (faulty_line a.table a.sites.now a.i a.out.now a.at (sym c.is_faulty.ensures ∙ c.if-is_faulty.true), omega arith)
+    (faulty_line a.table a.sites.now a.i a.text.now (sym c.is_faulty.ensures ∙ c.if-is_faulty.true) (omega arith), omega arith)
 
 pub put_site_line-requires : goal.put_site_line-requires
 unfolding site_at
