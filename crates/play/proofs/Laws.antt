@@ -1,7 +1,7 @@
 -- Laws of the loop over the steps of a run: what is left of them, from the world that the buffers hold.
 -- Assumes nothing.
 use mathlib.Core.Path.{◌≡◌, refl, sym, ap, subst, ◌∙◌}
-use Rattle.std.specs.Prelude.{Err, None, Ok, Option, Some}
+use Rattle.std.specs.Prelude.{Err, None, Option, Some}
 use mathlib.Core.List.{List, [], ◌∷◌, ◌++◌, append-nil, foldl-append}
 use Prim.Native.Nat.{ℕ, suc, ◌+◌, ◌≤◌, ◌<◌}
 use native.Mathlib.Numerals.{add-one}
@@ -16,9 +16,9 @@ use Rattle.register.specs.declared.Command.{Command}
 use Rattle.protocol.specs.World as protocol
 use Rattle.protocol.specs.World.{World, start, judge, step, play}
 use Rattle.system.specs.Dash.{dash}
-use Rattle.print.specs.Print.{Wrote}
-use Rattle.wire.proofs.Laws.{splice-none}
-use Rattle.print.proofs.Laws.{Left, left_all, left_more, left_none, decimal_short}
+use Rattle.print.specs.declared.Text.{Text}
+use Rattle.print.specs.Print.{HasRoom, Printed}
+use Rattle.print.proofs.Laws.{nothing, Left, left_all, left_more, left_none, decimal_short}
 use Rattle.steps.specs.declared.Step.{Step}
 use Rattle.steps.specs.Steps.{size_of, read_step, steps_of}
 use Rattle.steps.specs.Meaning.{meaning}
@@ -40,15 +40,14 @@ pub line_short : (step refusal : ℕ) → step < 100000 → refusal < 100 → le
 line_short step refusal a b = omega (arith, step-length step refusal, decimal_short 4 step a, decimal_short 1 refusal b)
 
 -- No line for a step that is taken.
-pub silent : (s : List ℕ) (at number : ℕ) {v : Verdict} → v ≡ accepted → Wrote s at s at (report number v)
-silent s at number e = subst (λ (v : Verdict). Wrote s at s at (report number v)) (sym e) (record { end = omega arith; bytes = sym (splice-none s at) })
+pub silent : (s : Text) (number : ℕ) {v : Verdict} → v ≡ accepted → HasRoom s 0 → Printed s s (report number v)
+silent s number e h = subst (λ (v : Verdict). Printed s s (report number v)) (sym e) (nothing s h)
 
-pub loud : (number : ℕ) (r : Refusal) {s after : List ℕ} {at past code : ℕ} → code ≡ number_of r → Wrote after past s at (step_line number code)
-    → Wrote after past s at (report number (Err r))
-loud number r {s} {after} {at} {past} ec w = subst (λ (k : ℕ). Wrote after past s at (step_line number k)) ec w
+pub loud : (number : ℕ) (r : Refusal) {s u : Text} {code : ℕ} → code ≡ number_of r → Printed u s (step_line number code) → Printed u s (report number (Err r))
+loud number r {s} {u} ec w = subst (λ (k : ℕ). Printed u s (step_line number k)) ec w
 
-pub reported : (number : ℕ) {s after : List ℕ} {at past : ℕ} {u v : Verdict} → u ≡ v → Wrote after past s at (report number v) → Wrote after past s at (report number u)
-reported number {s} {after} {at} {past} e w = subst (λ (x : Verdict). Wrote after past s at (report number x)) (sym e) w
+pub reported : (number : ℕ) {s u : Text} {v w : Verdict} → v ≡ w → Printed u s (report number w) → Printed u s (report number v)
+reported number {s} {u} e w = subst (λ (x : Verdict). Printed u s (report number x)) (sym e) w
 
 -- ---- what is left
 

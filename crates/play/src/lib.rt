@@ -1,36 +1,37 @@
 // The steps of a run, played one after another on lent buffers, with a line for each refused one.
 #![tactic(auto)]
 
-ghost use Rattle.std.specs.Prelude.{◌+◌, ◌≤◌, ◌<◌, length, Err};
+ghost use Rattle.std.specs.Prelude.{◌+◌, ◌≤◌, ◌<◌, Err};
 ghost use Rattle.commands.specs.Book.{commands_of};
 ghost use Rattle.conflicts.specs.Conflicts.{rows_in};
-ghost use Rattle.print.specs.Print.{Wrote};
+ghost use Rattle.print.specs.Print.{HasRoom, Printed};
 ghost use Rattle.runs.specs.Run as runs;
 ghost use Rattle.rounds.specs.Rounds.{Kept};
 ghost use Rattle.world.specs.Parts.{lent};
 ghost use Rattle.play.specs.Played.{line_room, Playable, PlayedAll};
 
+use print::Text;
 use refusals::{Refusal, Verdict};
 use rounds::Rounds;
 use table::Rules;
 
 // The line of a refused step is written.
-fn put_refusal(out: &mut [u8], at: usize, number: usize, refusal: Refusal) -> usize
-    requires { (at + line_room ≤ length out.old) × (number < 100000) }
-    ensures { Wrote out.new result out.old at (runs.report number (Err refusal)) × (result ≤ at + line_room) }
+fn put_refusal(text: &mut Text<'_>, number: usize, refusal: Refusal)
+    requires { HasRoom text.old line_room × (number < 100000) }
+    ensures { Printed text.new text.old (runs.report number (Err refusal)) × (text.new.end ≤ text.old.end + line_room) }
 {
     let cause = u32::from(refusal) as usize;
-    lines::put_step_line(out, at, number, cause)
+    lines::put_step_line(text, number, cause);
 }
 
 // The line of a step is written where it is refused.
-fn report(out: &mut [u8], at: usize, number: usize, verdict: Verdict) -> usize
-    requires { (at + line_room ≤ length out.old) × (number < 100000) }
-    ensures { Wrote out.new result out.old at (runs.report number verdict) × (result ≤ at + line_room) }
+fn report(text: &mut Text<'_>, number: usize, verdict: Verdict)
+    requires { HasRoom text.old line_room × (number < 100000) }
+    ensures { Printed text.new text.old (runs.report number verdict) × (text.new.end ≤ text.old.end + line_room) }
 {
     match verdict {
-        Ok(()) => at,
-        Err(refusal) => put_refusal(out, at, number, refusal),
+        Ok(()) => {}
+        Err(refusal) => put_refusal(text, number, refusal),
     }
 }
 

@@ -15,5 +15,5 @@ returns c =
     let o = c in
     let w = c.put_step_line.ensures in (
       loud o.args.number o.args.refusal c.from-cause.ensures w,
-      omega (arith, w.end, line_short o.args.number c.from-cause.result o.requires.1 (omega (arith, number_short o.args.refusal, c.from-cause.ensures))),
+      omega (arith, w.wrote.end, line_short o.args.number c.from-cause.result o.requires.1 (omega (arith, number_short o.args.refusal, c.from-cause.ensures))),
     )

@@ -5,7 +5,7 @@ use Rattle.play.proofs.Laws.{silent, reported}
 use Rattle.play.proofs.report.Goals as goal
 
 pub returns-in-Ok : goal.returns-in-Ok
-returns-in-Ok c = let a = c.args in (silent _ a.at a.number c.in-Ok.is, omega arith)
+returns-in-Ok c = let a = c.args in (silent a.text.now a.number c.in-Ok.is (omega arith), omega arith)
 
 pub returns-in-Err : goal.returns-in-Err
 returns-in-Err c =
