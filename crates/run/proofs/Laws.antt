@@ -27,8 +27,9 @@ use Rattle.conflicts.proofs.Laws.{none_noted}
 use Rattle.protocol.specs.System.{verdict}
 use Rattle.protocol.specs.World.{World}
 use Rattle.system.specs.Dash.{dash}
-use Rattle.print.specs.Print.{Wrote}
-use Rattle.print.proofs.Laws.{both}
+use Rattle.print.specs.declared.Text.{Text}
+use Rattle.print.specs.Print.{Wrote, Printed}
+use Rattle.print.proofs.Laws.{more}
 use Rattle.steps.specs.Steps.{steps_of}
 use Rattle.lines.specs.Lines.{run_line, refused_line}
 use Rattle.lines.proofs.Laws.{run_short}
@@ -65,17 +66,17 @@ module _ (t : SiteTable) (book : List Command) {b : Buffers} {w : World (dash t 
   held_lines = lines_seen t book b.sites w t.sites (λ i l. sym (h.site i l).says)
 
 -- The first line, those of the refused steps and those of the sites are the print.
-pub all_parts : (t : SiteTable) (book : List Command) (steps : List ℕ) {s s₁ s₂ s₃ e : List ℕ} {r₁ r₂ r₃ f c : ℕ} {sites log sent : List ℕ} → f ≡ faulty_count_of t → c ≡ length book
-    → Wrote s₁ r₁ s 0 (run_line t.sites f c) → PlayedAll t book steps s₁ s₂ r₁ r₂ e sites log sent → Wrote s₃ r₃ s₂ r₂ (lines_below t sites t.sites)
-    → Wrote s₃ r₃ s 0 (played t book (steps_of steps))
-all_parts t book steps {s} {s₁} {s₂} {s₃} {e} {r₁} {r₂} {r₃} {f} {c} ef ec x p y =
-    both (omega arith)
-    (both (omega arith) (subst (λ (l : List ℕ). Wrote s₁ r₁ s 0 l) (λ i. run_line t.sites (ef i) (ec i)) x) p.lines)
-    (subst (λ (l : List ℕ). Wrote s₃ r₃ s₂ r₂ l) (held_lines t book p.world) y)
+pub all_parts : (t : SiteTable) (book : List Command) (steps : List ℕ) {x u v w : Text} {e : List ℕ} {f c : ℕ} {sites log sent : List ℕ} → f ≡ faulty_count_of t → c ≡ length book
+    → Printed u x (run_line t.sites f c) → PlayedAll t book steps v u e sites log sent → Printed w v (lines_below t sites t.sites)
+    → Printed w x (played t book (steps_of steps))
+all_parts t book steps {x} {u} {v} {w} ef ec a p z =
+    more
+    (more (subst (λ (l : List ℕ). Printed u x l) (λ i. run_line t.sites (ef i) (ec i)) a) p.lines)
+    (subst (λ (l : List ℕ). Printed w v l) (held_lines t book p.world) z)
 
 -- What is past the rows of the sites is as it was before the start.
-pub past_left : (t : SiteTable) (book : List Command) {steps earlier started sent unsent s₁ s₂ sites log sent' : List ℕ} {r₁ r₂ : ℕ} → Started t started sent earlier unsent
-    → PlayedAll t book steps s₁ s₂ r₁ r₂ started sites log sent' → PastLeft t earlier sites
+pub past_left : (t : SiteTable) (book : List Command) {steps earlier started sent unsent sites log sent' : List ℕ} {u v : Text} → Started t started sent earlier unsent
+    → PlayedAll t book steps v u started sites log sent' → PastLeft t earlier sites
 past_left t book {earlier = earlier} {started = started} {sites = sites} fresh played i l =
     (played.past i l).past
     ∙ further 0 (read_le 2 (site_at sites i) span_place) (site_at earlier i) (site_at started i) (omega arith) (fresh.past i l)

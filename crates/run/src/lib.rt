@@ -4,7 +4,7 @@
 ghost use Rattle.std.specs.Prelude.{◌≡◌, length};
 ghost use Rattle.commands.specs.Book.{commands_of};
 ghost use Rattle.conflicts.specs.Conflicts.{Noted};
-ghost use Rattle.print.specs.Print.{Wrote};
+ghost use Rattle.print.specs.Print.{Printed};
 ghost use Rattle.steps.specs.Steps.{steps_of};
 ghost use Rattle.runs.specs.Run.{played};
 ghost use Rattle.run.specs.Ran.{working, has_room, ran, run_of};
@@ -13,6 +13,7 @@ ghost use Rattle.run.specs.Left.{PastLeft, Worked, Left};
 ghost use Rattle.run.specs.Prepared.{Playable, Roomy, Sized};
 
 use layout::Site;
+use print::Text;
 use table::Rules;
 
 // The room for any print: 33 bytes for the first line, 22 for each of 30,000 refused steps, 987 for each of 11 sites.
@@ -36,20 +37,20 @@ fn print_on(
     book: &[u8],
     noted: &[u64],
     steps: &[u8],
-    out: &mut [u8],
-) -> usize
-    requires { Playable rules.table steps.now out.old × Sized rules.table (working sites.old log.old sent.old) × Noted book.now noted.now
+    text: &mut Text<'_>,
+)
+    requires { Playable rules.table steps.now text.old × Sized rules.table (working sites.old log.old sent.old) × Noted book.now noted.now
         × (rules.commands ≡ length (commands_of book.now)) }
-    ensures { Wrote out.new result out.old 0 (played rules.table (commands_of book.now) (steps_of steps.now))
+    ensures { Printed text.new text.old (played rules.table (commands_of book.now) (steps_of steps.now))
         × HoldsLast rules.table (commands_of book.now) (steps_of steps.now) sites.new log.new sent.new
         × PastLeft rules.table sites.old sites.new }
 {
     let table = rules.table;
     world::start(sites, sent, table);
     let faulty = table.faulty_count();
-    let first = lines::put_run_line(out, 0, table.sites, faulty, rules.commands);
-    let end = play::play_steps(sites, log, sent, rules, book, noted, steps, out, first);
-    report::put_site_lines(out, end, &sites[..], table)
+    lines::put_run_line(text, table.sites, faulty, rules.commands);
+    play::play_steps(sites, log, sent, rules, book, noted, steps, text);
+    report::put_site_lines(text, &sites[..], table);
 }
 
 // The run takes the first part of each buffer: of the sites' as much as its table has sites.
@@ -61,11 +62,11 @@ fn print_in(
     book: &[u8],
     noted: &[u64],
     steps: &[u8],
-    out: &mut [u8],
-) -> usize
-    requires { Playable rules.table steps.now out.old × Roomy (working sites.old log.old sent.old) × Noted book.now noted.now
+    text: &mut Text<'_>,
+)
+    requires { Playable rules.table steps.now text.old × Roomy (working sites.old log.old sent.old) × Noted book.now noted.now
         × (rules.commands ≡ length (commands_of book.now)) }
-    ensures { Wrote out.new result out.old 0 (played rules.table (commands_of book.now) (steps_of steps.now))
+    ensures { Printed text.new text.old (played rules.table (commands_of book.now) (steps_of steps.now))
         × Worked rules.table (commands_of book.now) (steps_of steps.now)
         (working sites.old log.old sent.old) (working sites.new log.new sent.new) }
 {
@@ -79,8 +80,8 @@ fn print_in(
         book,
         noted,
         steps,
-        out,
-    )
+        text,
+    );
 }
 
 // Whether buffers of these sizes have room for any run.
@@ -101,18 +102,22 @@ pub fn run(input: &[u8], sites: &mut [u8], log: &mut [u8], sent: &mut [u8], out:
     if !has_room(sites.len(), log.len(), sent.len(), out.len()) {
         return 0;
     }
+    let mut text = Text::new(out);
     let mut noted = [0u64; conflicts::NOTED];
     match header::judge_run(input, &mut noted) {
         Ok(run) => {
             let rules = run.rules;
             let end = run.steps;
             let book = &input[header::HEADER..end];
+            let steps = &input[end..];
             conflicts::conflict_rows(book, rules.commands, &mut noted);
-            print_in(sites, log, sent, rules, book, &noted, &input[end..], out)
+            print_in(sites, log, sent, rules, book, &noted, steps, &mut text);
+            text.end()
         }
         Err(refusal) => {
             let cause = u32::from(refusal) as usize;
-            lines::put_refused_line(out, 0, cause)
+            lines::put_refused_line(&mut text, cause);
+            text.end()
         }
     }
 }

@@ -7,17 +7,17 @@ use Rattle.commands.specs.Book.{commands_of}
 use Rattle.run.proofs.Laws.{first_short, held_printable, all_parts, past_left}
 use Rattle.run.proofs.print_on.Goals as goal
 
-pub put_run_line-first-requires : goal.put_run_line-first-requires
-put_run_line-first-requires c =
+pub put_run_line-requires : goal.put_run_line-requires
+put_run_line-requires c =
     let a = c in
     omega (arith, first_short a.args.rules.table a.args.book.now a.requires.0.good c.faulty_count-faulty.ensures a.requires.3, a.requires.0.room)
 
-pub play_steps-end-requires : goal.play_steps-end-requires
-play_steps-end-requires c =
+pub play_steps-requires : goal.play_steps-requires
+play_steps-requires c =
     let a = c in
-    let w = c.put_run_line-first in
+    let w = c.put_run_line.ensures in
     record {
-      room = omega (arith, first_short a.args.rules.table a.args.book.now a.requires.0.good c.faulty_count-faulty.ensures a.requires.3, a.requires.0.room, w.ensures.end, w.auto.out);
+      room = omega (arith, first_short a.args.rules.table a.args.book.now a.requires.0.good c.faulty_count-faulty.ensures a.requires.3, a.requires.0.room, w.wrote.end, w.size);
       good = a.requires.0.good;
       short = a.requires.0.short;
       log = omega (arith, a.requires.1.log);
@@ -29,18 +29,18 @@ play_steps-end-requires c =
 pub put_site_lines-requires : goal.put_site_lines-requires
 put_site_lines-requires c =
     let a = c in
-    let w = c.put_run_line-first in
-    let p = c.play_steps-end in
+    let w = c.put_run_line.ensures in
+    let p = c.play_steps.ensures in
     let n = good_limits a.args.rules.table a.requires.0.good in (
-      held_printable a.args.rules.table (commands_of a.args.book.now) p.ensures.world,
-      omega (arith, first_short a.args.rules.table a.args.book.now a.requires.0.good c.faulty_count-faulty.ensures a.requires.3, a.requires.0.room, w.ensures.end, w.auto.out, p.ensures.room, p.auto.out),
+      held_printable a.args.rules.table (commands_of a.args.book.now) p.world,
+      omega (arith, first_short a.args.rules.table a.args.book.now a.requires.0.good c.faulty_count-faulty.ensures a.requires.3, a.requires.0.room, w.wrote.end, w.size, p.room, p.lines.size),
     )
 
 pub returns : goal.returns
 returns c =
     let a = c in (
       all_parts a.args.rules.table (commands_of a.args.book.now) a.args.steps.now c.faulty_count-faulty.ensures a.requires.3
-          c.put_run_line-first.ensures c.play_steps-end.ensures c.put_site_lines.ensures.0,
-      c.play_steps-end.ensures.world,
-      past_left a.args.rules.table (commands_of a.args.book.now) c.start.ensures c.play_steps-end.ensures,
+          c.put_run_line.ensures c.play_steps.ensures c.put_site_lines.ensures.0,
+      c.play_steps.ensures.world,
+      past_left a.args.rules.table (commands_of a.args.book.now) c.start.ensures c.play_steps.ensures,
     )

@@ -2,6 +2,9 @@
 -- Assumes nothing.
 use mathlib.Core.Path.{sym, ap, ◌∙◌}
 use native.Mathlib.Omega.{arith}
+use lib.ListN.{length}
+use Rattle.std.proofs.Common.{rules}
+use Rattle.print.proofs.Laws.{left_there}
 use Rattle.refusals.specs.Numbers.{number_short}
 use Rattle.table.specs.Table.{is_good}
 use Rattle.conflicts.proofs.Laws.{all_noted}
@@ -31,13 +34,13 @@ print_in-requires c =
     let room = roomy_told (working a.sites.now a.log.now a.sent.now) a.out.now (sym c.has_room.ensures ∙ c.if-not-has_room.false) in
     let e = judged_end r q in
     let p = placed_part r (book_part r e) q c.judge_run.ensures.1 in
-    (record { good = ap is_good (judged_table r q) ∙ s.table; short = steps_short r s e; room = room.1 }, room.0, all_noted _ _ p.0 p.2 c.conflict_rows.ensures, p.1)
+    (record { good = ap is_good (judged_table r q) ∙ s.table; short = steps_short r s e; room = omega (arith, room.1, c.new-text.ensures.end, ap length c.new-text.ensures.now) }, room.0, all_noted _ _ p.0 p.2 c.conflict_rows.ensures, p.1)
 
 pub put_refused_line-requires : goal.put_refused_line-requires
 put_refused_line-requires c =
     let a = c.args in
     let room = roomy_told (working a.sites.now a.log.now a.sent.now) a.out.now (sym c.has_room.ensures ∙ c.if-not-has_room.false) in
-    omega (arith, room.1, refused_short c.from-cause.result (omega (arith, number_short c.in-Err.refusal, c.from-cause.ensures)))
+    omega (arith, room.1, c.new-text.ensures.end, ap length c.new-text.ensures.now, refused_short c.from-cause.result (omega (arith, number_short c.in-Err.refusal, c.from-cause.ensures)))
 
 pub returns-in-Ok : goal.returns-in-Ok
 returns-in-Ok c =
@@ -51,7 +54,7 @@ returns-in-Ok c =
     let t = judged_table r q in
     let taken = (judged_taken r q).0 in
     let room = sym c.has_room.ensures ∙ c.if-not-has_room.false in (
-      with-room r w o room (print_taken r taken t (book_part r e) (step_part r e) p.ensures.0),
+      with-room r w o room (print_taken r taken t (book_part r e) (step_part r e) (left_there c.new-text.ensures.now c.new-text.ensures.end p.ensures.0 c.end.ensures (search rules))),
       played_left r w o room taken t (book_part r e) (step_part r e) p.ensures.1,
     )
 
@@ -62,7 +65,7 @@ returns-in-Err c =
     let w = (working a.sites.now a.log.now a.sent.now) in
     let o = a.out.now in
     let refused = judged_refused r (sym c.in-Err.is ∙ c.judge_run.ensures.0) in (
-      with-room r w o (sym c.has_room.ensures ∙ c.if-not-has_room.false) (print_refused r c.in-Err.refusal refused c.from-cause.ensures c.put_refused_line.ensures),
+      with-room r w o (sym c.has_room.ensures ∙ c.if-not-has_room.false) (print_refused r c.in-Err.refusal refused c.from-cause.ensures (left_there c.new-text.ensures.now c.new-text.ensures.end c.put_refused_line.ensures c.end-in-Err.ensures (search rules))),
       refused_left r w o c.in-Err.refusal refused,
     )
 
@@ -85,15 +88,15 @@ slice_bounds-book-end c =
     let s = sound r (judged_taken r q).0 in
     omega (arith, judged_end r q, s.end)
 
-pub slice_bounds-print_in-count : goal.slice_bounds-print_in-count
-slice_bounds-print_in-count c =
+pub slice_bounds-steps-count : goal.slice_bounds-steps-count
+slice_bounds-steps-count c =
     let r = c.args.input.now in
     let q = sym c.in-Ok.is ∙ c.judge_run.ensures.0 in
     let s = sound r (judged_taken r q).0 in
     omega (arith, judged_end r q, s.end)
 
-pub slice_bounds-print_in-start : goal.slice_bounds-print_in-start
-slice_bounds-print_in-start c =
+pub slice_bounds-steps-start : goal.slice_bounds-steps-start
+slice_bounds-steps-start c =
     let r = c.args.input.now in
     let q = sym c.in-Ok.is ∙ c.judge_run.ensures.0 in
     let s = sound r (judged_taken r q).0 in
