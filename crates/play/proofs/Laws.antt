@@ -53,21 +53,21 @@ reported number {s} {u} e w = subst (λ (x : Verdict). Printed u s (report numbe
 
 module _ (t : SiteTable) (book : List Command) where
   -- Played so far: what steps led to the world that the buffers hold, and what lines and world the steps left give from there.
-  pub record Playing (steps before : List ℕ) (from : ℕ) (earlier : List ℕ) (b : Buffers) (out : List ℕ) (end at number : ℕ) : Type 0 where
+  pub record Playing (steps : List ℕ) (first : Text) (earlier : List ℕ) (b : Buffers) (text : Text) (at number : ℕ) : Type 0 where
     pub past : List protocol.Step
     pub world : HoldsWorld t book b (play (dash t book) (start (dash t book)) past)
     pub lines :
-        Left out end (step_lines t book number (play (dash t book) (start (dash t book)) past) (steps_of (drop at steps))) before from
+        Left text first (step_lines t book number (play (dash t book) (start (dash t book)) past) (steps_of (drop at steps)))
         (step_lines t book 1 (start (dash t book)) (steps_of steps))
     pub after : world_after t book (play (dash t book) (start (dash t book)) past) (steps_of (drop at steps)) ≡ world_after t book (start (dash t book)) (steps_of steps)
     pub kept : PastRows t.sites earlier b.sites
 
-  pub playing_none : (steps before : List ℕ) (from : ℕ) {b : Buffers} → HoldsWorld t book b (start (dash t book)) → Playing steps before from b.sites b before from 0 1
-  playing_none steps before from {b} h =
+  pub playing_none : (steps : List ℕ) (first : Text) {b : Buffers} → HoldsWorld t book b (start (dash t book)) → HasRoom first 0 → Playing steps first b.sites b first 0 1
+  playing_none steps first {b} h r =
       record {
         past = [];
         world = h;
-        lines = left_all before from (step_lines t book 1 (start (dash t book)) (steps_of steps));
+        lines = left_all first (step_lines t book 1 (start (dash t book)) (steps_of steps)) r;
         after = refl;
         kept = λ i l. past_same (site_at b.sites i);
       }
@@ -78,23 +78,23 @@ module _ (t : SiteTable) (book : List Command) where
       subst (λ (k : ℕ). HoldsWorld t book (lent b.sites b.log k b.sent) (last_world t book (steps_of steps)))
       (sym (log_length b.log b.entries) ∙ (λ i. length (h.says i).log)) h
 
-  module _ (steps before : List ℕ) (from : ℕ) {earlier : List ℕ} {b : Buffers} {out : List ℕ} {end at number : ℕ} (p : Playing steps before from earlier b out end at number) where
+  module _ (steps : List ℕ) (first : Text) {earlier : List ℕ} {b : Buffers} {text : Text} {at number : ℕ} (p : Playing steps first earlier b text at number) where
     now_world : world_of t book b ≡ play (dash t book) (start (dash t book)) p.past
     now_world = p.world.says
 
     -- One step more.
-    pub playing_more : {u : Step} {next : ℕ} {v : Verdict} {b' : Buffers} {out' : List ℕ} {end' : ℕ} → end ≤ length out → read_step (drop at steps) ≡ Some u → next ≡ at + size_of u
-        → Outcome t book (meaning u) b v b' → Wrote out' end' out end (report number v) → Playing steps before from earlier b' out' end' next (number + 1)
-    playing_more {u} {next} {v} {b'} {out'} {end'} h e q o w =
+    pub playing_more : {u : Step} {next : ℕ} {v : Verdict} {b' : Buffers} {text' : Text} → read_step (drop at steps) ≡ Some u → next ≡ at + size_of u
+        → Outcome t book (meaning u) b v b' → Printed text' text (report number v) → Playing steps first earlier b' text' next (number + 1)
+    playing_more {u} {next} {v} {b'} {text'} e q o w =
         record {
           past = p.past ++ (meaning u ∷ []);
           world = subst (λ (x : World (dash t book)). HoldsWorld t book b' x) (ap (λ (x : World (dash t book)). step (dash t book) x (meaning u)) now_world ∙ sym grown) o.holds;
           lines =
-              subst (λ (k : ℕ). Left out' end' (step_lines t book k (play (dash t book) (start (dash t book)) (p.past ++ (meaning u ∷ []))) rest) before from whole) (sym (add-one number))
-              (subst (λ (x : World (dash t book)). Left out' end' (step_lines t book (suc number) x rest) before from whole) (sym grown)
-              (left_more h w
-              (subst (λ (x : Verdict). Left out end (report number x ++ step_lines t book (suc number) (step (dash t book) past (meaning u)) rest) before from whole) (sym judged)
-              (subst (λ (rs : List (Option Step)). Left out end (step_lines t book number past rs) before from whole) left p.lines))));
+              subst (λ (k : ℕ). Left text' first (step_lines t book k (play (dash t book) (start (dash t book)) (p.past ++ (meaning u ∷ []))) rest) whole) (sym (add-one number))
+              (subst (λ (x : World (dash t book)). Left text' first (step_lines t book (suc number) x rest) whole) (sym grown)
+              (left_more w
+              (subst (λ (x : Verdict). Left text first (report number x ++ step_lines t book (suc number) (step (dash t book) past (meaning u)) rest) whole) (sym judged)
+              (subst (λ (rs : List (Option Step)). Left text first (step_lines t book number past rs) whole) left p.lines))));
           after =
               ap (λ (x : World (dash t book)). world_after t book x rest) grown
               ∙ ap (world_after t book past) (sym left)
@@ -123,17 +123,17 @@ module _ (t : SiteTable) (book : List Command) where
         judged = o.verdict ∙ ap (λ (x : World (dash t book)). judge (dash t book) x (meaning u)) now_world
 
     -- A step that cannot be read is the last.
-    pub playing_last : {next : ℕ} {out' : List ℕ} {end' : ℕ} → end ≤ length out → at < length steps → read_step (drop at steps) ≡ None → next ≡ length steps
-        → Wrote out' end' out end (report number (Err Form)) → Playing steps before from earlier b out' end' next (number + 1)
-    playing_last {next} {out'} {end'} h g e q w =
+    pub playing_last : {next : ℕ} {text' : Text} → at < length steps → read_step (drop at steps) ≡ None → next ≡ length steps
+        → Printed text' text (report number (Err Form)) → Playing steps first earlier b text' next (number + 1)
+    playing_last {next} {text'} g e q w =
         record {
           past = p.past;
           world = p.world;
           lines =
-              subst (λ (rs : List (Option Step)). Left out' end' (step_lines t book (number + 1) past rs) before from whole) (sym none)
-              (left_more h w
-              (subst (λ (l : List ℕ). Left out end l before from whole) (sym (append-nil (report number (Err Form))))
-              (subst (λ (rs : List (Option Step)). Left out end (step_lines t book number past rs) before from whole) left p.lines)));
+              subst (λ (rs : List (Option Step)). Left text' first (step_lines t book (number + 1) past rs) whole) (sym none)
+              (left_more w
+              (subst (λ (l : List ℕ). Left text first l whole) (sym (append-nil (report number (Err Form))))
+              (subst (λ (rs : List (Option Step)). Left text first (step_lines t book number past rs) whole) left p.lines)));
           after = ap (world_after t book past) none ∙ ap (world_after t book past) (sym left) ∙ p.after;
           kept = p.kept;
         }
@@ -151,10 +151,10 @@ module _ (t : SiteTable) (book : List Command) where
         none = end_at steps next (omega arith)
 
     -- No bytes are left.
-    pub playing_end : length steps ≤ at → end ≤ from + lines_room → PlayedAll t book steps before out from end earlier b.sites b.log b.sent
+    pub playing_end : length steps ≤ at → text.end ≤ first.end + lines_room → PlayedAll t book steps text first earlier b.sites b.log b.sent
     playing_end g r =
         record {
-          lines = left_none (subst (λ (rs : List (Option Step)). Left out end (step_lines t book number past rs) before from whole) left p.lines);
+          lines = left_none (subst (λ (rs : List (Option Step)). Left text first (step_lines t book number past rs) whole) left p.lines);
           world = last_held steps (subst (λ (x : World (dash t book)). HoldsWorld t book b x) (ap (world_after t book past) (sym left) ∙ p.after) p.world);
           room = r;
           past = p.kept;

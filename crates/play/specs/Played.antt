@@ -10,7 +10,8 @@ use Rattle.commands.specs.Book.{commands_of}
 use Rattle.conflicts.specs.Conflicts.{Noted}
 use Rattle.protocol.specs.World.{World, start}
 use Rattle.system.specs.Dash.{dash, last_round}
-use Rattle.print.specs.Print.{Wrote}
+use Rattle.print.specs.declared.Text.{Text}
+use Rattle.print.specs.Print.{HasRoom, Printed}
 use Rattle.steps.specs.Steps.{steps_of}
 use Rattle.runs.specs.Run.{max_run, step_lines, world_after}
 use Rattle.entries.specs.Entries.{entry_size}
@@ -30,13 +31,13 @@ abbrev pub log_room : ℕ
 log_room = max_sites * (last_round * 2) + 1
 
 -- Buffers at the start of a run, with room for what the steps of the run write.
-pub record Playable (rules : Rules) (book words steps out : List ℕ) (from : ℕ) (b : Buffers) : Type 0 where
+pub record Playable (rules : Rules) (book words steps : List ℕ) (text : Text) (b : Buffers) : Type 0 where
   pub good : is_good rules.table ≡ true
   pub short : length steps < max_run
   pub log : log_room * entry_size ≤ length b.log
   pub noted : Noted book words
   pub counted : length (commands_of book) ≡ rules.commands
-  pub room : from + lines_room ≤ length out
+  pub room : HasRoom text lines_room
   pub world : HoldsWorld rules.table (commands_of book) b (start (dash rules.table (commands_of book)))
 
 module _ (t : SiteTable) (book : List Command) (steps : List (Option Step)) where
@@ -48,10 +49,10 @@ module _ (t : SiteTable) (book : List Command) (steps : List (Option Step)) wher
   abbrev pub HoldsLast : List ℕ → List ℕ → List ℕ → Type 0
   HoldsLast sites log sent = HoldsWorld t book (lent sites log (length last_world.log) sent) last_world
 
--- Steps played from the start of a run: `before` became `after` by the lines of the refused ones, written from `from` to `end`.
+-- Steps played from the start of a run: the lines of the refused ones were printed.
 -- What is past the rows of the sites is as it was in `earlier`.
-pub record PlayedAll (t : SiteTable) (book : List Command) (steps before after : List ℕ) (from end : ℕ) (earlier sites log sent : List ℕ) : Type 0 where
-  pub lines : Wrote after end before from (step_lines t book 1 (start (dash t book)) (steps_of steps))
+pub record PlayedAll (t : SiteTable) (book : List Command) (steps : List ℕ) (new old : Text) (earlier sites log sent : List ℕ) : Type 0 where
+  pub lines : Printed new old (step_lines t book 1 (start (dash t book)) (steps_of steps))
   pub world : HoldsLast t book (steps_of steps) sites log sent
-  pub room : end ≤ from + lines_room
+  pub room : new.end ≤ old.end + lines_room
   pub past : PastRows t.sites earlier sites

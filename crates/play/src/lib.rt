@@ -35,7 +35,7 @@ fn report(text: &mut Text<'_>, number: usize, verdict: Verdict)
     }
 }
 
-// The steps are played from the start of a run, with what is kept of the log. The answer is the position after the last line.
+// The steps are played from the start of a run, with what is kept of the log. The lines of the refused ones are written.
 // What cannot be read is refused as 3, and nothing is read after it.
 fn play_on(
     sites: &mut [u8],
@@ -46,31 +46,29 @@ fn play_on(
     book: &[u8],
     noted: &[u64],
     steps: &[u8],
-    out: &mut [u8],
-    from: usize,
-) -> usize
-    requires { Playable rules book.now noted.now steps.now out.old from (lent sites.old log.old kept.old.entries sent.old)
+    text: &mut Text<'_>,
+)
+    requires { Playable rules book.now noted.now steps.now text.old (lent sites.old log.old kept.old.entries sent.old)
         × Kept rules.table (rows_in noted.now) log.old kept.old }
-    ensures { PlayedAll rules.table (commands_of book.now) steps.now out.old out.new from result sites.old
+    ensures { PlayedAll rules.table (commands_of book.now) steps.now text.new text.old sites.old
         sites.new log.new sent.new }
 {
-    let mut end = from;
     let mut at: usize = 0;
     let mut number: usize = 1;
     while at < steps.len() {
         let Some(step) = steps::read_step(steps, at) else {
-            return put_refusal(out, end, number, Refusal::Form);
+            put_refusal(text, number, Refusal::Form);
+            return;
         };
         let size = steps::size(step);
         let verdict = stepping::step(sites, log, sent, kept, rules, book, noted, step);
-        end = report(out, end, number, verdict);
+        report(text, number, verdict);
         at += size;
         number += 1;
     }
-    end
 }
 
-// The steps are played from the start of a run. The answer is the position after the last line.
+// The steps are played from the start of a run. The lines of the refused ones are written.
 pub fn play_steps(
     sites: &mut [u8],
     log: &mut [u8],
@@ -79,15 +77,12 @@ pub fn play_steps(
     book: &[u8],
     noted: &[u64],
     steps: &[u8],
-    out: &mut [u8],
-    from: usize,
-) -> usize
-    requires { Playable rules book.now noted.now steps.now out.old from (lent sites.old log.old 0 sent.old) }
-    ensures { PlayedAll rules.table (commands_of book.now) steps.now out.old out.new from result sites.old
+    text: &mut Text<'_>,
+)
+    requires { Playable rules book.now noted.now steps.now text.old (lent sites.old log.old 0 sent.old) }
+    ensures { PlayedAll rules.table (commands_of book.now) steps.now text.new text.old sites.old
         sites.new log.new sent.new }
 {
     let mut kept = Rounds::none();
-    play_on(
-        sites, log, sent, &mut kept, rules, book, noted, steps, out, from,
-    )
+    play_on(sites, log, sent, &mut kept, rules, book, noted, steps, text);
 }

@@ -1,7 +1,7 @@
 -- `play::play_on`: what is left of the steps becomes less, one after another.
 -- Assumes nothing.
 use mathlib.Core.Path.{refl, sym, ap, ◌∙◌}
-use Prim.Native.Nat.{ℕ, ◌+◌, ◌≤◌, ◌<◌}
+use Prim.Native.Nat.{ℕ, ◌+◌, ◌<◌}
 use native.Mathlib.Omega.{arith}
 use lib.ListN.{length}
 use Rattle.commands.specs.Book.{commands_of}
@@ -21,8 +21,7 @@ loop-at-init c =
       refl,
       refl,
       refl,
-      refl,
-      playing_none a.rules.table (commands_of a.book.now) a.steps.now a.out.now a.from o.requires.0.world,
+      playing_none a.rules.table (commands_of a.book.now) a.steps.now a.text.now o.requires.0.world (omega (arith, o.requires.0.room)),
       o.requires.1,
     )
 
@@ -34,7 +33,7 @@ put_refusal-requires c =
     let o = c in
     let a = o.args in
     let l = c.loop-at in
-    (omega (arith, o.requires.0.room, o.requires.0.short, l.invariant.0, l.invariant.1, l.invariant.2, l.invariant.6, c.loop-at-test.true), omega (arith, o.requires.0.short, l.invariant.0, l.invariant.1))
+    (omega (arith, o.requires.0.room, o.requires.0.short, l.invariant.0, l.invariant.1, l.invariant.2, l.invariant.6.lines.size, c.loop-at-test.true), omega (arith, o.requires.0.short, l.invariant.0, l.invariant.1))
 
 pub returns-in_default : goal.returns-in_default
 returns-in_default c =
@@ -43,9 +42,8 @@ returns-in_default c =
     let l = c.loop-at in
     let w = c.put_refusal.ensures in
     let g : l.at < length a.steps.now = omega (arith, c.loop-at-test.true) in
-    let far : l.end ≤ length l.out = omega (arith, o.requires.0.room, o.requires.0.short, l.invariant.0, l.invariant.1, l.invariant.2, l.invariant.6, c.loop-at-test.true) in
-    playing_end a.rules.table (commands_of a.book.now) a.steps.now a.out.now a.from
-    (playing_last a.rules.table (commands_of a.book.now) a.steps.now a.out.now a.from l.invariant.7 far g (sym c.read_step.ensures ∙ c.in_default.is) refl w.0)
+    playing_end a.rules.table (commands_of a.book.now) a.steps.now a.text.now
+    (playing_last a.rules.table (commands_of a.book.now) a.steps.now a.text.now l.invariant.6 g (sym c.read_step.ensures ∙ c.in_default.is) refl w.0)
     (omega arith) (omega (arith, o.requires.0.short, l.invariant.1, l.invariant.2, w.1, g))
 
 pub step-verdict-requires : goal.step-verdict-requires
@@ -56,7 +54,7 @@ step-verdict-requires c =
     let t = a.rules.table in
     let k = a.book.now in
     let q = o.requires.0 in
-    let p = l.invariant.7 in
+    let p = l.invariant.6 in
     let n = entries_few t k q.good p.past p.world in (
       (record {
         table = q.good;
@@ -67,15 +65,15 @@ step-verdict-requires c =
       }),
       q.noted.places,
       q.counted,
-      l.invariant.8,
+      l.invariant.7,
     )
 
-pub report-end-requires : goal.report-end-requires
-report-end-requires c =
+pub report-requires : goal.report-requires
+report-requires c =
     let o = c in
     let a = o.args in
     let l = c.loop-at in
-    (omega (arith, o.requires.0.room, o.requires.0.short, l.invariant.0, l.invariant.1, l.invariant.2, l.invariant.6, c.loop-at-test.true), omega (arith, o.requires.0.short, l.invariant.0, l.invariant.1))
+    (omega (arith, o.requires.0.room, o.requires.0.short, l.invariant.0, l.invariant.1, l.invariant.2, l.invariant.6.lines.size, c.loop-at-test.true), omega (arith, o.requires.0.short, l.invariant.0, l.invariant.1))
 
 pub loop-at-smaller : goal.loop-at-smaller
 loop-at-smaller c =
@@ -92,18 +90,16 @@ loop-at-preserved c =
     let a = o.args in
     let l = c.loop-at in
     let b = c.step-verdict in
-    let w = c.report-end.ensures in
+    let w = c.report.ensures in
     let e = sym c.read_step.ensures ∙ c.in-Some.is in
-    let i = inside a.steps.now l.at l.invariant.0 e c.size-size.ensures in
-    let far : l.end ≤ length l.out = omega (arith, o.requires.0.room, o.requires.0.short, l.invariant.0, l.invariant.1, l.invariant.2, l.invariant.6, c.loop-at-test.true) in (
+    let i = inside a.steps.now l.at l.invariant.0 e c.size-size.ensures in (
       i.1,
       omega (arith, l.invariant.1, i.0),
       omega (arith, w.1, l.invariant.2),
       b.auto.sites ∙ l.invariant.3,
       b.auto.log ∙ l.invariant.4,
       b.auto.sent ∙ l.invariant.5,
-      c.report-end.auto.out ∙ l.invariant.6,
-      playing_more a.rules.table (commands_of a.book.now) a.steps.now a.out.now a.from l.invariant.7 far e (ap (λ (z : ℕ). l.at + z) c.size-size.ensures) b.ensures.0 w.0,
+      playing_more a.rules.table (commands_of a.book.now) a.steps.now a.text.now l.invariant.6 e (ap (λ (z : ℕ). l.at + z) c.size-size.ensures) b.ensures.0 w.0,
       b.ensures.1,
     )
 
@@ -112,5 +108,5 @@ returns c =
     let o = c in
     let a = o.args in
     let l = c.loop-at in
-    playing_end a.rules.table (commands_of a.book.now) a.steps.now a.out.now a.from l.invariant.7
+    playing_end a.rules.table (commands_of a.book.now) a.steps.now a.text.now l.invariant.6
     (omega arith) (omega (arith, o.requires.0.short, l.invariant.0, l.invariant.1, l.invariant.2))

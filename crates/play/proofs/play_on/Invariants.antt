@@ -14,12 +14,11 @@ use Rattle.play.proofs.play_on.Given as goal
 abbrev pub invariant-loop-at : goal.invariant-loop-at
 invariant-loop-at l = (l.at ≤ length l.steps)
     × (2 * l.number ≤ l.at + 2)
-    × (l.end + line_room ≤ l.from + line_room * l.number)
+    × (l.text.end + line_room ≤ l.initial.text.end + line_room * l.number)
     × (length l.sites ≡ length l.initial.sites)
     × (length l.log ≡ length l.initial.log)
     × (length l.sent ≡ length l.initial.sent)
-    × (length l.out ≡ length l.initial.out)
-    × Playing l.rules.table (commands_of l.book) l.steps l.initial.out l.from l.initial.sites (lent l.sites l.log l.kept.entries l.sent) l.out l.end l.at l.number
+    × Playing l.rules.table (commands_of l.book) l.steps l.initial.text l.initial.sites (lent l.sites l.log l.kept.entries l.sent) l.text l.at l.number
     × Kept l.rules.table (rows_in l.noted) l.log l.kept
 
 abbrev pub decreases-loop-at : goal.decreases-loop-at

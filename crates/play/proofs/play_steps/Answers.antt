@@ -12,6 +12,6 @@ play_on-requires c =
     let o = c in
     let a = o.args in
     let e = c.none-kept.ensures in (
-      subst (λ (n : ℕ). Playable a.rules a.book.now a.noted.now a.steps.now a.out.now a.from (lent a.sites.now a.log.now n a.sent.now)) (sym e.0) o.requires,
+      subst (λ (n : ℕ). Playable a.rules a.book.now a.noted.now a.steps.now a.text.now (lent a.sites.now a.log.now n a.sent.now)) (sym e.0) o.requires,
       e.1 a.rules.table (rows_in a.noted.now) a.log.now,
     )
