@@ -4,3 +4,4 @@ pub mod Places
 pub mod Noting
 pub mod Writing
 pub mod RoundTrip
+pub mod Counted

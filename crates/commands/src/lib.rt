@@ -99,16 +99,28 @@ fn count(book: &[u8]) -> usize
     note(book, &mut places).unwrap_or(0)
 }
 
-// The k-th command, from the noted places.
-pub fn indexed(book: &[u8], places: &[u64], k: usize) -> Command
-    requires { (k < length (commands_of book.now)) × Placed book.now places.now }
-    ensures { result ≡ command_of book.now k }
-{
-    let at = places[k] as usize;
-    let Some(command) = read_command(&book[at..]) else {
-        return Command::Read { bike: 0 };
-    };
-    command
+// A book that was read: its bytes, where each of its commands starts, and how many there are.
+#[derive(Clone, Copy)]
+pub struct Book<'a> {
+    pub bytes: &'a [u8],
+    pub places: &'a [u64],
+    pub len: usize,
+    ghost counted: { len ≡ length (commands_of bytes.now) },
+    ghost placed: { Placed bytes.now places.now },
+}
+
+impl Book<'_> {
+    // The k-th command.
+    pub fn command(&self, k: usize) -> Command
+        requires { k < self.now.len }
+        ensures { result ≡ command_of self.now.bytes.now k }
+    {
+        let at = self.places[k] as usize;
+        let Some(command) = read_command(&self.bytes[at..]) else {
+            return Command::Read { bike: 0 };
+        };
+        command
+    }
 }
 
 // Kind and bike are written.

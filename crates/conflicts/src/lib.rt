@@ -7,6 +7,7 @@ ghost use Rattle.register.specs.Register.{bikes, bike_of};
 ghost use Rattle.commands.specs.Book.{max_commands, commands_of, Placed};
 ghost use Rattle.conflicts.specs.Conflicts.{conflict_row, conflict_rows, rows_in, joined_of, Gathered, opposed_of};
 
+use commands::Book;
 use register::{Bike, Command};
 use sets::Set;
 
@@ -35,15 +36,13 @@ fn join(sets: &mut [BikeSets; Bike::COUNT], command: Command, k: usize)
     }
 }
 
-// All n commands join the sets of their bikes.
-fn gather(book: &[u8], places: &[u64], n: usize, sets: &mut [BikeSets; Bike::COUNT])
-    requires { (n ≡ length (commands_of book.now)) × Placed book.now places.now
-        × Gathered book.now 0 sets.old }
-    ensures { Gathered book.now n sets.new }
+// All commands join the sets of their bikes.
+fn gather(book: &Book, sets: &mut [BikeSets; Bike::COUNT])
+    requires { Gathered book.now.bytes.now 0 sets.old }
+    ensures { Gathered book.now.bytes.now book.now.len sets.new }
 {
-    for k in 0..n {
-        let command = commands::indexed(book, places, k);
-        join(sets, command, k);
+    for k in 0..book.len {
+        join(sets, book.command(k), k);
     }
 }
 
@@ -61,14 +60,12 @@ fn opposed(sets: &[BikeSets; Bike::COUNT], command: Command) -> Set
 }
 
 // The commands that conflict with the m-th: those that it is opposed to, but itself.
-fn row(book: &[u8], places: &[u64], m: usize, sets: &[BikeSets; Bike::COUNT]) -> Set
-    requires { (m < length (commands_of book.now)) × Placed book.now places.now
-        × Gathered book.now (length (commands_of book.now)) sets.now }
-    ensures { result ≡ conflict_row book.now m }
+fn row(book: &Book, m: usize, sets: &[BikeSets; Bike::COUNT]) -> Set
+    requires { (m < book.now.len) × Gathered book.now.bytes.now book.now.len sets.now }
+    ensures { result ≡ conflict_row book.now.bytes.now m }
 {
-    let command = commands::indexed(book, places, m);
     let itself = Set::empty().with(m);
-    opposed(sets, command).without(itself)
+    opposed(sets, book.command(m)).without(itself)
 }
 
 // The rows of the n commands are noted. All rows are empty before, and those past the commands stay so.
@@ -78,7 +75,12 @@ fn fill_rows(book: &[u8], n: usize, sets: &[BikeSets; Bike::COUNT], noted: &mut 
     ensures { noted.new ≡ take max_commands noted.old ++ conflict_rows book.now }
 {
     for m in 0..n {
-        let found = row(book, &noted[..], m, sets);
+        let read = Book {
+            bytes: book,
+            places: &noted[..],
+            len: n,
+        };
+        let found = row(&read, m, sets);
         found.store(noted, commands::MAX_COMMANDS + m);
     }
 }
@@ -94,6 +96,11 @@ pub fn conflict_rows(book: &[u8], n: usize, noted: &mut [u64])
         adds: none,
         reads: none,
     }; Bike::COUNT];
-    gather(book, &noted[..], n, &mut sets);
+    let read = Book {
+        bytes: book,
+        places: &noted[..],
+        len: n,
+    };
+    gather(&read, &mut sets);
     fill_rows(book, n, &sets, noted);
 }

@@ -13,6 +13,7 @@ ghost use Rattle.refusals.specs.Refusals.{code_of};
 ghost use Rattle.judging.specs.Outcomes.{outcome};
 ghost use Rattle.delivering.specs.Delivering.{fast_delivery_call, round_end_call};
 
+use commands::Book;
 use layout::Site;
 use refusals::{Refusal, Verdict};
 use table::Rules;
@@ -26,14 +27,12 @@ pub fn fast_delivery(table: &[u8], book: &[u8], site: &mut [u8], command: usize)
     if command >= rules.commands {
         return Err(Refusal::Range);
     }
-    fast::fast_delivery(
-        &mut site[..Site::SIZE],
-        rules.table,
-        book,
-        &places,
-        rules.commands,
-        command,
-    )
+    let book = Book {
+        bytes: book,
+        places: &places,
+        len: rules.commands,
+    };
+    fast::fast_delivery(&mut site[..Site::SIZE], rules.table, &book, command)
 }
 
 // The round ends as the entries that the site has read decide it, or the step is refused.
@@ -44,13 +43,17 @@ fn end_round(site: &mut [u8], rules: Rules, book: &[u8], noted: &[u64], log: &[u
     ensures { EndedBy rules.table (commands_of book.now) (log_of log.now) site.old result site.new }
 {
     let table = rules.table;
-    let commands = rules.commands;
     let header = Site::read(&site[..]);
     let position = header.position as usize;
     let round = header.round as usize;
     let rows = &noted[commands::MAX_COMMANDS..];
     let decision = recovery::decide(log, position, round, table, rows);
-    ending::round_end(site, book, noted, commands, decision)
+    let book = Book {
+        bytes: book,
+        places: noted,
+        len: rules.commands,
+    };
+    ending::round_end(site, &book, decision)
 }
 
 // Ends the round of a waiting site.

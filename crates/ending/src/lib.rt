@@ -3,12 +3,13 @@
 
 ghost use Rattle.std.specs.Prelude.{◌≡◌, ℕ, ◌+◌, ◌≤◌, length};
 ghost use Rattle.wire.specs.Wire.{splice};
-ghost use Rattle.commands.specs.Book.{commands_of, Placed};
+ghost use Rattle.commands.specs.Book.{commands_of};
 ghost use Rattle.recovery.specs.Decisions.{DecisionWithin};
 ghost use Rattle.layout.specs.Layout.{site_size, site_rounds, head_bytes, Begins};
 ghost use Rattle.layout.specs.Good.{Good};
 ghost use Rattle.ending.specs.Ending.{due_of, ended, judged_end, RoundEnded};
 
+use commands::Book;
 use layout::{Phase, Site};
 use recovery::Sets;
 use refusals::{Refusal, Verdict};
@@ -57,27 +58,20 @@ fn next_round(site: &mut [u8], header: Site, sets: Sets, deliveries: u16)
 }
 
 // The round ends as it was decided, or the step is refused: NC in number order, then C, without what was delivered.
-pub fn round_end(
-    site: &mut [u8],
-    book: &[u8],
-    places: &[u64],
-    commands: usize,
-    decision: Option<Sets>,
-) -> Verdict
-    requires { ((sites : ℕ) × Good sites commands site.old) × Placed book.now places.now
-        × (length (commands_of book.now) ≡ commands) × DecisionWithin commands decision }
-    ensures { RoundEnded (commands_of book.now) decision site.old result site.new }
+pub fn round_end(site: &mut [u8], book: &Book, decision: Option<Sets>) -> Verdict
+    requires { ((sites : ℕ) × Good sites book.now.len site.old) × DecisionWithin book.now.len decision }
+    ensures { RoundEnded (commands_of book.now.bytes.now) decision site.old result site.new }
 {
     let Some(sets) = decision else {
         return Err(Refusal::Disabled);
     };
     let header = Site::read(&site[..]);
-    judge(header, commands, sets)?;
+    judge(header, book.len, sets)?;
     let first = due(header, sets.nc);
     let second = due(header, sets.c);
     let recorded = header.deliveries as usize;
-    let between = deliver::deliver_all(site, book, places, recorded, first);
-    let total = deliver::deliver_all(site, book, places, between, second);
+    let between = deliver::deliver_all(site, book, recorded, first);
+    let total = deliver::deliver_all(site, book, between, second);
     next_round(site, header, sets, total as u16);
     Ok(())
 }

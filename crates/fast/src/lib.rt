@@ -6,7 +6,7 @@ ghost use Rattle.theory.specs.Sets.{one, count};
 ghost use Rattle.sets.specs.Sets.{capacity};
 ghost use Rattle.table.specs.Table.{max_sites, is_good};
 ghost use Rattle.register.specs.declared.Command.{Command};
-ghost use Rattle.commands.specs.Book.{commands_of, Placed};
+ghost use Rattle.commands.specs.Book.{commands_of};
 ghost use Rattle.protocol.specs.System.{verdict};
 ghost use Rattle.protocol.specs.Site as protocol;
 ghost use Rattle.system.specs.Dash.{dash};
@@ -14,6 +14,7 @@ ghost use Rattle.layout.specs.Layout.{site_size, site_rounds, head_of, heard_of,
 ghost use Rattle.layout.specs.Good.{Good};
 ghost use Rattle.fast.specs.Fast.{FastDelivered};
 
+use commands::Book;
 use layout::Site;
 use refusals::{Refusal, Verdict};
 use table::SiteTable;
@@ -67,23 +68,15 @@ fn judge(site: &[u8], header: Site, table: SiteTable, commands: usize, m: usize)
 }
 
 // Command m of the book is delivered fast, or the step is refused.
-pub fn fast_delivery(
-    site: &mut [u8],
-    table: SiteTable,
-    book: &[u8],
-    places: &[u64],
-    commands: usize,
-    m: usize,
-) -> Verdict
-    requires { Good table.sites commands site.old × (is_good table ≡ true) × Placed book.now places.now
-        × (length (commands_of book.now) ≡ commands) × (m < commands) }
-    ensures { FastDelivered table (commands_of book.now) m site.old result site.new }
+pub fn fast_delivery(site: &mut [u8], table: SiteTable, book: &Book, m: usize) -> Verdict
+    requires { Good table.sites book.now.len site.old × (is_good table ≡ true) × (m < book.now.len) }
+    ensures { FastDelivered table (commands_of book.now.bytes.now) m site.old result site.new }
 {
     let header = Site::read(&site[..]);
-    judge(&site[..], header, table, commands, m)?;
+    judge(&site[..], header, table, book.len, m)?;
     let recorded = header.deliveries;
     let fast = header.fast;
-    deliver::deliver(site, book, places, recorded as usize, m);
+    deliver::deliver(site, book, recorded as usize, m);
     layout::set_fast(site, fast.with(m));
     layout::set_count(site, recorded + 1);
     Ok(())

@@ -6,8 +6,9 @@ use Rattle.table.specs.declared.SiteTable.{SiteTable}
 use Rattle.table.specs.declared.Rules.{Rules}
 use Rattle.table.specs.Table.{max_sites, is_good}
 use Rattle.register.specs.declared.Command.{Command}
+use Rattle.commands.specs.declared.Book.{Book}
 use Rattle.commands.specs.Book.{commands_of}
-use Rattle.conflicts.specs.Conflicts.{Noted}
+use Rattle.conflicts.specs.Conflicts.{conflict_rows}
 use Rattle.protocol.specs.World.{World, start}
 use Rattle.system.specs.Dash.{dash, last_round}
 use Rattle.print.specs.declared.Text.{Text}
@@ -31,14 +32,14 @@ abbrev pub log_room : ℕ
 log_room = max_sites * (last_round * 2) + 1
 
 -- Buffers at the start of a run, with room for what the steps of the run write.
-pub record Playable (rules : Rules) (book words steps : List ℕ) (text : Text) (b : Buffers) : Type 0 where
+pub record Playable (rules : Rules) (book : Book) (rows steps : List ℕ) (text : Text) (b : Buffers) : Type 0 where
   pub good : is_good rules.table ≡ true
   pub short : length steps < max_run
   pub log : log_room * entry_size ≤ length b.log
-  pub noted : Noted book words
-  pub counted : length (commands_of book) ≡ rules.commands
+  pub conflicts : rows ≡ conflict_rows book.bytes.now
+  pub counted : book.len ≡ rules.commands
   pub room : HasRoom text lines_room
-  pub world : HoldsWorld rules.table (commands_of book) b (start (dash rules.table (commands_of book)))
+  pub world : HoldsWorld rules.table (commands_of book.bytes.now) b (start (dash rules.table (commands_of book.bytes.now)))
 
 module _ (t : SiteTable) (book : List Command) (steps : List (Option Step)) where
   -- The world after the steps of a run.

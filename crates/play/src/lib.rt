@@ -3,13 +3,13 @@
 
 ghost use Rattle.std.specs.Prelude.{◌+◌, ◌≤◌, ◌<◌, Err};
 ghost use Rattle.commands.specs.Book.{commands_of};
-ghost use Rattle.conflicts.specs.Conflicts.{rows_in};
 ghost use Rattle.print.specs.Print.{HasRoom, Printed};
 ghost use Rattle.runs.specs.Run as runs;
 ghost use Rattle.rounds.specs.Rounds.{Kept};
 ghost use Rattle.world.specs.Parts.{lent};
 ghost use Rattle.play.specs.Played.{line_room, Playable, PlayedAll};
 
+use commands::Book;
 use print::Text;
 use refusals::{Refusal, Verdict};
 use rounds::Rounds;
@@ -43,14 +43,14 @@ fn play_on(
     sent: &mut [u8],
     kept: &mut Rounds,
     rules: Rules,
-    book: &[u8],
-    noted: &[u64],
+    book: &Book,
+    rows: &[u64],
     steps: &[u8],
     text: &mut Text<'_>,
 )
-    requires { Playable rules book.now noted.now steps.now text.old (lent sites.old log.old kept.old.entries sent.old)
-        × Kept rules.table (rows_in noted.now) log.old kept.old }
-    ensures { PlayedAll rules.table (commands_of book.now) steps.now text.new text.old sites.old
+    requires { Playable rules book.now rows.now steps.now text.old (lent sites.old log.old kept.old.entries sent.old)
+        × Kept rules.table rows.now log.old kept.old }
+    ensures { PlayedAll rules.table (commands_of book.now.bytes.now) steps.now text.new text.old sites.old
         sites.new log.new sent.new }
 {
     let mut at: usize = 0;
@@ -61,7 +61,7 @@ fn play_on(
             return;
         };
         let size = steps::size(step);
-        let verdict = stepping::step(sites, log, sent, kept, rules, book, noted, step);
+        let verdict = stepping::step(sites, log, sent, kept, rules, book, rows, step);
         report(text, number, verdict);
         at += size;
         number += 1;
@@ -74,15 +74,15 @@ pub fn play_steps(
     log: &mut [u8],
     sent: &mut [u8],
     rules: Rules,
-    book: &[u8],
-    noted: &[u64],
+    book: &Book,
+    rows: &[u64],
     steps: &[u8],
     text: &mut Text<'_>,
 )
-    requires { Playable rules book.now noted.now steps.now text.old (lent sites.old log.old 0 sent.old) }
-    ensures { PlayedAll rules.table (commands_of book.now) steps.now text.new text.old sites.old
+    requires { Playable rules book.now rows.now steps.now text.old (lent sites.old log.old 0 sent.old) }
+    ensures { PlayedAll rules.table (commands_of book.now.bytes.now) steps.now text.new text.old sites.old
         sites.new log.new sent.new }
 {
     let mut kept = Rounds::none();
-    play_on(sites, log, sent, &mut kept, rules, book, noted, steps, text);
+    play_on(sites, log, sent, &mut kept, rules, book, rows, steps, text);
 }

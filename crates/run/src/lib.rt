@@ -3,7 +3,7 @@
 
 ghost use Rattle.std.specs.Prelude.{◌≡◌, length};
 ghost use Rattle.commands.specs.Book.{commands_of};
-ghost use Rattle.conflicts.specs.Conflicts.{Noted};
+ghost use Rattle.conflicts.specs.Conflicts.{conflict_rows};
 ghost use Rattle.print.specs.Print.{Printed};
 ghost use Rattle.steps.specs.Steps.{steps_of};
 ghost use Rattle.runs.specs.Run.{played};
@@ -12,6 +12,7 @@ ghost use Rattle.play.specs.Played.{HoldsLast};
 ghost use Rattle.run.specs.Left.{PastLeft, Worked, Left};
 ghost use Rattle.run.specs.Prepared.{Playable, Roomy, Sized};
 
+use commands::Book;
 use layout::Site;
 use print::Text;
 use table::Rules;
@@ -34,22 +35,22 @@ fn print_on(
     log: &mut [u8],
     sent: &mut [u8],
     rules: Rules,
-    book: &[u8],
-    noted: &[u64],
+    book: &Book,
+    rows: &[u64],
     steps: &[u8],
     text: &mut Text<'_>,
 )
-    requires { Playable rules.table steps.now text.old × Sized rules.table (working sites.old log.old sent.old) × Noted book.now noted.now
-        × (rules.commands ≡ length (commands_of book.now)) }
-    ensures { Printed text.new text.old (played rules.table (commands_of book.now) (steps_of steps.now))
-        × HoldsLast rules.table (commands_of book.now) (steps_of steps.now) sites.new log.new sent.new
+    requires { Playable rules.table steps.now text.old × Sized rules.table (working sites.old log.old sent.old) × (rows.now ≡ conflict_rows book.now.bytes.now)
+        × (book.now.len ≡ rules.commands) }
+    ensures { Printed text.new text.old (played rules.table (commands_of book.now.bytes.now) (steps_of steps.now))
+        × HoldsLast rules.table (commands_of book.now.bytes.now) (steps_of steps.now) sites.new log.new sent.new
         × PastLeft rules.table sites.old sites.new }
 {
     let table = rules.table;
     world::start(sites, sent, table);
     let faulty = table.faulty_count();
     lines::put_run_line(text, table.sites, faulty, rules.commands);
-    play::play_steps(sites, log, sent, rules, book, noted, steps, text);
+    play::play_steps(sites, log, sent, rules, book, rows, steps, text);
     report::put_site_lines(text, &sites[..], table);
 }
 
@@ -59,15 +60,15 @@ fn print_in(
     log: &mut [u8],
     sent: &mut [u8],
     rules: Rules,
-    book: &[u8],
-    noted: &[u64],
+    book: &Book,
+    rows: &[u64],
     steps: &[u8],
     text: &mut Text<'_>,
 )
-    requires { Playable rules.table steps.now text.old × Roomy (working sites.old log.old sent.old) × Noted book.now noted.now
-        × (rules.commands ≡ length (commands_of book.now)) }
-    ensures { Printed text.new text.old (played rules.table (commands_of book.now) (steps_of steps.now))
-        × Worked rules.table (commands_of book.now) (steps_of steps.now)
+    requires { Playable rules.table steps.now text.old × Roomy (working sites.old log.old sent.old) × (rows.now ≡ conflict_rows book.now.bytes.now)
+        × (book.now.len ≡ rules.commands) }
+    ensures { Printed text.new text.old (played rules.table (commands_of book.now.bytes.now) (steps_of steps.now))
+        × Worked rules.table (commands_of book.now.bytes.now) (steps_of steps.now)
         (working sites.old log.old sent.old) (working sites.new log.new sent.new) }
 {
     let table = rules.table;
@@ -78,7 +79,7 @@ fn print_in(
         &mut sent[..SENT],
         rules,
         book,
-        noted,
+        rows,
         steps,
         text,
     );
@@ -108,10 +109,16 @@ pub fn run(input: &[u8], sites: &mut [u8], log: &mut [u8], sent: &mut [u8], out:
         Ok(run) => {
             let rules = run.rules;
             let end = run.steps;
-            let book = &input[header::HEADER..end];
+            let bytes = &input[header::HEADER..end];
             let steps = &input[end..];
-            conflicts::conflict_rows(book, rules.commands, &mut noted);
-            print_in(sites, log, sent, rules, book, &noted, steps, &mut text);
+            conflicts::conflict_rows(bytes, rules.commands, &mut noted);
+            let book = Book {
+                bytes,
+                places: &noted,
+                len: rules.commands,
+            };
+            let rows = &noted[commands::MAX_COMMANDS..];
+            print_in(sites, log, sent, rules, &book, rows, steps, &mut text);
             text.end()
         }
         Err(refusal) => {

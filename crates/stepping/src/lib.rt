@@ -4,8 +4,7 @@
 ghost use Rattle.std.specs.Prelude.{◌≡◌, true, ◌*◌, ◌≤◌, length};
 ghost use Rattle.sets.specs.Sets.{capacity};
 ghost use Rattle.table.specs.Table.{is_good};
-ghost use Rattle.commands.specs.Book.{commands_of, Placed};
-ghost use Rattle.conflicts.specs.Conflicts.{rows_in};
+ghost use Rattle.commands.specs.Book.{commands_of};
 ghost use Rattle.steps.specs.Meaning.{meaning};
 ghost use Rattle.layout.specs.Layout.{site_size};
 ghost use Rattle.rounds.specs.Rounds.{Kept};
@@ -15,6 +14,7 @@ ghost use Rattle.world.specs.Parts.{lent, Arrived};
 ghost use Rattle.moves.specs.Moves.{Ready};
 ghost use Rattle.stepping.specs.Kinds.{arrives};
 
+use commands::Book;
 use refusals::{Refusal, Verdict};
 use rounds::Rounds;
 use steps::Step;
@@ -57,30 +57,29 @@ pub fn step(
     sent: &mut [u8],
     kept: &mut Rounds,
     rules: Rules,
-    book: &[u8],
-    noted: &[u64],
+    book: &Book,
+    rows: &[u64],
     step: Step,
 ) -> Verdict
-    requires { Ready rules.table book.now (rows_in noted.now) (lent sites.old log.old kept.old.entries sent.old) (meaning step) × Placed book.now noted.now
-        × (length (commands_of book.now) ≡ rules.commands) × Kept rules.table (rows_in noted.now) log.old kept.old }
-    ensures { Outcome rules.table (commands_of book.now) (meaning step) (lent sites.old log.old kept.old.entries sent.old)
+    requires { Ready rules.table book.now.bytes.now rows.now (lent sites.old log.old kept.old.entries sent.old) (meaning step)
+        × (book.now.len ≡ rules.commands) × Kept rules.table rows.now log.old kept.old }
+    ensures { Outcome rules.table (commands_of book.now.bytes.now) (meaning step) (lent sites.old log.old kept.old.entries sent.old)
         result (lent sites.new log.new kept.new.entries sent.new)
-        × Kept rules.table (rows_in noted.now) log.new kept.new }
+        × Kept rules.table rows.now log.new kept.new }
 {
-    let rows = &noted[commands::MAX_COMMANDS..];
     match step {
         Step::FalseEntry { from, round, nc, c } => {
             arrivals::false_entry(log, kept, rules, rows, from, round, nc, c)
         }
         Step::Turn { site } => moves::turn(sites, log, sent, kept, rules, rows, site),
         Step::FastDelivery { site, command } => {
-            closings::fast_delivery(sites, rules, book, noted, site, command)
+            closings::fast_delivery(sites, rules, book, site, command)
         }
         Step::LogRead { site } => {
             let entries = kept.entries();
             moves::log_read(sites, entries, rules, site)
         }
-        Step::RoundEnd { site } => closings::round_end(sites, kept, rules, book, noted, site),
+        Step::RoundEnd { site } => closings::round_end(sites, kept, rules, book, site),
         _ => arrive(sites, &sent[..], rules, step),
     }
 }

@@ -18,7 +18,7 @@ pub row-found-requires : goal.row-found-requires
 row-found-requires c =
     let a = c.args in
     let p = c.requires in
-    (omega arith, c.loop-m.invariant.2, gathered_all a.book.now p.1 p.3)
+    (omega arith, p.3)
 
 pub store-requires : goal.store-requires
 store-requires c =
@@ -43,3 +43,6 @@ returns c =
 
 pub overflow_add-m : goal.overflow_add-m
 overflow_add-m c = omega (arith, few_commands c.args.book.now)
+
+pub invariant_of-read : goal.invariant_of-read
+invariant_of-read c = record { counted = c.requires.1; placed = c.loop-m.invariant.2 }

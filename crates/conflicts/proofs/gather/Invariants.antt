@@ -4,4 +4,4 @@ use Rattle.conflicts.specs.Conflicts.{Gathered}
 use Rattle.conflicts.proofs.gather.Given as goal
 
 abbrev pub invariant-loop-k : goal.invariant-loop-k
-invariant-loop-k l = Gathered l.book l.k l.sets
+invariant-loop-k l = Gathered l.book.bytes.now l.k l.sets

@@ -1,6 +1,6 @@
 -- `delivering::end_round`: the round ends as the entries that the site has read decide it.
 -- Assumes nothing.
-use mathlib.Core.Path.{ap, ◌∙◌}
+use mathlib.Core.Path.{sym, ap, ◌∙◌}
 use native.Mathlib.Omega.{arith}
 use lib.ListN.{length}
 use Rattle.conflicts.proofs.Laws.{rows_size, rows-room, rows-rest}
@@ -23,8 +23,6 @@ round_end-requires c =
     let p = o.requires in
     let d = decided_by a.rules.table a.book.now a.log.now a.site.now (rows-rest a.book.now a.noted.now p.2.rows ∙ p.2.rows) (ap (λ (h : Site). h.position) c.read-header.ensures) (ap (λ (h : Site). h.round) c.read-header.ensures) c.decide-decision.ensures in (
       (a.rules.table.sites, p.0),
-      p.2.places,
-      p.3,
       within-sets a.rules.table p.1 a.book.now a.log.now a.site.now p.3 (λ i. (c.type_inv.log i).fits) p.4 p.5 d,
     )
 
@@ -41,3 +39,6 @@ slice_bounds-rows-count c = omega (arith, rows-room c.args.book.now c.args.noted
 
 pub slice_bounds-rows-start : goal.slice_bounds-rows-start
 slice_bounds-rows-start c = omega (arith, rows-room c.args.book.now c.args.noted.now c.requires.2.rows)
+
+pub invariant_of-book : goal.invariant_of-book
+invariant_of-book c = record { counted = sym c.requires.3; placed = c.requires.2.places }

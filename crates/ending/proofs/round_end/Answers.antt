@@ -1,6 +1,6 @@
 -- `ending::round_end`: the protocol's verdict, then what is due of both sets and the header of the next round.
 -- Assumes nothing.
-use mathlib.Core.Path.{◌∙◌}
+use mathlib.Core.Path.{refl, sym, ◌∙◌}
 use native.Mathlib.Omega.{arith}
 use lib.ListN.{length}
 use Rattle.std.proofs.lemmas.Result.{err_from_is_err_and}
@@ -13,33 +13,32 @@ use Rattle.ending.proofs.round_end.Goals as goal
 pub returns-in_default : goal.returns-in_default
 returns-in_default c =
     let a = c.args in
-    round_undecided (commands_of a.book.now) a.site.now (λ i. (c.type_inv.site i).fits) c.in_default.is
+    round_undecided (commands_of a.book.now.bytes.now) a.site.now (λ i. (c.type_inv.site i).fits) c.in_default.is
 
 pub returns-in_err-judge : goal.returns-in_err-judge
 returns-in_err-judge c =
     let s = c in
     let a = s.args in
     let known = c.in-Some.known_told-1-own.given.0.1.1 in
-    let w = decided_within c.in-Some.sets c.in-Some.is s.requires.2 s.requires.3 in
+    let w = decided_within c.in-Some.sets c.in-Some.is (sym s.args.book.now.counted) s.requires.1 in
     let p = err_from_is_err_and c.from_residual.result c.from_residual.ensures.1 in
     rw (p.1, p.2)
     (λ t log g told.
-    round_refused t (commands_of a.book.now) (few_commands a.book.now) a.site.now (λ i. (c.slice_known-1.given i).fits) g c.in-Some.sets
-    known.0.1.1.0.1 known.1.0.1.1.0.1 w.0 w.1 c.in-Some.is log told s.requires.2 c.read-header.ensures c.judge.ensures _ c.in_err-judge.was)
+    round_refused t (commands_of a.book.now.bytes.now) (few_commands a.book.now.bytes.now) a.site.now (λ i. (c.slice_known-1.given i).fits) g c.in-Some.sets
+    known.0.1.1.0.1 known.1.0.1.1.0.1 w.0 w.1 c.in-Some.is log told (sym s.args.book.now.counted) c.read-header.ensures c.judge.ensures _ c.in_err-judge.was)
 
 pub deliver_all-between-requires : goal.deliver_all-between-requires
 deliver_all-between-requires c =
     let s = c in
     let a = s.args in
     let h = c.read-header.result in
-    let few = few_commands a.book.now in
+    let few = few_commands a.book.now.bytes.now in
     let g = s.requires.0.1 in
-    let en = s.requires.2 in
-    let room = ready h a.commands c.in-Some.sets c.judge.ensures c.in_ok-judge.was c.due-first.ensures c.due-second.ensures in (
+    let en = (sym s.args.book.now.counted) in
+    let room = ready h a.book.now.len c.in-Some.sets c.judge.ensures c.in_ok-judge.was c.due-first.ensures c.due-second.ensures in (
       g.size,
       g.tables.readings,
-      s.requires.1,
-      within-due h c.in-Some.sets.nc (length (commands_of a.book.now)) c.due-first.ensures (decided_within c.in-Some.sets c.in-Some.is en s.requires.3).0,
+      within-due h c.in-Some.sets.nc a.book.now.len c.due-first.ensures (decided_within c.in-Some.sets c.in-Some.is refl s.requires.1).0,
       omega arith,
     )
 
@@ -48,15 +47,14 @@ deliver_all-total-requires c =
     let s = c in
     let a = s.args in
     let h = c.read-header.result in
-    let few = few_commands a.book.now in
-    let en = s.requires.2 in
-    let room = ready h a.commands c.in-Some.sets c.judge.ensures c.in_ok-judge.was c.due-first.ensures c.due-second.ensures in
+    let few = few_commands a.book.now.bytes.now in
+    let en = (sym s.args.book.now.counted) in
+    let room = ready h a.book.now.len c.in-Some.sets c.judge.ensures c.in_ok-judge.was c.due-first.ensures c.due-second.ensures in
     let d = c.deliver_all-between.ensures in
     let e = d.0 in (
       d.1.size,
       d.1.readings,
-      s.requires.1,
-      within-due h c.in-Some.sets.c (length (commands_of a.book.now)) c.due-second.ensures (decided_within c.in-Some.sets c.in-Some.is en s.requires.3).1,
+      within-due h c.in-Some.sets.c a.book.now.len c.due-second.ensures (decided_within c.in-Some.sets c.in-Some.is refl s.requires.1).1,
       omega arith,
     )
 
@@ -72,10 +70,10 @@ returns c =
     let s = c in
     let a = s.args in
     let known = c.in-Some.known_told-1-own.given.0.1.1 in
-    let w = decided_within c.in-Some.sets c.in-Some.is s.requires.2 s.requires.3 in
+    let w = decided_within c.in-Some.sets c.in-Some.is (sym s.args.book.now.counted) s.requires.1 in
     λ t log g told.
-    round-taken t (commands_of a.book.now) (few_commands a.book.now) a.site.now (λ i. (c.slice_known-1.given i).fits) g c.in-Some.sets
-    known.0.1.1.0.1 known.1.0.1.1.0.1 w.0 w.1 c.in-Some.is log told s.requires.2 c.read-header.ensures c.judge.ensures c.in_ok-judge.was
+    round-taken t (commands_of a.book.now.bytes.now) (few_commands a.book.now.bytes.now) a.site.now (λ i. (c.slice_known-1.given i).fits) g c.in-Some.sets
+    known.0.1.1.0.1 known.1.0.1.1.0.1 w.0 w.1 c.in-Some.is log told (sym s.args.book.now.counted) c.read-header.ensures c.judge.ensures c.in_ok-judge.was
     c.due-first.ensures c.due-second.ensures c.deliver_all-between.ensures.0 c.deliver_all-between.ensures.1 c.deliver_all-total.ensures.0 c.deliver_all-total.ensures.1
     c.next_round.ensures (λ i. (c.type_inv.site i).fits)
 
@@ -83,9 +81,9 @@ pub overflow_cast-total : goal.overflow_cast-total
 overflow_cast-total c =
     let s = c in
     let a = s.args in
-    let few = few_commands a.book.now in
-    let en = s.requires.2 in
-    let room = ready c.read-header.result a.commands c.in-Some.sets c.judge.ensures c.in_ok-judge.was c.due-first.ensures c.due-second.ensures in
+    let few = few_commands a.book.now.bytes.now in
+    let en = (sym s.args.book.now.counted) in
+    let room = ready c.read-header.result a.book.now.len c.in-Some.sets c.judge.ensures c.in_ok-judge.was c.due-first.ensures c.due-second.ensures in
     let d = c.deliver_all-between.ensures.0 in
     let e = c.deliver_all-total.ensures.0 in
     record { fits = omega arith }

@@ -21,7 +21,7 @@ loop-at-init c =
       refl,
       refl,
       refl,
-      playing_none a.rules.table (commands_of a.book.now) a.steps.now a.text.now o.requires.0.world (omega (arith, o.requires.0.room)),
+      playing_none a.rules.table (commands_of a.book.now.bytes.now) a.steps.now a.text.now o.requires.0.world (omega (arith, o.requires.0.room)),
       o.requires.1,
     )
 
@@ -42,8 +42,8 @@ returns-in_default c =
     let l = c.loop-at in
     let w = c.put_refusal.ensures in
     let g : l.at < length a.steps.now = omega (arith, c.loop-at-test.true) in
-    playing_end a.rules.table (commands_of a.book.now) a.steps.now a.text.now
-    (playing_last a.rules.table (commands_of a.book.now) a.steps.now a.text.now l.invariant.6 g (sym c.read_step.ensures ∙ c.in_default.is) refl w.0)
+    playing_end a.rules.table (commands_of a.book.now.bytes.now) a.steps.now a.text.now
+    (playing_last a.rules.table (commands_of a.book.now.bytes.now) a.steps.now a.text.now l.invariant.6 g (sym c.read_step.ensures ∙ c.in_default.is) refl w.0)
     (omega arith) (omega (arith, o.requires.0.short, l.invariant.1, l.invariant.2, w.1, g))
 
 pub step-verdict-requires : goal.step-verdict-requires
@@ -52,18 +52,17 @@ step-verdict-requires c =
     let a = o.args in
     let l = c.loop-at in
     let t = a.rules.table in
-    let k = a.book.now in
+    let k = a.book.now.bytes.now in
     let q = o.requires.0 in
     let p = l.invariant.6 in
     let n = entries_few t k q.good p.past p.world in (
       (record {
         table = q.good;
-        conflicts = q.noted.rows;
+        conflicts = q.conflicts;
         world = p.world.good;
         room = omega (arith, q.log, l.invariant.4);
         acks = acks_few t k q.good p.past p.world (meaning c.in-Some.step);
       }),
-      q.noted.places,
       q.counted,
       l.invariant.7,
     )
@@ -99,7 +98,7 @@ loop-at-preserved c =
       b.auto.sites ∙ l.invariant.3,
       b.auto.log ∙ l.invariant.4,
       b.auto.sent ∙ l.invariant.5,
-      playing_more a.rules.table (commands_of a.book.now) a.steps.now a.text.now l.invariant.6 e (ap (λ (z : ℕ). l.at + z) c.size-size.ensures) b.ensures.0 w.0,
+      playing_more a.rules.table (commands_of a.book.now.bytes.now) a.steps.now a.text.now l.invariant.6 e (ap (λ (z : ℕ). l.at + z) c.size-size.ensures) b.ensures.0 w.0,
       b.ensures.1,
     )
 
@@ -108,5 +107,5 @@ returns c =
     let o = c in
     let a = o.args in
     let l = c.loop-at in
-    playing_end a.rules.table (commands_of a.book.now) a.steps.now a.text.now l.invariant.6
+    playing_end a.rules.table (commands_of a.book.now.bytes.now) a.steps.now a.text.now l.invariant.6
     (omega arith) (omega (arith, o.requires.0.short, l.invariant.0, l.invariant.1, l.invariant.2))

@@ -18,8 +18,8 @@ invariant-loop-at l = (l.at ≤ length l.steps)
     × (length l.sites ≡ length l.initial.sites)
     × (length l.log ≡ length l.initial.log)
     × (length l.sent ≡ length l.initial.sent)
-    × Playing l.rules.table (commands_of l.book) l.steps l.initial.text l.initial.sites (lent l.sites l.log l.kept.entries l.sent) l.text l.at l.number
-    × Kept l.rules.table (rows_in l.noted) l.log l.kept
+    × Playing l.rules.table (commands_of l.book.bytes.now) l.steps l.initial.text l.initial.sites (lent l.sites l.log l.kept.entries l.sent) l.text l.at l.number
+    × Kept l.rules.table l.rows l.log l.kept
 
 abbrev pub decreases-loop-at : goal.decreases-loop-at
 decreases-loop-at l = length l.steps - l.at

@@ -2,7 +2,6 @@
 -- Assumes nothing.
 use mathlib.Core.Path.{sym, subst}
 use Prim.Native.Nat.{ℕ}
-use Rattle.conflicts.specs.Conflicts.{rows_in}
 use Rattle.world.specs.Parts.{lent}
 use Rattle.play.specs.Played.{Playable}
 use Rattle.play.proofs.play_steps.Goals as goal
@@ -12,6 +11,6 @@ play_on-requires c =
     let o = c in
     let a = o.args in
     let e = c.none-kept.ensures in (
-      subst (λ (n : ℕ). Playable a.rules a.book.now a.noted.now a.steps.now a.text.now (lent a.sites.now a.log.now n a.sent.now)) (sym e.0) o.requires,
-      e.1 a.rules.table (rows_in a.noted.now) a.log.now,
+      subst (λ (n : ℕ). Playable a.rules a.book.now a.rows.now a.steps.now a.text.now (lent a.sites.now a.log.now n a.sent.now)) (sym e.0) o.requires,
+      e.1 a.rules.table a.rows.now a.log.now,
     )

@@ -29,7 +29,7 @@ returns c =
     let a = c in
     let p = c.print_on in (
       p.ensures.0,
-      worked a.args.rules.table a.requires.0.good a.requires.1 (commands_of a.args.book.now) (steps_of a.args.steps.now) p.auto.sites p.auto.log p.auto.sent p.ensures.1 p.ensures.2,
+      worked a.args.rules.table a.requires.0.good a.requires.1 (commands_of a.args.book.now.bytes.now) (steps_of a.args.steps.now) p.auto.sites p.auto.log p.auto.sent p.ensures.1 p.ensures.2,
     )
 
 pub overflow_mul-size : goal.overflow_mul-size

@@ -1,13 +1,14 @@
 -- `run::run`: a buffer too short, a run refused, a run played.
 -- Assumes nothing.
-use mathlib.Core.Path.{sym, ap, ◌∙◌}
+use mathlib.Core.Path.{refl, sym, ap, ◌∙◌}
 use native.Mathlib.Omega.{arith}
 use lib.ListN.{length}
 use Rattle.std.proofs.Common.{rules}
 use Rattle.print.proofs.Laws.{left_there}
 use Rattle.refusals.specs.Numbers.{number_short}
 use Rattle.table.specs.Table.{is_good}
-use Rattle.conflicts.proofs.Laws.{all_noted}
+use Rattle.commands.specs.Book.{max_commands}
+use Rattle.conflicts.proofs.Laws.{all_noted, rows_part, rows-room}
 use Rattle.lines.proofs.Laws.{refused_short}
 use Rattle.header.proofs.Laws.{sound, book_part, step_part, judged_taken, judged_table, judged_end, judged_refused}
 use Rattle.run.specs.Ran.{working}
@@ -34,7 +35,8 @@ print_in-requires c =
     let room = roomy_told (working a.sites.now a.log.now a.sent.now) a.out.now (sym c.has_room.ensures ∙ c.if-not-has_room.false) in
     let e = judged_end r q in
     let p = placed_part r (book_part r e) q c.judge_run.ensures.1 in
-    (record { good = ap is_good (judged_table r q) ∙ s.table; short = steps_short r s e; room = omega (arith, room.1, c.new-text.ensures.end, ap length c.new-text.ensures.now) }, room.0, all_noted _ _ p.0 p.2 c.conflict_rows.ensures, p.1)
+    let w = all_noted _ _ p.0 p.2 c.conflict_rows.ensures in
+    (record { good = ap is_good (judged_table r q) ∙ s.table; short = steps_short r s e; room = omega (arith, room.1, c.new-text.ensures.end, ap length c.new-text.ensures.now) }, room.0, rows_part _ c.conflict_rows.new.noted w.rows max_commands (omega arith) ∙ w.rows, refl)
 
 pub put_refused_line-requires : goal.put_refused_line-requires
 put_refused_line-requires c =
@@ -69,20 +71,20 @@ returns-in-Err c =
       refused_left r w o c.in-Err.refusal refused,
     )
 
-pub slice_bounds-book-count : goal.slice_bounds-book-count
-slice_bounds-book-count c =
+pub slice_bounds-bytes-count : goal.slice_bounds-bytes-count
+slice_bounds-bytes-count c =
     let r = c.args.input.now in
     let q = sym c.in-Ok.is ∙ c.judge_run.ensures.0 in
     omega (arith, judged_end r q)
 
-pub slice_bounds-book-start : goal.slice_bounds-book-start
-slice_bounds-book-start c =
+pub slice_bounds-bytes-start : goal.slice_bounds-bytes-start
+slice_bounds-bytes-start c =
     let r = c.args.input.now in
     let q = sym c.in-Ok.is ∙ c.judge_run.ensures.0 in
     omega (arith, judged_end r q)
 
-pub slice_bounds-book-end : goal.slice_bounds-book-end
-slice_bounds-book-end c =
+pub slice_bounds-bytes-end : goal.slice_bounds-bytes-end
+slice_bounds-bytes-end c =
     let r = c.args.input.now in
     let q = sym c.in-Ok.is ∙ c.judge_run.ensures.0 in
     let s = sound r (judged_taken r q).0 in
@@ -101,3 +103,27 @@ slice_bounds-steps-start c =
     let q = sym c.in-Ok.is ∙ c.judge_run.ensures.0 in
     let s = sound r (judged_taken r q).0 in
     omega (arith, judged_end r q, s.end)
+
+pub invariant_of-book : goal.invariant_of-book
+invariant_of-book c =
+    let r = c.args.input.now in
+    let q = sym c.in-Ok.is ∙ c.judge_run.ensures.0 in
+    let p = placed_part r (book_part r (judged_end r q)) q c.judge_run.ensures.1 in
+    let w = all_noted _ _ p.0 p.2 c.conflict_rows.ensures in
+    record { counted = p.1; placed = w.places }
+
+pub slice_bounds-rows-count : goal.slice_bounds-rows-count
+slice_bounds-rows-count c =
+    let r = c.args.input.now in
+    let q = sym c.in-Ok.is ∙ c.judge_run.ensures.0 in
+    let p = placed_part r (book_part r (judged_end r q)) q c.judge_run.ensures.1 in
+    let w = all_noted _ _ p.0 p.2 c.conflict_rows.ensures in
+    omega (arith, rows-room _ c.conflict_rows.new.noted w.rows)
+
+pub slice_bounds-rows-start : goal.slice_bounds-rows-start
+slice_bounds-rows-start c =
+    let r = c.args.input.now in
+    let q = sym c.in-Ok.is ∙ c.judge_run.ensures.0 in
+    let p = placed_part r (book_part r (judged_end r q)) q c.judge_run.ensures.1 in
+    let w = all_noted _ _ p.0 p.2 c.conflict_rows.ensures in
+    omega (arith, rows-room _ c.conflict_rows.new.noted w.rows)
