@@ -198,8 +198,8 @@ pub fn false_entry(
     let entry = Entry {
         site: j,
         round: r,
-        nc: nc,
-        c: c,
+        nc,
+        c,
     };
     if !entries::in_range(entry, table.sites, rules.commands) {
         return Err(Refusal::Range);

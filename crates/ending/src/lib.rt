@@ -19,17 +19,14 @@ use sets::Set;
 fn due(header: Site, set: Set) -> Set
     ensures { result ≡ due_of header set }
 {
-    let delivered = header.delivered;
-    let fast = header.fast;
-    set.without(delivered.union(fast))
+    set.without(header.delivered.union(header.fast))
 }
 
 // Whether the round ends with the decided sets, and else the refusal: a site that acknowledges ends none.
 fn judge(header: Site, commands: usize, sets: Sets) -> Verdict
     ensures { result ≡ judged_end header commands sets }
 {
-    let phase = header.phase;
-    match phase {
+    match header.phase {
         Phase::Acknowledging => Err(Refusal::Disabled),
         Phase::Waiting(_) => {
             let more = due(header, sets.nc).size() + due(header, sets.c).size();
@@ -47,11 +44,10 @@ fn next_round(site: &mut [u8], header: Site, sets: Sets, deliveries: u16)
     requires { (length site.old ≡ site_size) × (header.round ≤ site_rounds) × Begins header site.old }
     ensures { site.new ≡ splice site.old 0 (head_bytes (ended header sets deliveries)) }
 {
-    let none = Set { bits: 0 };
-    let delivered = header.delivered;
+    let none = Set::empty();
     layout::set_round(site, header.round + 1);
     layout::set_count(site, deliveries);
-    layout::set_delivered(site, delivered.union(sets.nc.union(sets.c)));
+    layout::set_delivered(site, header.delivered.union(sets.nc.union(sets.c)));
     layout::set_pending(site, none);
     layout::set_fast(site, none);
     layout::set_phase(site, Phase::Acknowledging);

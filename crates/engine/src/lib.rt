@@ -46,9 +46,8 @@ fn in_range(message: Message, sender: usize, rules: Rules) -> bool
     ensures { result ≡ message_in_range message sender rules }
 {
     let round = message.round as usize;
-    let set = message.set;
     let sites = rules.table.sites;
-    (sender < sites) & (1 <= round) & (round <= Site::ROUNDS) & set.within(rules.commands)
+    (sender < sites) & (1 <= round) & (round <= Site::ROUNDS) & message.set.within(rules.commands)
 }
 
 // A message joins what the site has received; an acknowledgment is also kept under its sender and its own round.
@@ -56,11 +55,9 @@ fn take_message(site: &mut [u8], sender: usize, message: Message)
     requires { (length site.old ≡ site_size) × (sender < max_sites) × (1 ≤ message.round) × (message.round ≤ site_rounds) }
     ensures { TookMessage message.kind sender message.round message.set site.old site.new }
 {
-    let kind = message.kind;
-    let set = message.set;
-    match kind {
-        Kind::Acknowledgment => site::hear(site, sender, message.round as usize, set),
-        Kind::Check => site::receive(site, set),
+    match message.kind {
+        Kind::Acknowledgment => site::hear(site, sender, message.round as usize, message.set),
+        Kind::Check => site::receive(site, message.set),
     }
 }
 

@@ -66,15 +66,11 @@ pub fn read_entry(log: &[u8], k: usize) -> Entry
     requires { k * entry_size + entry_size ≤ length log.now }
     ensures { result ≡ entry_of log.now k }
 {
-    let site = site_of(log, k);
-    let round = round_of(log, k);
-    let nc = nc_of(log, k);
-    let c = c_of(log, k);
     Entry {
-        site: site,
-        round: round,
-        nc: nc,
-        c: c,
+        site: site_of(log, k),
+        round: round_of(log, k),
+        nc: nc_of(log, k),
+        c: c_of(log, k),
     }
 }
 
@@ -86,10 +82,8 @@ pub fn write_entry(log: &mut [u8], k: usize, entry: Entry)
     let at = k * Entry::BYTES;
     wire::put(log, at, entry.site as u8);
     wire::put(log, at + 1, entry.round as u8);
-    let nc = entry.nc;
-    nc.write(log, at + 2);
-    let c = entry.c;
-    c.write(log, at + 10);
+    entry.nc.write(log, at + 2);
+    entry.c.write(log, at + 10);
 }
 
 // How many of the first k entries a site has in a round.
@@ -114,13 +108,11 @@ pub fn first_of(log: &[u8], k: usize, round: usize) -> usize
 pub fn in_range(entry: Entry, sites: usize, commands: usize) -> bool
     ensures { result ≡ in_range_of sites commands entry }
 {
-    let nc = entry.nc;
-    let c = entry.c;
     (entry.site < sites)
         & (1 <= entry.round)
         & (entry.round <= Entry::ROUNDS)
-        & nc.within(commands)
-        & c.within(commands)
+        & entry.nc.within(commands)
+        & entry.c.within(commands)
 }
 
 // Whether a log read would take each of the first k entries: in range, and no third of its site and round, which are counted.

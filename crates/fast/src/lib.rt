@@ -51,9 +51,7 @@ fn judge(site: &[u8], header: Site, table: SiteTable, commands: usize, m: usize)
     requires { Good table.sites commands site.now × (header ≡ head_of site.now) × (is_good table ≡ true) × (m < capacity) }
     ensures { (book : List Command) → length book ≡ commands → result ≡ verdict (protocol.for_fast_delivery (dash table book) m (view table book site.now)) }
 {
-    let pending = header.pending;
-    let fast = header.fast;
-    let open = pending.without(fast);
+    let open = header.pending.without(header.fast);
     if !open.holds(m) {
         return Err(Refusal::Disabled);
     }
@@ -75,9 +73,8 @@ pub fn fast_delivery(site: &mut [u8], table: SiteTable, book: &Book, m: usize) -
     let header = Site::read(&site[..]);
     judge(&site[..], header, table, book.len, m)?;
     let recorded = header.deliveries;
-    let fast = header.fast;
     deliver::deliver(site, book, recorded as usize, m);
-    layout::set_fast(site, fast.with(m));
+    layout::set_fast(site, header.fast.with(m));
     layout::set_count(site, recorded + 1);
     Ok(())
 }

@@ -209,11 +209,9 @@ pub fn set_phase(site: &mut [u8], phase: Phase)
     ensures { site.new ≡ phased site.old phase }
 {
     let proposal = phase.proposal();
-    let nc = proposal.nc;
-    let c = proposal.c;
     wire::put(site, Site::PHASE, u8::from(phase));
-    nc.write(site, Site::NC);
-    c.write(site, Site::C);
+    proposal.nc.write(site, Site::NC);
+    proposal.c.write(site, Site::C);
 }
 
 // Whether the number of the phase is one, and nothing is proposed while the site acknowledges.

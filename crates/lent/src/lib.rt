@@ -24,25 +24,18 @@ fn judge_header(header: Site, commands: usize) -> bool
     let round = header.round as usize;
     let deliveries = header.deliveries as usize;
     let span = header.span as usize;
-    let received = header.received;
-    let delivered = header.delivered;
-    let pending = header.pending;
-    let fast = header.fast;
-    let phase = header.phase;
-    let proposal = phase.proposal();
-    let nc = proposal.nc;
-    let c = proposal.c;
+    let proposal = header.phase.proposal();
     (1 <= round)
         & (round <= Site::ROUNDS)
         & (deliveries <= commands)
         & (deliveries <= Set::CAPACITY)
         & (span <= Site::ROUNDS)
-        & received.within(commands)
-        & delivered.within(commands)
-        & pending.within(commands)
-        & fast.within(commands)
-        & nc.within(commands)
-        & c.within(commands)
+        & header.received.within(commands)
+        & header.delivered.within(commands)
+        & header.pending.within(commands)
+        & header.fast.within(commands)
+        & proposal.nc.within(commands)
+        & proposal.c.within(commands)
 }
 
 // Whether what a sender acknowledged in a round is within the book, and empty where there is no such sender.

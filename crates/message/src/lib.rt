@@ -64,10 +64,9 @@ impl Message {
         requires { message_size ≤ length out.old }
         ensures { out.new ≡ splice out.old 0 (message_bytes self) }
     {
-        let set = self.set;
         wire::put(out, Message::KIND, u8::from(self.kind));
         wire::put(out, Message::ROUND, self.round);
-        set.write(out, Message::SET);
+        self.set.write(out, Message::SET);
     }
 }
 

@@ -67,13 +67,11 @@ pub fn turn(
         }
         Turn::Proposed { check, entry } => {
             sent::put_check(sent, i, round, check);
-            let nc = entry.nc;
-            let c = entry.c;
             let proposed = Entry {
                 site: i,
-                round: round,
-                nc: nc,
-                c: c,
+                round,
+                nc: entry.nc,
+                c: entry.c,
             };
             kept.append(log, proposed, table, rows);
             Ok(())

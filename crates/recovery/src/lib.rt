@@ -119,9 +119,8 @@ pub fn decided_sets(
 {
     let levels = gather(log, from, n, round, valid);
     let nc = at_least(levels, table.majority());
-    let proposed = levels.proposed;
-    let c = proposed.without(nc);
-    Sets { nc: nc, c: c }
+    let c = levels.proposed.without(nc);
+    Sets { nc, c }
 }
 
 // What the first k entries decide of a round; none where they decide nothing.
@@ -134,7 +133,6 @@ pub fn decide(log: &[u8], k: usize, round: usize, table: SiteTable, rows: &[u64]
     if !sources.decided {
         return None;
     }
-    let valid = sources.valid;
-    let sets = decided_sets(log, first, sources.entries, round, valid, table);
+    let sets = decided_sets(log, first, sources.entries, round, sources.valid, table);
     Some(sets)
 }

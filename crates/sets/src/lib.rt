@@ -98,7 +98,7 @@ impl Set {
     {
         if n < Set::CAPACITY {
             let bits = (u64::MAX >> n) << n;
-            Set { bits: bits }
+            Set { bits }
         } else {
             Set { bits: 0 }
         }
@@ -161,7 +161,7 @@ impl Set {
         ensures { result ≡ load_set words.now k }
     {
         let bits = words[k];
-        Set { bits: bits }
+        Set { bits }
     }
 
     // The set becomes the k-th of a slice of words.

@@ -27,8 +27,7 @@ pub fn receive(site: &mut [u8], set: Set)
     ensures { Received set site.old site.new }
 {
     let header = Site::read(&site[..]);
-    let received = header.received;
-    layout::set_received(site, received.union(set));
+    layout::set_received(site, header.received.union(set));
 }
 
 // A command joins Received.
@@ -45,31 +44,26 @@ pub fn hear(site: &mut [u8], sender: usize, round: usize, set: Set)
     ensures { Heard sender round set site.old site.new }
 {
     let header = Site::read(&site[..]);
-    let received = header.received;
     layout::hear(site, sender, round, set);
-    layout::set_received(site, received.union(set));
+    layout::set_received(site, header.received.union(set));
 }
 
 // What was received and is not delivered.
 pub fn undelivered(header: Site) -> Set
     ensures { result ≡ undelivered_of header }
 {
-    let received = header.received;
-    let delivered = header.delivered;
-    received.without(delivered)
+    header.received.without(header.delivered)
 }
 
 // What a turn does, by the conflict test of what is undelivered and whether the site has two entries of its round.
 fn choose(header: Site, free: bool, third: bool) -> Result<Turn, Refusal>
     ensures { result ≡ chosen header free third }
 {
-    let phase = header.phase;
-    let pending = header.pending;
-    match phase {
+    match header.phase {
         Phase::Waiting(_) => Err(Refusal::Disabled),
         Phase::Acknowledging => {
             let check = undelivered(header);
-            let new = check.without(pending);
+            let new = check.without(header.pending);
             if new.is_empty() {
                 return Err(Refusal::Disabled);
             }
@@ -85,7 +79,7 @@ fn choose(header: Site, free: bool, third: bool) -> Result<Turn, Refusal>
             Ok(Turn::Proposed {
                 check,
                 entry: Proposal {
-                    nc: pending,
+                    nc: header.pending,
                     c: new,
                 },
             })

@@ -28,16 +28,14 @@ fn valid_after(before: Standing, free: bool, site: usize) -> Set
     requires { site < capacity }
     ensures { (rows : List ℕ) (nc : Set) → free ≡ free_by rows (in_set nc) → result ≡ valid_after rows site nc before }
 {
-    let seen = before.seen;
-    let valid = before.valid;
-    if seen.has(site) {
+    if before.seen.has(site) {
         let source = Set::empty().with(site);
-        return valid.without(source);
+        return before.valid.without(source);
     }
     if !free {
-        return valid;
+        return before.valid;
     }
-    valid.with(site)
+    before.valid.with(site)
 }
 
 // Before any entry.
@@ -75,16 +73,11 @@ fn with_entry(
         return before;
     }
     let valid = valid_after(before, free, site);
-    let seen = before.seen;
-    let seen_after = seen.with(site);
-    let size = valid.size();
-    let enough = table.n_chk();
-    let place = k + 1;
     Standing {
-        seen: seen_after,
-        valid: valid,
-        decided: size == enough,
-        entries: place,
+        seen: before.seen.with(site),
+        valid,
+        decided: valid.size() == table.n_chk(),
+        entries: k + 1,
     }
 }
 

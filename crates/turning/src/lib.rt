@@ -32,13 +32,11 @@ fn take_turn(site: &mut [u8], log: &[u8], rows: &[u64], own: usize) -> Result<Tu
 fn entry_of(own: usize, round: u8, proposed: Proposal) -> Entry
     ensures { result ≡ entry_of own round proposed }
 {
-    let nc = proposed.nc;
-    let c = proposed.c;
     Entry {
         site: own,
         round: round as usize,
-        nc: nc,
-        c: c,
+        nc: proposed.nc,
+        c: proposed.c,
     }
 }
 

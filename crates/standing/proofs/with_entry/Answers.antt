@@ -20,11 +20,11 @@ returns-then-site-table c =
 pub valid_after-valid-requires : goal.valid_after-valid-requires
 valid_after-valid-requires c = let s = c in omega (arith, good_limits s.args.table s.requires.0)
 
-pub with-seen_after-requires : goal.with-seen_after-requires
-with-seen_after-requires c = let s = c in omega (arith, good_limits s.args.table s.requires.0)
+pub with-requires : goal.with-requires
+with-requires c = let s = c in omega (arith, good_limits s.args.table s.requires.0)
 
 pub returns : goal.returns
 returns c =
     let a = c.args in
     λ rows f. entry_marked a.table rows a.round (a.k + 1) (entry_of a.log.now a.k) a.before c.round_of.ensures c.if-round_of-round.false c.site_of-site.ensures (omega arith)
-    (c.valid_after-valid.ensures rows (entry_of a.log.now a.k).nc f) c.with-seen_after.ensures c.size-size.ensures c.n_chk-enough.ensures
+    (c.valid_after-valid.ensures rows (entry_of a.log.now a.k).nc f) c.with.ensures c.size.ensures c.n_chk.ensures
