@@ -1,7 +1,7 @@
 -- Steps 01 to 05 on lent buffers: what each function's answer and bytes are, from what its callees promise.
 -- Assumes nothing.
 use mathlib.Core.Path.{◌≡◌, refl, sym, ap, ◌∙◌}
-use Rattle.std.specs.Prelude.{Err, None, Ok, Option, Some}
+use Rattle.std.specs.Prelude.{Err, None, Option, Some}
 use mathlib.Core.Bool.{Bool, true, false, ◌&&◌, not}
 use mathlib.Core.List.{List}
 use Prim.Native.Nat.{ℕ, pred, ◌≤◌, ◌<◌}

@@ -1,6 +1,6 @@
 -- What is asked of every message, whoever sent it.
 -- Assumes nothing.
-use Rattle.std.specs.Prelude.{Bool, ◌&&◌, not, ℕ, leb, ltb, Err, Ok}
+use Rattle.std.specs.Prelude.{Bool, ◌&&◌, not, ℕ, leb, ltb, Err}
 use Rattle.refusals.specs.Refusals.{Verdict, accepted}
 use Rattle.refusals.specs.declared.Refusal.TheVariants.{Range, Role}
 use Rattle.theory.specs.Sets.{pick}

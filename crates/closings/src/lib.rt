@@ -14,13 +14,7 @@ use rounds::Rounds;
 use table::Rules;
 
 // 08: a site delivers a command fast.
-pub fn fast_delivery(
-    sites: &mut [u8],
-    rules: Rules,
-    book: &Book,
-    site: u8,
-    command: u8,
-) -> Verdict
+pub fn fast_delivery(sites: &mut [u8], rules: Rules, book: &Book, site: u8, command: u8) -> Verdict
     requires { GoodSites rules.table rules.commands sites.old × (is_good rules.table ≡ true) × (book.now.len ≡ rules.commands) }
     ensures { (log : List ℕ) (entries : ℕ) → Closed rules.table (commands_of book.now.bytes.now) (protocol.fast_delivery site command) log entries sites.old result sites.new }
 {
@@ -42,13 +36,7 @@ pub fn fast_delivery(
 }
 
 // 0A: a site ends its round, as what is kept of the log decides it.
-pub fn round_end(
-    sites: &mut [u8],
-    kept: &Rounds,
-    rules: Rules,
-    book: &Book,
-    site: u8,
-) -> Verdict
+pub fn round_end(sites: &mut [u8], kept: &Rounds, rules: Rules, book: &Book, site: u8) -> Verdict
     requires { GoodSites rules.table rules.commands sites.old × ((log : List ℕ) × KeptLog rules.table book.now.bytes.now sites.old log kept.now)
         × (is_good rules.table ≡ true) × (book.now.len ≡ rules.commands) }
     ensures { (log : List ℕ) → KeptLog rules.table book.now.bytes.now sites.old log kept.now

@@ -1,6 +1,6 @@
 -- What the protocol is played over: a machine, its commands, the sites and the quorum sizes. And how a step is judged.
 -- Assumes nothing.
-use Rattle.std.specs.Prelude.{Bool, true, false, ◌&&◌, ◌||◌, not, ℕ, ltb, Err, Ok}
+use Rattle.std.specs.Prelude.{Bool, true, false, ◌&&◌, ◌||◌, not, ℕ, ltb, Err}
 use Rattle.refusals.specs.declared.Refusal.{Refusal}
 use Rattle.refusals.specs.Refusals.{Verdict, accepted}
 use Rattle.theory.specs.Sets.{Set, all}

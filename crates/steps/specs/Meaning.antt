@@ -1,7 +1,7 @@
 -- What a step in bytes means: a step of the protocol, and the verdict on what cannot be read.
 -- Assumes nothing.
 use Rattle.refusals.specs.Refusals.{Verdict, accepted}
-use Rattle.std.specs.Prelude.{Err, None, Ok, Option, Some}
+use Rattle.std.specs.Prelude.{Err, None, Option, Some}
 use Rattle.refusals.specs.declared.Refusal.TheVariants.{Form}
 use Rattle.sets.specs.Sets.{in_set}
 use Rattle.protocol.specs.World as protocol

@@ -1,6 +1,6 @@
 -- Demand 3 at the dash register and document 01's thresholds: the theorem over parameters, instantiated.
 -- Rests on agreement's Theorem and NeverRefused, the register's exchange law and the table's quorum inequalities.
-use Rattle.std.specs.Prelude.{◌≡◌, true, List, ℕ, suc, ◌≤◌, Ok}
+use Rattle.std.specs.Prelude.{◌≡◌, true, List, ℕ, suc, ◌≤◌}
 use Rattle.refusals.specs.Refusals.{accepted}
 use Rattle.std.proofs.Common.{arith}
 use Rattle.table.specs.declared.SiteTable.{SiteTable}

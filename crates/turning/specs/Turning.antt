@@ -23,7 +23,7 @@ use Rattle.site.specs.declared.Turn.TheVariants as turn
 use Rattle.message.specs.declared.Kind.TheVariants.{Acknowledgment, Check}
 use Rattle.message.specs.declared.Message.{Message}
 use Rattle.message.specs.Messages.{message_size, message_bytes}
-use Rattle.judging.specs.Outcomes.{Outcome, outcome, answered, ◌then◌}
+use Rattle.judging.specs.Outcomes.{Outcome, answered, ◌then◌}
 use Rattle.judging.specs.Judging.{system_of, span_in, site_in, with_site, for_site_and_log}
 
 -- The buffers for what a turn sends, and all that it may write.

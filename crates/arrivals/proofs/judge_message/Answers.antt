@@ -1,7 +1,7 @@
 -- `arrivals::judge_message`: one law for each answer.
 -- Assumes nothing.
 use mathlib.Core.Path.{sym, ap, ◌∙◌}
-use Rattle.std.specs.Prelude.{Err, Ok}
+use Rattle.std.specs.Prelude.{Err}
 use mathlib.Core.Bool.{Bool}
 use Rattle.refusals.specs.declared.Refusal.TheVariants.{Role}
 use Rattle.refusals.specs.Refusals.{accepted}

@@ -4,7 +4,6 @@ use mathlib.Core.Path.{◌∙◌, refl}
 use native.Mathlib.Omega.{arith}
 use Rattle.commands.proofs.Walk.{few_commands}
 use Rattle.conflicts.proofs.Laws.{empty_room, rows_start, rows_more, rows_end, still_placed}
-use Rattle.conflicts.proofs.Gathering.{gathered_all}
 use Rattle.conflicts.proofs.fill_rows.Goals as goal
 
 pub loop-m-init : goal.loop-m-init

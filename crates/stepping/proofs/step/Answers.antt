@@ -4,9 +4,9 @@ use native.Mathlib.Omega.{arith}
 use mathlib.Core.Path.{refl, sym, ap, ◌∙◌}
 use lib.ListN.{length}
 use Rattle.commands.specs.Book.{commands_of}
-use Rattle.conflicts.proofs.Laws.{rows_size, rows-room, rows-rest}
+use Rattle.conflicts.proofs.Laws.{rows_size}
 use Rattle.world.specs.Parts.{lent}
-use Rattle.stepping.proofs.Arms.{is_arrival, arm, ready_as, kept_by, read_to, good_sites, kept_log, few}
+use Rattle.stepping.proofs.Arms.{is_arrival, arm, ready_as, read_to, good_sites, kept_log, few}
 use Rattle.stepping.proofs.step.Goals as goal
 
 pub false_entry-requires : goal.false_entry-requires
