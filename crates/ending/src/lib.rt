@@ -45,11 +45,12 @@ fn next_round(site: &mut [u8], header: Site, sets: Sets, deliveries: u16)
     ensures { site.new ≡ splice site.old 0 (head_bytes (ended header sets deliveries)) }
 {
     let none = Set::empty();
-    layout::set_round(site, header.round + 1);
-    layout::set_count(site, deliveries);
-    layout::set_delivered(site, header.delivered.union(sets.nc.union(sets.c)));
-    layout::set_pending(site, none);
-    layout::set_fast(site, none);
+    wire::put(site, Site::ROUND, header.round + 1);
+    wire::put(site, Site::COUNT, deliveries);
+    let delivered = header.delivered.union(sets.nc.union(sets.c));
+    delivered.write(site, Site::DELIVERED);
+    none.write(site, Site::PENDING);
+    none.write(site, Site::FAST);
     layout::set_phase(site, Phase::Acknowledging);
 }
 

@@ -74,7 +74,7 @@ pub fn fast_delivery(site: &mut [u8], table: SiteTable, book: &Book, m: usize) -
     judge(&site[..], header, table, book.len, m)?;
     let recorded = header.deliveries;
     deliver::deliver(site, book, recorded as usize, m);
-    layout::set_fast(site, header.fast.with(m));
-    layout::set_count(site, recorded + 1);
+    header.fast.with(m).write(site, Site::FAST);
+    wire::put(site, Site::COUNT, recorded + 1);
     Ok(())
 }

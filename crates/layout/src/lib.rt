@@ -3,10 +3,9 @@
 
 ghost use Rattle.std.specs.Prelude.{◌≡◌, ◌+◌, ◌≤◌, ◌<◌, length};
 ghost use Rattle.wire.specs.Wire.{bytes, splice};
-ghost use Rattle.sets.specs.Sets.{capacity, read_set, write_set};
+ghost use Rattle.sets.specs.Sets.{capacity, read_set};
 ghost use Rattle.table.specs.Table.{max_sites};
 ghost use Rattle.layout.specs.Layout.{site_size, site_rounds, cell, slot, head_of, phase_from, phase_number, proposal_of, phased, delivery_of, delivery_bytes, delivery_seen, emptied, reached, heard_more};
-ghost use Rattle.layout.specs.Layout.{round_place, count_place, position_place, received_place, delivered_place, pending_place, fast_place};
 ghost use Rattle.layout.specs.Good.{good_phase};
 
 use sets::Set;
@@ -77,26 +76,26 @@ pub struct Delivery {
 }
 
 impl Site {
-    // The bytes of a site.
+    // The bytes of a site. It is cut out of all sites where it is used: of a part that a call returns, nothing but its length is known.
     pub const SIZE: usize = 3536;
-    // Where each field stands.
-    const ROUND: usize = 0;
+    // Where each field stands. The phase and its sets are written together, by set_phase.
+    pub const ROUND: usize = 0;
 
     const PHASE: usize = 1;
 
-    const POSITION: usize = 2;
+    pub const POSITION: usize = 2;
 
-    const COUNT: usize = 4;
+    pub const COUNT: usize = 4;
 
     pub const SPAN: usize = 6;
 
-    const RECEIVED: usize = 8;
+    pub const RECEIVED: usize = 8;
 
-    const DELIVERED: usize = 16;
+    pub const DELIVERED: usize = 16;
 
-    const PENDING: usize = 24;
+    pub const PENDING: usize = 24;
 
-    const FAST: usize = 32;
+    pub const FAST: usize = 32;
 
     const NC: usize = 40;
 
@@ -152,55 +151,6 @@ fn phase_of(tag: u8, nc: Set, c: Set) -> Phase
         return Phase::Acknowledging;
     }
     Phase::Waiting(Proposal { nc, c })
-}
-
-pub fn set_round(site: &mut [u8], round: u8)
-    requires { length site.old ≡ site_size }
-    ensures { site.new ≡ splice site.old round_place (bytes 1 round) }
-{
-    wire::put(site, Site::ROUND, round);
-}
-
-pub fn set_count(site: &mut [u8], count: u16)
-    requires { length site.old ≡ site_size }
-    ensures { site.new ≡ splice site.old count_place (bytes 2 count) }
-{
-    wire::put(site, Site::COUNT, count);
-}
-
-pub fn set_position(site: &mut [u8], position: u16)
-    requires { length site.old ≡ site_size }
-    ensures { site.new ≡ splice site.old position_place (bytes 2 position) }
-{
-    wire::put(site, Site::POSITION, position);
-}
-
-pub fn set_received(site: &mut [u8], set: Set)
-    requires { length site.old ≡ site_size }
-    ensures { site.new ≡ write_set site.old received_place set }
-{
-    set.write(site, Site::RECEIVED);
-}
-
-pub fn set_delivered(site: &mut [u8], set: Set)
-    requires { length site.old ≡ site_size }
-    ensures { site.new ≡ write_set site.old delivered_place set }
-{
-    set.write(site, Site::DELIVERED);
-}
-
-pub fn set_pending(site: &mut [u8], set: Set)
-    requires { length site.old ≡ site_size }
-    ensures { site.new ≡ write_set site.old pending_place set }
-{
-    set.write(site, Site::PENDING);
-}
-
-pub fn set_fast(site: &mut [u8], set: Set)
-    requires { length site.old ≡ site_size }
-    ensures { site.new ≡ write_set site.old fast_place set }
-{
-    set.write(site, Site::FAST);
 }
 
 // The phase is written: its number and the sets that the site waits with, empty while it acknowledges.

@@ -117,5 +117,5 @@ pub fn fresh(site: &mut [u8])
     ensures { (t : SiteTable) (book : List Command) → Holds t book 0 site.old site.new (protocol.fresh (dash t book)) }
 {
     wire::clear(&mut site[..Site::HEARD]);
-    layout::set_round(site, 1);
+    wire::put(site, Site::ROUND, 1u8);
 }

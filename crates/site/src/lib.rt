@@ -27,7 +27,7 @@ pub fn receive(site: &mut [u8], set: Set)
     ensures { Received set site.old site.new }
 {
     let header = Site::read(&site[..]);
-    layout::set_received(site, header.received.union(set));
+    header.received.union(set).write(site, Site::RECEIVED);
 }
 
 // A command joins Received.
@@ -45,7 +45,7 @@ pub fn hear(site: &mut [u8], sender: usize, round: usize, set: Set)
 {
     let header = Site::read(&site[..]);
     layout::hear(site, sender, round, set);
-    layout::set_received(site, header.received.union(set));
+    header.received.union(set).write(site, Site::RECEIVED);
 }
 
 // What was received and is not delivered.
@@ -95,7 +95,7 @@ pub fn take_turn(site: &mut [u8], free: bool, third: bool) -> Result<Turn, Refus
     let header = Site::read(&site[..]);
     let turn = choose(header, free, third)?;
     match turn {
-        Turn::Acknowledged(raised) => layout::set_pending(site, raised),
+        Turn::Acknowledged(raised) => raised.write(site, Site::PENDING),
         Turn::Proposed { entry, .. } => layout::set_phase(site, Phase::Waiting(entry)),
     }
     Ok(turn)
@@ -113,6 +113,6 @@ pub fn read_entry(site: &mut [u8], left: bool, third: bool) -> Verdict
         return Err(Refusal::ThirdEntry);
     }
     let header = Site::read(&site[..]);
-    layout::set_position(site, header.position + 1);
+    wire::put(site, Site::POSITION, header.position + 1);
     Ok(())
 }

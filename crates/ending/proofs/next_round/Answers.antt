@@ -10,6 +10,6 @@ pub returns : goal.returns
 returns c =
     let s = c in
     let a = s.args in
-    next_is a.site.now a.header a.sets a.deliveries s.requires.2 c.set_round.ensures c.set_count.ensures
-    c.union.ensures c.union-2.ensures c.set_delivered.ensures
-    (c.set_pending.ensures ∙ ap (write_set _ pending_place) c.empty-none.ensures) (c.set_fast.ensures ∙ ap (write_set _ fast_place) c.empty-none.ensures) c.set_phase.ensures
+    next_is a.site.now a.header a.sets a.deliveries s.requires.2 c.put.ensures c.put-2.ensures
+    c.union.ensures c.union-delivered.ensures c.write.ensures
+    (c.write-2.ensures ∙ ap (write_set _ pending_place) c.empty-none.ensures) (c.write-3.ensures ∙ ap (write_set _ fast_place) c.empty-none.ensures) c.set_phase.ensures

@@ -57,4 +57,4 @@ returns c =
     let e = c.read-header.ensures in
     fast_taken a.table book a.site.now (λ i. (c.slice_known-1.given i).fits) g a.m few m (c.judge.ensures book (sym s.args.book.now.counted))
     c.in_ok-judge.was (λ i. (e i).deliveries) (λ i. (e i).fast) c.deliver.ensures c.with.ensures
-    c.set_fast.ensures c.set_count.ensures (λ i. (c.type_inv.site i).fits)
+    c.write.ensures c.put.ensures (λ i. (c.type_inv.site i).fits)

@@ -10,7 +10,7 @@ pub returns : goal.returns
 returns c =
     λ t book.
     let o = c in
-    fresh_holds o.args.site.now o.requires t book c.clear.ensures c.set_round.ensures (λ i. (c.slice_known-3-1.given i).fits)
+    fresh_holds o.args.site.now o.requires t book c.clear.ensures c.put.ensures (λ i. (c.slice_known-3-1.given i).fits)
 
 pub slice_bounds-clear-end-2 : goal.slice_bounds-clear-end-2
 slice_bounds-clear-end-2 c = let q = length-take heard_place c.args.site.now in omega arith

@@ -15,4 +15,4 @@ returns c =
     let e = c.read-header.ensures in
     let left = c.if-not-left.false in
     entry_read _ (λ i. (c.slice_known-1.given i).fits) _ _ left c.if-third.false
-    (λ i. (e i).position + 1) (position_fits _ e (c.requires.1 left)) c.set_position.ensures (λ i. (c.type_inv.site i).fits)
+    (λ i. (e i).position + 1) (position_fits _ e (c.requires.1 left)) c.put.ensures (λ i. (c.type_inv.site i).fits)

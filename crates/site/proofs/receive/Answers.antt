@@ -7,5 +7,5 @@ pub returns : goal.returns
 returns c =
     let s = c in
     receive_holds _ (λ i. (c.slice_known-1.given i).fits) s.requires s.args.set s.well_formed.1.0.1.1.0.1
-    (λ i. (c.read-header.ensures i).received) c.union.ensures c.set_received.ensures
+    (λ i. (c.read-header.ensures i).received) c.union.ensures c.write.ensures
     (λ i. (c.type_inv.site i).fits)

@@ -23,7 +23,7 @@ returns-in-Acknowledged c =
     λ t book i log g ef eo.
     turn_holds t book _ (λ i. (c.slice_known-1.given i).fits) g a.free a.third i log
     (ap Ok (sym c.in-Acknowledged.is) ∙ sym c.in_ok-turn.was ∙ c.choose.ensures ∙ (λ k. chosen (c.read-header.ensures k) a.free a.third))
-    c.set_pending.ensures (λ i. (c.slice_known-in-Acknowledged-1.given i).fits) ef eo
+    c.write.ensures (λ i. (c.slice_known-in-Acknowledged-1.given i).fits) ef eo
 
 pub returns-in-Proposed : goal.returns-in-Proposed
 returns-in-Proposed c =
