@@ -1,7 +1,7 @@
 // Steps 08 and 0A: a correct site delivers a command fast, or ends its round.
 #![tactic(auto)]
 
-ghost use Rattle.std.specs.Prelude.{◌≡◌, true, List, ℕ, length};
+ghost use Rattle.std.specs.Prelude.{◌≡◌, true, List, ℕ};
 ghost use Rattle.table.specs.Table.{is_good};
 ghost use Rattle.commands.specs.Book.{commands_of};
 ghost use Rattle.protocol.specs.World as protocol;

@@ -88,7 +88,7 @@ abbrev pub count_from : ℕ → Option (List Command) → Option ℕ
 count_from k None = None
 count_from k (Some cs) = Some (k + length cs)
 
--- The number of commands of a book, Unreadable where it is refused.
+-- The number of commands of a book, none where it is refused.
 unfoldable pub measure_book : List ℕ → Option ℕ
 measure_book s = count_from 0 (read_up_to max_commands s)
 

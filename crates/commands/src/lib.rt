@@ -79,6 +79,7 @@ pub fn note(book: &[u8], places: &mut [u64]) -> Option<usize>
     let n = book.len();
     let mut at: usize = 0;
     let mut k: usize = 0;
+    // A cursor, not an index: where the next command starts is known once this one is read.
     while at < n {
         if k == MAX_COMMANDS {
             return None;

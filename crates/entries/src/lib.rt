@@ -1,12 +1,11 @@
 // The common log: entries of 18 bytes, what each says, and which a log read would take.
 #![tactic(auto)]
 
-ghost use Rattle.std.specs.Prelude.{true, List, ◌≡◌, ℕ, ◌+◌, ◌*◌, ◌≤◌, ◌<◌, eqb, length, replicate};
+ghost use Rattle.std.specs.Prelude.{true, ◌≡◌, ℕ, ◌+◌, ◌*◌, ◌≤◌, ◌<◌, eqb, length, replicate};
 ghost use Rattle.sets.specs.Sets.{least};
 ghost use Rattle.table.specs.Table.{max_sites};
 ghost use Rattle.protocol.specs.Recovery.{entries};
-ghost use Rattle.system.specs.Dash.{last_round};
-ghost use Rattle.entries.specs.Entries.{entry_size, entry_of, write_entry, log_to, in_range_of, good_to, cells, Counting};
+ghost use Rattle.entries.specs.Entries.{entry_size, entry_of, write_entry, log_to, in_range_of, good_to, cells};
 
 use sets::Set;
 
@@ -96,7 +95,7 @@ pub fn entries_of(log: &[u8], k: usize, site: usize, round: usize) -> usize
         .count()
 }
 
-// The first of the first k entries that is of a round; k where none is.
+// The first of the first k entries that is of a round; k where none is, since it says from where to look.
 pub fn first_of(log: &[u8], k: usize, round: usize) -> usize
     requires { k * entry_size ≤ length log.now }
     ensures { result ≡ least k (λ (i : ℕ). eqb (entry_of log.now i).round round) }

@@ -76,7 +76,7 @@ fn judge_lent(
     Ok(rules)
 }
 
-// What a call that is lent a site judges: 9, 2, 1 or 4; `enough`: its other buffers are long enough.
+// What a call that is lent a site judges, the one function above with what such a call leaves out: 9, 2, 1 or 4; `enough`: its other buffers are long enough.
 pub fn judge_site(
     enough: bool,
     table: &[u8],

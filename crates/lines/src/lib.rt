@@ -16,7 +16,7 @@ fn put_counted(text: &mut Text<'_>, x: usize, after: &[u8])
     text.put(after);
 }
 
-// A number of two digits is written, and a text after it.
+// A number of two digits is written, and a text after it. Both are words of the definition, and differ in one call.
 fn put_numbered(text: &mut Text<'_>, x: usize, after: &[u8])
     requires { HasRoom text.old (length (numbered x after.now)) }
     ensures { Printed text.new text.old (numbered x after.now) }

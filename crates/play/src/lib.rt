@@ -55,6 +55,7 @@ fn play_on(
 {
     let mut at: usize = 0;
     let mut number: usize = 1;
+    // A cursor, not an index: where the next step starts is known once this one is read.
     while at < steps.len() {
         let Some(step) = steps::read_step(steps, at) else {
             put_refusal(text, number, Refusal::Form);

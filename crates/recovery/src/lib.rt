@@ -12,7 +12,7 @@ ghost use Rattle.recovery.specs.Decisions.{level_with, levels_with, levels_after
 use sets::Set;
 use table::SiteTable;
 
-// The sets that a decided round delivers: NCSet, then CSet.
+// The sets that a decided round delivers: NCSet, then CSet. A type of its own, so that no proposal stands for a decision.
 #[derive(Clone, Copy)]
 pub struct Sets {
     pub nc: Set,

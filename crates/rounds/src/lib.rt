@@ -2,7 +2,6 @@
 #![tactic(auto)]
 
 ghost use Rattle.std.specs.Prelude.{true, false, not, List, ◌≡◌, ℕ, ◌+◌, ◌*◌, ◌≤◌, ◌<◌, ltb, length};
-ghost use Rattle.theory.specs.Sets.{pick};
 ghost use Rattle.sets.specs.Sets.{capacity, in_set};
 ghost use Rattle.table.specs.declared.SiteTable.{SiteTable};
 ghost use Rattle.table.specs.Table.{is_good, max_sites};
@@ -10,7 +9,7 @@ ghost use Rattle.protocol.specs.Recovery.{entries, decide};
 ghost use Rattle.calm.specs.Rows.{rows_system};
 ghost use Rattle.entries.specs.Entries.{entry_size, entry_of, write_entry, log_to};
 ghost use Rattle.recovery.specs.Decisions.{found_sets, decision_of};
-ghost use Rattle.rounds.specs.Rounds.{kept_rounds, unheard, noted_of, again_of, decided_of, Counts, Decides, KeptTo, Kept};
+ghost use Rattle.rounds.specs.Rounds.{kept_rounds, unheard, noted_of, again_of, decided_of, Counts, Decides, Kept};
 
 use entries::Entry;
 use recovery::Sets;

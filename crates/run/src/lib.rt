@@ -1,7 +1,7 @@
 // A run in bytes, played on lent working memory, and what it prints into a lent buffer.
 #![tactic(auto)]
 
-ghost use Rattle.std.specs.Prelude.{◌≡◌, length};
+ghost use Rattle.std.specs.Prelude.{◌≡◌};
 ghost use Rattle.commands.specs.Book.{commands_of};
 ghost use Rattle.conflicts.specs.Conflicts.{conflict_rows};
 ghost use Rattle.print.specs.Print.{Printed};

@@ -12,14 +12,14 @@ use mathlib.Core.List.{List}
 use lib.ListN.{length, get_or}
 use Rattle.wire.specs.Wire.{bytes, read_le, splice}
 use Rattle.wire.proofs.Laws.{read_same, read_lt}
-use lib.IntN.{ℤ, pos, negsuc, sub_ℕ, ◌+ℤ◌, ◌-ℤ◌}
-use lib.Signed.{mag, lt_z}
+use lib.IntN.{ℤ, pos, negsuc, nat_abs, sub_ℕ, ◌+ℤ◌, ◌-ℤ◌}
+use lib.Signed.{mag, lt_z, non_neg}
 use mir.Syntax.{Width}
-use mir.Val.{SFits, bits, hbits, sel, to_z, of_z}
+use mir.Val.{Fits, SFits, bits, hbits, sel, to_z, of_z}
 use mir.ValLaws.{half_full}
 use mir.Facts.{to_z-of_z, of_z-to_z, Fits-of_z}
 
--- A value in the code is the bits of a number. One equation to the exact number is carried along, and these three use it.
+-- A value in the code is the bits of a number. One equation to the exact number is carried along, and these four use it.
 
 -- What equals a number that fits, fits.
 pub fit : {w : Width} {x z : ℤ} → x ≡ z → SFits w z → SFits w x
@@ -28,6 +28,10 @@ fit {w} e f = subst (SFits w) (sym e) f
 -- The bits of what equals a number that fits stand for that number.
 pub kept : {w : Width} {x z : ℤ} → x ≡ z → SFits w z → to_z w (of_z w x) ≡ z
 kept {w} e f = ap (λ (y : ℤ). to_z w (of_z w y)) e ∙ to_z-of_z f
+
+-- What a cast to an unsigned type asks.
+pub unsigned : {w : Width} {x : ℤ} (n : ℕ) → x ≡ pos n → n < 2 ^ bits w → T (non_neg x) × Fits w (nat_abs x)
+unsigned {w} n e h = subst (λ (y : ℤ). T (non_neg y) × Fits w (nat_abs y)) (sym e) (tt, record { fits = h })
 
 -- A signed result that is handed on.
 pub returned : (w : Width) {x z : ℤ} → mag x < 2 ^ hbits w → x ≡ z → to_z w (of_z w x) ≡ z
@@ -96,3 +100,8 @@ read_signed w n s at {z} b h f =
 -- What is read as a signed number and written again changes no byte.
 pub bytes_signed : (w : Width) (n : ℕ) (s : List ℕ) (at : ℕ) → 256 ^ n ≤ 2 ^ bits w → ((i : ℕ) → get_or s i 0 < 256) → at + n ≤ length s → bytes n (of_z w (to_z w (read_le n s at))) ≡ bytes n (read_le n s at)
 bytes_signed w n s at b small h = ap (bytes n) (word_signed w (lt_of_lt_of_le (read_lt s small n at h) b))
+
+-- The size of a number below 0.
+pub negated : (z : ℤ) → lt_z z (pos 0) ≡ true → pos 0 -ℤ z ≡ pos (nat_abs z)
+negated (pos n) h = let k = ltb-true n 0 h in absurd (omega arith)
+negated (negsuc n) h = let e : 0 + suc n ≡ suc n = omega arith in ap pos e

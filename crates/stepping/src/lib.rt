@@ -67,6 +67,7 @@ pub fn step(
         result (lent sites.new log.new kept.new.entries sent.new)
         × Kept rules.table rows.now log.new kept.new }
 {
+    // The kinds are closed, so a match says all; functions in a table would each be lent the whole world.
     match step {
         Step::FalseEntry { from, round, nc, c } => {
             arrivals::false_entry(log, kept, rules, rows, from, round, nc, c)

@@ -44,7 +44,7 @@ impl SiteTable {
         SiteTable::read_with(bytes, 0)
     }
 
-    // The same with its mask.
+    // The same with its mask: a second function, since a site is lent a table without one.
     pub fn read_marked(bytes: &[u8]) -> Result<SiteTable, Refusal>
         ensures { result ≡ read_marked bytes.now }
     {
