@@ -82,7 +82,7 @@ impl From<Kind> for u8 {
     }
 }
 
-// The kind of a number that is one of theirs. No TryFrom: that it is one, is_message has found.
+// The kind of a number that is one of theirs. It is no TryFrom, since is_message has found that it is one.
 fn kind_from(number: u8) -> Kind
     ensures { result ≡ kind_from number }
 {

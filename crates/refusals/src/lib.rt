@@ -52,7 +52,7 @@ impl From<Refusal> for u32 {
     }
 }
 
-// The number that a call of C answers: 0 where the input was taken. No From: a Result is the library's type, and so is a number.
+// The number that a call of C answers: 0 where the input was taken. It is no From, since Result and u32 are both the library's.
 pub fn code(verdict: Verdict) -> u32
     ensures { result ≡ code_of verdict }
 {

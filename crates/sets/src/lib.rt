@@ -119,7 +119,7 @@ impl Set {
         ones as usize
     }
 
-    // The least command of the set; the capacity where there is none, as the word has so many zeros. `for` asks no more.
+    // The least command of the set; the capacity where there is none, since the word has so many zeros then.
     pub fn first(self) -> usize
         ensures { result ≡ first_of self }
     {

@@ -13,7 +13,7 @@ use sets::Set;
 use table::SiteTable;
 
 // Which sites have an entry of the round and which are valid; whether that decides the round; and after how many
-// entries of the log this is so, decided or not: no value that the test alone makes one.
+// entries of the log this is so. That number stands where nothing is decided, too, so it is no Option.
 #[derive(Clone, Copy)]
 pub struct Standing {
     pub seen: Set,
