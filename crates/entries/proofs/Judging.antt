@@ -1,10 +1,9 @@
 -- How entries are counted and judged, and what the judgment says in the protocol's terms.
 -- Assumes nothing.
-use Rattle.std.specs.List.{filter, range_with_len}
 use mathlib.Core.Path.{◌≡◌, refl, sym, ap, ◌∙◌}
-use mathlib.Core.Bool.{Bool, true, false, ◌&&◌, cond}
-use mathlib.Core.List.{List, ◌∷◌}
-use Prim.Native.Nat.{ℕ, zero, suc, ◌+◌, ◌/◌, ◌≤◌, ◌<◌}
+use mathlib.Core.Bool.{Bool, true, ◌&&◌}
+use mathlib.Core.List.{List}
+use Prim.Native.Nat.{ℕ, ◌+◌, ◌/◌, ◌≤◌, ◌<◌}
 use native.Mathlib.Omega.{arith}
 use lib.Dec.{eqb, leb, ltb}
 use lib.ListN.{length, take}
@@ -32,26 +31,6 @@ module _ (b : List ℕ) (j r : ℕ) where
 
   pub entries_next : (i : ℕ) → entries j r (log_to b (i + 1)) ≡ entries j r (log_to b i) + one_of b i j r
   entries_next i = ap (entries j r) (log_more b i) ∙ entries-more j r (log_to b i) (view_entry (entry_of b i))
-
-  -- Whether the i-th entry is of the site and the round.
-  abbrev pub is_of : ℕ → Bool
-  is_of i = eqb (entry_of b i).site j && eqb (entry_of b i).round r
-
-  -- A list with one number more, if it passes.
-  first_counted : (t : Bool) (i : ℕ) (is : List ℕ) → length (cond t (i ∷ is) is) ≡ one t + length is
-  first_counted true i is = omega arith
-  first_counted false i is = omega arith
-
-  -- The n entries from the i-th on are counted.
-  counted_on : (i n : ℕ) → entries j r (log_to b i) + length (filter is_of (range_with_len i n)) ≡ entries j r (log_to b (i + n))
-  counted_on i zero = let q : i + 0 ≡ i = omega arith in omega (arith, ap (λ (x : ℕ). entries j r (log_to b x)) q)
-  counted_on i (suc n) =
-      let q : (i + 1) + n ≡ i + suc n = omega arith in
-      omega (arith, first_counted (is_of i) i (filter is_of (range_with_len (i + 1) n)), entries_next i, counted_on (i + 1) n, ap (λ (x : ℕ). entries j r (log_to b x)) q)
-
-  -- The entries that pass are those of the site in the round.
-  pub entries_counted : (k : ℕ) → length (filter is_of (range_with_len 0 k)) ≡ entries j r (log_to b k)
-  entries_counted k = let q : 0 + k ≡ k = omega arith in omega (arith, entries_none, counted_on 0 k, ap (λ (x : ℕ). entries j r (log_to b x)) q)
 
   pub one_yes : (i : ℕ) {x y : ℕ} → x ≡ (entry_of b i).round → y ≡ (entry_of b i).site → x ≡ r → y ≡ j → 1 ≡ one_of b i j r
   one_yes i ex ey hx hy =

@@ -90,9 +90,13 @@ pub fn entries_of(log: &[u8], k: usize, site: usize, round: usize) -> usize
     requires { k * entry_size ≤ length log.now }
     ensures { result ≡ entries site round (log_to log.now k) }
 {
-    (0..k)
-        .filter(|i| site_of(log, *i) == site && round_of(log, *i) == round)
-        .count()
+    let mut all: usize = 0;
+    for i in 0..k {
+        if round_of(log, i) == round && site_of(log, i) == site {
+            all += 1;
+        }
+    }
+    all
 }
 
 // The first of the first k entries that is of a round; k where none is, since it says from where to look.
