@@ -38,6 +38,15 @@ impl<'a> Text<'a> {
         Text { out, end: 0 }
     }
 
+    // What ends at a position: what is written from there on is a text of its own, and the bytes before it stay.
+    pub fn at(out: &'a mut [u8], end: usize) -> Text<'a>
+        ensures same { result.out.ghost_name ≡ out.entry.ghost_name }
+        ensures now { result.out.now ≡ out.old }
+        ensures end { result.end ≡ end }
+    {
+        Text { out, end }
+    }
+
     // How many bytes the text has.
     pub fn end(&self) -> usize
         ensures { result ≡ self.now.end }
