@@ -100,6 +100,18 @@ fn count(book: &[u8]) -> usize
     note(book, &mut places).unwrap_or(0)
 }
 
+// The k-th command, from the noted places. How many commands there are need not be known.
+pub fn indexed(book: &[u8], places: &[u64], k: usize) -> Command
+    requires { (k < length (commands_of book.now)) × Placed book.now places.now }
+    ensures { result ≡ command_of book.now k }
+{
+    let at = places[k] as usize;
+    let Some(command) = read_command(&book[at..]) else {
+        return Command::Read { bike: 0 };
+    };
+    command
+}
+
 // A book that was read: its bytes, where each of its commands starts, and how many there are.
 #[derive(Clone, Copy)]
 pub struct Book<'a> {
@@ -116,11 +128,7 @@ impl Book<'_> {
         requires { k < self.now.len }
         ensures { result ≡ command_of self.now.bytes.now k }
     {
-        let at = self.places[k] as usize;
-        let Some(command) = read_command(&self.bytes[at..]) else {
-            return Command::Read { bike: 0 };
-        };
-        command
+        indexed(self.bytes, self.places, k)
     }
 }
 

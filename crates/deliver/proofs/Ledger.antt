@@ -24,7 +24,6 @@ use Rattle.register.specs.declared.Command.{Command}
 use Rattle.register.specs.Register.{Within, Valid, answer, execute}
 use Rattle.register.specs.Lent.{register_of, Executed}
 use Rattle.register.proofs.Laws.{kept-within, answer_fits}
-use Rattle.commands.specs.declared.Book.{Book}
 use Rattle.commands.specs.Book.{commands_of, command_of}
 use Rattle.commands.proofs.Places.{commands_valid}
 use Rattle.protocol.specs.Site as protocol
@@ -36,10 +35,6 @@ use Rattle.layout.proofs.Agree.{register_agree, deliveries_agree}
 use Rattle.layout.proofs.Deliveries.{length_delivery, deliveries_more}
 use Rattle.layout.proofs.Tables.{executed_apart, tables_executed, tables_recorded}
 use Rattle.deliver.specs.Delivering.{Delivered, in_order}
-
--- A set within the number of a book's commands.
-pub within : (b : Book) (x : Set) → within_of x b.len ≡ true → within_of x (length (commands_of b.bytes.now)) ≡ true
-within b x h = ap (within_of x) (sym b.counted) ∙ h
 
 -- What the code of deliver does, in one step.
 pub delivered_one : (book : List Command) (k m : ℕ) (b : List ℕ) {b₁ b₂ : List ℕ} {z y : ℤ} {c : Command} → length b ≡ site_size → Within (register_of b register_place)

@@ -67,8 +67,8 @@ pub fn round_end(site: &mut [u8], book: &Book, decision: Option<Sets>) -> Verdic
     let first = due(header, sets.nc);
     let second = due(header, sets.c);
     let recorded = header.deliveries as usize;
-    let between = deliver::deliver_all(site, book, recorded, first);
-    let total = deliver::deliver_all(site, book, between, second);
+    let between = deliver::deliver_all(site, book.bytes, book.places, recorded, first);
+    let total = deliver::deliver_all(site, book.bytes, book.places, between, second);
     next_round(site, header, sets, total as u16);
     Ok(())
 }

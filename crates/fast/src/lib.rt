@@ -73,7 +73,7 @@ pub fn fast_delivery(site: &mut [u8], table: SiteTable, book: &Book, m: usize) -
     let header = Site::read(&site[..]);
     judge(&site[..], header, table, book.len, m)?;
     let recorded = header.deliveries;
-    deliver::deliver(site, book, recorded as usize, m);
+    deliver::deliver(site, book.bytes, book.places, recorded as usize, m);
     header.fast.with(m).write(site, Site::FAST);
     wire::put(site, Site::COUNT, recorded + 1);
     Ok(())

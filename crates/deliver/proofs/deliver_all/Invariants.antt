@@ -6,4 +6,4 @@ use Rattle.deliver.proofs.Ledger.{Underway}
 use Rattle.deliver.proofs.deliver_all.Given as goal
 
 abbrev pub invariant-loop-m : goal.invariant-loop-m
-invariant-loop-m l = Underway (commands_of l.book.bytes.now) l.k (in_order l.fn.set) l.initial.site l.n (in_order l.m-iterator.left) l.site
+invariant-loop-m l = Underway (commands_of l.book) l.k (in_order l.fn.set) l.initial.site l.n (in_order l.m-iterator.left) l.site

@@ -1,7 +1,8 @@
 -- `ending::round_end`: the protocol's verdict, then what is due of both sets and the header of the next round.
 -- Assumes nothing.
-use mathlib.Core.Path.{refl, sym, ◌∙◌}
+use mathlib.Core.Path.{sym, ◌∙◌}
 use native.Mathlib.Omega.{arith}
+use lib.ListN.{length}
 use Rattle.std.proofs.lemmas.Result.{err_from_is_err_and}
 use Rattle.commands.specs.Book.{commands_of}
 use Rattle.commands.proofs.Walk.{few_commands}
@@ -37,7 +38,8 @@ deliver_all-between-requires c =
     let room = ready h a.book.now.len c.in-Some.sets c.judge.ensures c.in_ok-judge.was c.due-first.ensures c.due-second.ensures in (
       g.size,
       g.tables.readings,
-      within-due h c.in-Some.sets.nc a.book.now.len c.due-first.ensures (decided_within c.in-Some.sets c.in-Some.is refl s.requires.1).0,
+      a.book.now.placed,
+      within-due h c.in-Some.sets.nc (length (commands_of a.book.now.bytes.now)) c.due-first.ensures (decided_within c.in-Some.sets c.in-Some.is en s.requires.1).0,
       omega arith,
     )
 
@@ -53,7 +55,8 @@ deliver_all-total-requires c =
     let e = d.0 in (
       d.1.size,
       d.1.readings,
-      within-due h c.in-Some.sets.c a.book.now.len c.due-second.ensures (decided_within c.in-Some.sets c.in-Some.is refl s.requires.1).1,
+      a.book.now.placed,
+      within-due h c.in-Some.sets.c (length (commands_of a.book.now.bytes.now)) c.due-second.ensures (decided_within c.in-Some.sets c.in-Some.is en s.requires.1).1,
       omega arith,
     )
 

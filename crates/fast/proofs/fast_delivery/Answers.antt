@@ -5,7 +5,6 @@ use Prim.Native.Nat.{ℕ, ◌<◌}
 use native.Mathlib.Omega.{arith}
 use Rattle.std.proofs.lemmas.Result.{err_from_is_err_and}
 use Rattle.layout.specs.Good.{Good}
-use Rattle.commands.proofs.Counted.{counted}
 use Rattle.commands.proofs.Walk.{few_commands}
 use Rattle.commands.specs.Book.{commands_of}
 use Rattle.fast.proofs.Bytes.{fast_space, fast_refused, fast_taken}
@@ -36,7 +35,8 @@ deliver-requires c =
     let m = subst (λ (n : ℕ). a.m < n) s.args.book.now.counted s.requires.2 in (
       g.size,
       g.tables.readings,
-      counted a.book.now m,
+      a.book.now.placed,
+      m,
       fast_space a.table book a.site.now (λ i. (c.slice_known-1.given i).fits) g a.m few (c.judge.ensures book (sym s.args.book.now.counted)) c.in_ok-judge.was (λ i. (c.read-header.ensures i).deliveries),
     )
 
