@@ -17,27 +17,27 @@ use sets::Set;
 use table::SiteTable;
 
 // Rounds 0 to 33 are kept.
-const ROUNDS: usize = 34;
+pub const ROUNDS: usize = 34;
 
 // The decision of a round: the place of the entry that decides it, and the decided sets. The place of an entry is how many entries
 // the log has with it.
 #[derive(Clone, Copy)]
-struct Decided {
-    place: usize,
-    sets: Sets,
+pub struct Decided {
+    pub place: usize,
+    pub sets: Sets,
 }
 
 // What is kept of a round.
 #[derive(Clone, Copy)]
-struct Round {
+pub struct Round {
     // The sites with an entry of the round, and those with two.
-    once: Set,
-    twice: Set,
+    pub once: Set,
+    pub twice: Set,
     // The valid sources, while no entry decides the round.
-    valid: Set,
+    pub valid: Set,
     // Its decision, and the place of its first entry.
-    decided: Option<Decided>,
-    first: Option<usize>,
+    pub decided: Option<Decided>,
+    pub first: Option<usize>,
 }
 
 impl Round {
@@ -137,10 +137,10 @@ impl Round {
 }
 
 // What is kept of a log: of each of its rounds, and how many entries it has.
-#[derive(Drop)]
+#[derive(Clone, Copy)]
 pub struct Rounds {
-    rounds: [Round; ROUNDS],
-    entries: usize,
+    pub rounds: [Round; ROUNDS],
+    pub entries: usize,
 }
 
 impl Rounds {
