@@ -5,7 +5,7 @@ ghost use Rattle.std.specs.Prelude.{true, ◌≡◌, ℕ, ◌+◌, ◌*◌, ◌�
 ghost use Rattle.sets.specs.Sets.{least};
 ghost use Rattle.table.specs.Table.{max_sites};
 ghost use Rattle.protocol.specs.Recovery.{entries};
-ghost use Rattle.entries.specs.Entries.{entry_size, entry_of, write_entry, log_to, in_range_of, good_to, cells};
+ghost use Rattle.entries.specs.Entries.{entry_size, entry_of, write_entry, log_to, one_of, in_range_of, good_to, cells};
 
 use sets::Set;
 
@@ -85,6 +85,20 @@ pub fn write_entry(log: &mut [u8], k: usize, entry: Entry)
     entry.c.write(log, at + 10);
 }
 
+// 1 where the k-th entry is one of a site in a round, else 0.
+fn one_of(log: &[u8], k: usize, site: usize, round: usize) -> usize
+    requires { k * entry_size + entry_size ≤ length log.now }
+    ensures { result ≡ one_of log.now k site round }
+{
+    if round_of(log, k) != round {
+        return 0;
+    }
+    if site_of(log, k) != site {
+        return 0;
+    }
+    1
+}
+
 // How many of the first k entries a site has in a round.
 pub fn entries_of(log: &[u8], k: usize, site: usize, round: usize) -> usize
     requires { k * entry_size ≤ length log.now }
@@ -92,9 +106,7 @@ pub fn entries_of(log: &[u8], k: usize, site: usize, round: usize) -> usize
 {
     let mut all: usize = 0;
     for i in 0..k {
-        if round_of(log, i) == round && site_of(log, i) == site {
-            all += 1;
-        }
+        all += one_of(log, i, site, round);
     }
     all
 }
