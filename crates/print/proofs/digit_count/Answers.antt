@@ -11,4 +11,4 @@ counted x None e h l = omega (arith, width_one x (omega arith))
 counted x (Some k) e h l = omega (arith, width-past k x h, width_short k x (omega (arith, pow-succ' 10 k)))
 
 pub returns : goal.returns
-returns c = let e = c.checked_ilog10.ensures in ap (λ (n : ℕ). n + 1) c.unwrap_or.ensures ∙ counted c.args.x c.checked_ilog10.result e.none e.power_le e.next_power_gt
+returns c = let e = c.checked_ilog10.ensures in omega (arith, c.unwrap_or.ensures, counted c.args.x c.checked_ilog10.result e.none e.power_le e.next_power_gt)
