@@ -6,6 +6,3 @@ use Rattle.commands.specs.Book.{commands_of}
 
 pub below : (b : Book) {m : ℕ} → m < b.len → m < length (commands_of b.bytes.now)
 below b h = omega (arith, h, b.counted)
-
-pub counted : (b : Book) {m : ℕ} → m < length (commands_of b.bytes.now) → m < b.len
-counted b h = omega (arith, h, b.counted)
